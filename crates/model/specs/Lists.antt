@@ -1,0 +1,29 @@
+-- Words about lists and bounded counting that the other definitions use. Assumes nothing.
+use mathlib.Core.Bool.{Bool, true, false, _&&_}
+use mathlib.Core.List.{List, [], _∷_}
+use Prim.Native.Nat.{ℕ, zero, suc, _+_}
+
+-- p of every number below n
+unfoldable pub every : (ℕ → Bool) → ℕ → Bool
+every p zero = true
+every p (suc n) = p n && every p n
+
+-- the list f 0, .., f (n - 1)
+unfoldable pub tab {ℓ} : {A : Type ℓ} → ℕ → (ℕ → A) → List A
+tab zero f = []
+tab (suc n) f = f zero ∷ tab n (λ k. f (suc k))
+
+-- the sum of f over a list of numbers
+abbrev pub sum : (ℕ → ℕ) → List ℕ → ℕ
+sum f [] = 0
+sum f (t ∷ ts) = f t + sum f ts
+
+-- n - 1, .., 0
+abbrev pub below : ℕ → List ℕ
+below zero = []
+below (suc n) = n ∷ below n
+
+-- every element of a list has P
+pub data All (P : ℕ → Type 0) : List ℕ → Type 0 where
+  none : All P []
+  more : {t : ℕ} {ts : List ℕ} → P t → All P ts → All P (t ∷ ts)

@@ -1,0 +1,57 @@
+-- Turns and when two of them conflict. Assumes nothing.
+use mathlib.Core.Path.{_≡_}
+use mathlib.Core.Bool.{Bool, _&&_, _||_}
+use mathlib.Core.List.{List}
+use Prim.Native.Nat.{ℕ, _+_, _*_, _≤_, _<_}
+use lib.Dec.{ltb, eqb}
+use lib.ListN.{getD}
+
+-- the turns of a sheet: how many, and what each one has, by turn number from 0
+pub record Turns : Type 0 where
+  pub count : ℕ
+  pub slope : ℕ → ℕ
+  pub groomer : ℕ → ℕ
+  pub start : ℕ → ℕ
+  pub end : ℕ → ℕ
+  pub worth : ℕ → ℕ
+
+-- the first n turns of a table of five numbers a turn: slope, groomer, start, length, worth; a turn's end is its start plus its length
+unfoldable pub turnsIn : ℕ → List ℕ → Turns
+turnsIn n table =
+    record {
+      count = n;
+      slope = λ t. getD table (t * 5) 0;
+      groomer = λ t. getD table (t * 5 + 1) 0;
+      start = λ t. getD table (t * 5 + 2) 0;
+      end = λ t. getD table (t * 5 + 2) 0 + getD table (t * 5 + 3) 0;
+      worth = λ t. getD table (t * 5 + 4) 0;
+    }
+
+-- the free minutes that a groomer needs between two of its turns
+unfoldable pub gap : ℕ
+gap = 0
+
+-- two turns share a minute: each starts before the other has ended, so that turns that touch end to start share none
+unfoldable pub overlap : Turns → ℕ → ℕ → Bool
+overlap T x y = ltb (T .start x) (T .end y + gap) && ltb (T .start y) (T .end x + gap)
+
+unfoldable pub bySlope : Turns → ℕ → ℕ → Bool
+bySlope T x y = eqb (T .slope x) (T .slope y)
+
+unfoldable pub byGroomer : Turns → ℕ → ℕ → Bool
+byGroomer T x y = eqb (T .groomer x) (T .groomer y) && overlap T x y
+
+-- two different turns conflict (they clash): one slope, or one groomer and a shared minute. A turn stands in this relation to itself as well
+unfoldable pub conflict : Turns → ℕ → ℕ → Bool
+conflict T x y = bySlope T x y || byGroomer T x y
+
+-- ---- the same in words that no program runs
+
+-- turn x holds a minute: from its start up to, but not including, its end
+pub record Holds (T : Turns) (x minute : ℕ) : Type 0 where
+  pub begun : T .start x ≤ minute
+  pub not-over : minute < T .end x
+
+pub data Conflict (T : Turns) (x y : ℕ) : Type 0 where
+  same-slope : T .slope x ≡ T .slope y → Conflict T x y
+  same-groomer : T .groomer x ≡ T .groomer y → (minute : ℕ) → Holds T x minute → Holds T y minute → Conflict T x y
