@@ -1,0 +1,4 @@
+pub mod Records
+pub mod Headers
+pub mod Scans
+pub mod Readings

@@ -1,0 +1,16 @@
+use Rattle.sheet.proofs.Records.{field-cases}
+use borrow.Author.Needs.{needs}
+use Rattle.sheet.proofs.record.byte_field.Statement.{statement}
+use Rattle.sheet.proofs.record.byte_field.Tie as tie
+
+byte-at-requires : tie.Need-byte-at-requires
+byte-at-requires c κs = search needs
+
+returns : tie.Need-returns
+returns c = search (needs, field-cases)
+
+returns-2 : tie.Need-returns-2
+returns-2 c = search (needs, field-cases)
+
+pub byte-field-spec : {M : Type 1} → statement M
+byte-field-spec = tie.close (tie.spec byte-at-requires returns returns-2)

@@ -1,0 +1,4 @@
+pub mod Record
+pub mod Read
+pub mod Write
+pub mod Accepted

@@ -1,0 +1,105 @@
+-- Writing a sheet: the shortest one for these turns in this order. Assumes nothing.
+use Prim.Native.Nat.{ℕ, zero, suc, _+_, _*_, _/_, _%_}
+use mathlib.Core.List.{List, [], _∷_, _++_}
+use mathlib.Core.Bool.{Bool, true, false, not, cond}
+use lib.ListN.{length, getD, drop}
+use lib.Dec.{ltb, eqb}
+use Rattle.refusal.specs.Number.{bufferTooSmall, partialTurn}
+use Rattle.refusal.specs.Cause.{Cause, _when_, firstOf}
+use Rattle.wire.specs.Number.{bytesOf}
+use Rattle.wire.specs.Mark.{sheetMark}
+use Rattle.turns.specs.declared.Turn.{Turn}
+use Rattle.turns.specs.declared.Counts.{Counts}
+use Rattle.turns.specs.Turn.{turnCauses}
+use Rattle.sheet.specs.Record.{fullMap, firstCursor}
+use Rattle.sheet.specs.Read.{countCauses}
+
+-- ---- the bytes
+
+-- a field's bytes, high byte first, where its bit stands, else none
+abbrev pub fieldBytes : ℕ → ℕ → ℕ → List ℕ
+fieldBytes bit width v = cond (eqb bit 0) [] (bytesOf width v)
+
+-- a record: its map, then the fields whose bits stand, in the order slope, groomer, start, length, worth
+unfoldable pub recordOf : ℕ → Turn → List ℕ
+recordOf m t =
+    m
+    ∷ (fieldBytes (m % 2) 1 (t .slope)
+    ++ (fieldBytes (m / 2 % 2) 1 (t .groomer)
+    ++ (fieldBytes (m / 4 % 2) 2 (t .start)
+    ++ (fieldBytes (m / 8 % 2) 2 (t .length)
+    ++ fieldBytes (m / 16 % 2) 2 (t .worth)))))
+
+-- 1 where two values differ
+abbrev pub differs : ℕ → ℕ → ℕ
+differs a b = cond (eqb a b) 0 1
+
+-- the first record has every field; in a later one a bit stands only where the value differs from the turn before
+unfoldable pub mapFor : Bool → Turn → Turn → ℕ
+mapFor true p t = fullMap
+mapFor false p t =
+    differs (p .slope) (t .slope)
+    + 2 * differs (p .groomer) (t .groomer)
+    + 4 * differs (p .start) (t .start)
+    + 8 * differs (p .length) (t .length)
+    + 16 * differs (p .worth) (t .worth)
+
+unfoldable pub recordsOf : Bool → Turn → List Turn → List ℕ
+recordsOf first p [] = []
+recordsOf first p (t ∷ ts) = recordOf (mapFor first p t) t ++ recordsOf false t ts
+
+-- the mark, groomers, slopes, and the number of turns in two bytes
+abbrev pub headerFor : Counts → ℕ → List ℕ
+headerFor counts n = sheetMark ++ (counts .groomers ∷ counts .slopes ∷ bytesOf 2 n)
+
+unfoldable pub sheetOf : Counts → List Turn → List ℕ
+sheetOf counts ts = headerFor counts (length ts) ++ recordsOf true (firstCursor .prev) ts
+
+-- ---- the table that is written: five numbers a turn
+
+-- turn i of a table
+unfoldable pub turnIn : List ℕ → ℕ → Turn
+turnIn table i =
+    record {
+      slope = getD table (5 * i) 0;
+      groomer = getD table (5 * i + 1) 0;
+      start = getD table (5 * i + 2) 0;
+      length = getD table (5 * i + 3) 0;
+      worth = getD table (5 * i + 4) 0;
+    }
+
+-- the turns i, i + 1, .. of a table, k in all
+unfoldable pub turnsOfTable : ℕ → List ℕ → ℕ → List Turn
+turnsOfTable zero table i = []
+turnsOfTable (suc k) table i = turnIn table i ∷ turnsOfTable k table (i + 1)
+
+abbrev pub tableTurns : List ℕ → List Turn
+tableTurns table = turnsOfTable (length table / 5) table 0
+
+-- ---- what may be wrong, in the order of refusal: an odd length, the counts, the turns one by one, the lent bytes
+
+unfoldable pub turnsCauses : Counts → List Turn → List Cause
+turnsCauses counts [] = []
+turnsCauses counts (t ∷ ts) = turnCauses counts t ++ turnsCauses counts ts
+
+-- everything but the lent bytes
+unfoldable pub tableCauses : Counts → List ℕ → List Cause
+tableCauses counts table =
+    partialTurn when not (eqb (length table % 5) 0)
+    ∷ (countCauses counts (length table / 5) ++ turnsCauses counts (tableTurns table))
+
+unfoldable pub writeCauses : Counts → List ℕ → ℕ → List Cause
+writeCauses counts table places = tableCauses counts table ++ bufferTooSmall when ltb places (length (sheetOf counts (tableTurns table))) ∷ []
+
+-- the writer's refusal, 0 if none, the bytes written, 0 on a refusal, and what the lent bytes hold then
+pub record Written : Type 0 where
+  pub refusal : ℕ
+  pub bytes : ℕ
+  pub lent : List ℕ
+
+-- on success the sheet, then what was there; on a refusal all as before
+unfoldable pub writeOf : Counts → List ℕ → List ℕ → Written
+writeOf counts table lent =
+    let f = firstOf (writeCauses counts table (length lent)) in
+    let sheet = sheetOf counts (tableTurns table) in
+    cond (eqb f 0) (record { refusal = 0; bytes = length sheet; lent = sheet ++ drop (length sheet) lent }) (record { refusal = f; bytes = 0; lent = lent })

@@ -1,0 +1,111 @@
+// One record of a sheet: a map byte, then the fields whose bit stands.
+ghost use mathlib.Core.Path.{_≡_};
+ghost use Prim.Native.Nat.{_+_, _*_, _≤_, _<_};
+ghost use lib.ListN.{length};
+ghost use Rattle.sheet.specs.Record.{widthOf, field, turnFrom, badMapFor, nextOf};
+use turns::Counts;
+use turns::Turn;
+
+// A map with every field, as the first record has it.
+const FULL_MAP: u8 = 31;
+
+// Where the next record starts, and the turn before it.
+pub struct Cursor {
+    pub at: usize,
+    pub first: bool,
+    pub prev: Turn,
+}
+
+pub enum Next {
+    Read(Turn, Cursor),
+    Refused(u8),
+}
+
+// How many bytes the fields of a map take.
+fn width(m: u8) -> usize
+    ensures { λ r. ⌜ r ≡ widthOf m ⌝ }
+{
+    let w = m % 2 + m / 2 % 2 + 2 * (m / 4 % 2) + 2 * (m / 8 % 2) + 2 * (m / 16 % 2);
+    w as usize
+}
+
+// A one-byte field where its bit stands, else the value before.
+fn byte_field(s: &[u8], at: usize, bit: u8, old: u16) -> u16
+    requires { ⌜ at + bit ≤ length (now s) ⌝ }
+    ensures { λ r. ⌜ r ≡ field 1 (now (s .entry)) at bit old ⌝ }
+{
+    if bit == 0 { old } else { wire::byte_at(s, at) }
+}
+
+// A two-byte field where its bit stands, else the value before.
+fn word_field(s: &[u8], at: usize, bit: u8, old: u16) -> u16
+    requires { ⌜ at + 2 * bit ≤ length (now s) ⌝ }
+    ensures { λ r. ⌜ r ≡ field 2 (now (s .entry)) at bit old ⌝ }
+{
+    if bit == 0 { old } else { wire::word_at(s, at) }
+}
+
+// The turn whose fields start at a place, after the turn before it.
+fn turn_from(s: &[u8], at: usize, m: u8, old: Turn) -> Turn
+    requires { ⌜ at + widthOf m ≤ length (now s) ⌝ }
+    ensures { λ r. ⌜ r ≡ turnFrom (now (s .entry)) at m old ⌝ }
+{
+    let b0 = m % 2;
+    let b1 = m / 2 % 2;
+    let b2 = m / 4 % 2;
+    let b3 = m / 8 % 2;
+    let b4 = m / 16 % 2;
+    let p1 = at + b0 as usize;
+    let p2 = p1 + b1 as usize;
+    let p3 = p2 + 2 * (b2 as usize);
+    let p4 = p3 + 2 * (b3 as usize);
+    Turn {
+        slope: byte_field(s, at, b0, old.slope),
+        groomer: byte_field(s, p1, b1, old.groomer),
+        start: word_field(s, p2, b2, old.start),
+        length: word_field(s, p3, b3, old.length),
+        worth: word_field(s, p4, b4, old.worth),
+    }
+}
+
+// Whether a record may not have this map.
+fn bad_map_for(first: bool, m: u8) -> bool
+    ensures { λ r. ⌜ r ≡ badMapFor first m ⌝ }
+{
+    FULL_MAP < m || first && m != FULL_MAP
+}
+
+impl Cursor {
+    // The next turn and where the record after it starts, or the first cause to refuse this record.
+    pub fn next(self, s: &[u8], limits: Counts) -> Next
+        ensures { λ r. ⌜ r ≡ nextOf (now (s .entry)) limits self ⌝ }
+    {
+        let at = self.at;
+        if s.len() <= at {
+            return Next::Refused(refusal::TRUNCATED);
+        }
+        let m = s[at];
+        let first = self.first;
+        if bad_map_for(first, m) {
+            return Next::Refused(refusal::BAD_MAP);
+        }
+        let fields = at + 1;
+        let end = fields + width(m);
+        if s.len() < end {
+            return Next::Refused(refusal::TRUNCATED);
+        }
+        let t = turn_from(s, fields, m, self.prev);
+        let fault = turns::turn_fault(t, limits);
+        if fault != 0 {
+            return Next::Refused(fault);
+        }
+        Next::Read(
+            t,
+            Cursor {
+                at: end,
+                first: false,
+                prev: t,
+            },
+        )
+    }
+}

@@ -1,0 +1,45 @@
+use Rattle.turns.proofs.Faults.{fault-cases}
+use borrow.Author.Needs.{needs}
+use Rattle.turns.proofs.turn_fault.Statement.{statement}
+use Rattle.turns.proofs.turn_fault.Tie as tie
+
+outside-range-requires : tie.Need-outside-range-requires
+outside-range-requires c κs = search needs
+
+returns : tie.Need-returns
+returns c = search (needs, fault-cases)
+
+outside-range-requires-2 : tie.Need-outside-range-requires-2
+outside-range-requires-2 c κs = search needs
+
+returns-2 : tie.Need-returns-2
+returns-2 c = search (needs, fault-cases)
+
+past-shift-requires : tie.Need-past-shift-requires
+past-shift-requires c κs = search needs
+
+returns-3 : tie.Need-returns-3
+returns-3 c = search (needs, fault-cases)
+
+outside-range-requires-3 : tie.Need-outside-range-requires-3
+outside-range-requires-3 c κs = search needs
+
+returns-4 : tie.Need-returns-4
+returns-4 c = search (needs, fault-cases)
+
+returns-5 : tie.Need-returns-5
+returns-5 c = search (needs, fault-cases)
+
+pub turn-fault-spec : {M : Type 1} → statement M
+turn-fault-spec =
+    tie.close
+    (tie.spec
+    outside-range-requires
+    returns
+    outside-range-requires-2
+    returns-2
+    past-shift-requires
+    returns-3
+    outside-range-requires-3
+    returns-4
+    returns-5)

@@ -1,0 +1,18 @@
+-- The opening marks: three fixed bytes each. Assumes nothing.
+use mathlib.Core.Bool.{Bool, true, false, _&&_}
+use mathlib.Core.List.{List, [], _∷_}
+use Prim.Native.Nat.{ℕ}
+use lib.Dec.{eqb}
+use lib.ListN.{getD}
+
+-- GRM opens a sheet
+abbrev pub sheetMark : List ℕ
+sheetMark = 0x47 ∷ 0x52 ∷ 0x4D ∷ []
+
+-- GRB opens a board
+abbrev pub boardMark : List ℕ
+boardMark = 0x47 ∷ 0x52 ∷ 0x42 ∷ []
+
+-- the first three bytes are the mark's
+unfoldable pub opensWith : List ℕ → List ℕ → Bool
+opensWith mark s = eqb (getD s 0 0) (getD mark 0 0) && (eqb (getD s 1 0) (getD mark 1 0) && eqb (getD s 2 0) (getD mark 2 0))

@@ -1,0 +1,31 @@
+-- Numbers of one, two or four bytes, high byte first, and lists of bytes. Assumes nothing.
+use Prim.Native.Nat.{ℕ, zero, suc, _+_, _*_, _/_, _%_, _^_, _<_}
+use mathlib.Core.List.{List, [], _∷_}
+use lib.ListN.{getD}
+
+-- x as so many bytes, high byte first
+abbrev pub bytesOf : ℕ → ℕ → List ℕ
+bytesOf zero x = []
+bytesOf (suc k) x = x / 256 ^ k % 256 ∷ bytesOf k x
+
+-- the number that bytes make, after a number that stands before them
+abbrev pub valueFrom : ℕ → List ℕ → ℕ
+valueFrom before [] = before
+valueFrom before (b ∷ bs) = valueFrom (before * 256 + b) bs
+
+abbrev pub valueOf : List ℕ → ℕ
+valueOf bs = valueFrom 0 bs
+
+-- the k bytes from a place on; past the end they read as 0
+abbrev pub bytesAt : List ℕ → ℕ → ℕ → List ℕ
+bytesAt s at zero = []
+bytesAt s at (suc k) = getD s at 0 ∷ bytesAt s (at + 1) k
+
+-- the number in the k bytes from a place on
+abbrev pub valueAt : List ℕ → ℕ → ℕ → ℕ
+valueAt s at k = valueOf (bytesAt s at k)
+
+-- a list of bytes: each number is below 256
+pub data Bytes : List ℕ → Type 0 where
+  none : Bytes []
+  more : {b : ℕ} {bs : List ℕ} → b < 256 → Bytes bs → Bytes (b ∷ bs)

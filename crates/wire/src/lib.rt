@@ -1,0 +1,50 @@
+// Numbers as bytes, high byte first, and the two opening marks.
+ghost use mathlib.Core.Path.{_≡_};
+ghost use Prim.Native.Nat.{_+_, _≤_, _<_};
+ghost use lib.ListN.{length};
+ghost use Rattle.wire.specs.Number.{valueAt};
+ghost use Rattle.wire.specs.Mark.{opensWith};
+
+// A sheet's mark and a board's, compared on reading and written on output.
+pub const GRM: [u8; 3] = *b"GRM";
+
+pub const GRB: [u8; 3] = *b"GRB";
+
+// Whether the first three bytes are the mark's.
+pub fn opens_with(s: &[u8], mark: [u8; 3]) -> bool
+    requires { ⌜ 3 ≤ length (now s) ⌝ }
+    ensures { λ r. ⌜ r ≡ opensWith mark (now (s .entry)) ⌝ }
+{
+    if s[0] == mark[0] {
+        if s[1] == mark[1] {
+            s[2] == mark[2]
+        } else {
+            false
+        }
+    } else {
+        false
+    }
+}
+
+fn wide(x: u8) -> u16
+    ensures { λ r. ⌜ (r ≡ x) × (r < 256) ⌝ }
+{
+    x as u16
+}
+
+// The byte at a place, as a wider number.
+pub fn byte_at(s: &[u8], at: usize) -> u16
+    requires { ⌜ at + 1 ≤ length (now s) ⌝ }
+    ensures { λ r. ⌜ (r ≡ valueAt (now (s .entry)) at 1) × (r < 256) ⌝ }
+{
+    wide(s[at])
+}
+
+// The number in the two bytes from a place on.
+pub fn word_at(s: &[u8], at: usize) -> u16
+    requires { ⌜ at + 2 ≤ length (now s) ⌝ }
+    ensures { λ r. ⌜ r ≡ valueAt (now (s .entry)) at 2 ⌝ }
+{
+    let next = at + 1;
+    wide(s[at]) * 256 + wide(s[next])
+}
