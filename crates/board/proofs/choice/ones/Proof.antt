@@ -1,0 +1,10 @@
+use Rattle.board.proofs.Bytes.{ones-byte, ones-most}
+use borrow.Author.Needs.{needs}
+use Rattle.board.proofs.choice.ones.Statement.{statement}
+use Rattle.board.proofs.choice.ones.Tie as tie
+
+returns : tie.Need-returns
+returns c = (ones-byte (c .args .x) (c .fits .x .fits), ones-most (c .args .x) (c .fits .x .fits))
+
+pub ones-spec : {M : Type 1} → statement M
+ones-spec = tie.close (tie.spec returns)

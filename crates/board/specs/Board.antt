@@ -1,0 +1,59 @@
+-- The board's bytes. Assumes nothing.
+use Prim.Native.Nat.{ℕ, zero, suc, _+_, _*_}
+use mathlib.Core.List.{List, [], _∷_, _++_}
+use mathlib.Core.Bool.{Bool}
+use lib.ListN.{length, take, drop}
+use Rattle.wire.specs.Number.{bytesOf, valueAt}
+use Rattle.wire.specs.Mark.{boardMark}
+use Rattle.model.specs.Lists.{tab}
+use Rattle.model.specs.Steps.{Step}
+use Rattle.board.specs.Choice.{mapBytes, choiceIn, mapOf}
+
+-- bytes 3 and 4: the sheet's turns; 5 and 6: the steps; 7 to 10: tally; 11 to 14: worth
+abbrev pub boardHeader : ℕ
+boardHeader = 15
+
+abbrev pub boardTurns : List ℕ → ℕ
+boardTurns b = valueAt b 3 2
+
+abbrev pub boardSteps : List ℕ → ℕ
+boardSteps b = valueAt b 5 2
+
+abbrev pub boardTally : List ℕ → ℕ
+boardTally b = valueAt b 7 4
+
+abbrev pub boardWorth : List ℕ → ℕ
+boardWorth b = valueAt b 11 4
+
+-- then the choice map, then four bytes a step
+abbrev pub stepsPlace : ℕ → ℕ
+stepsPlace n = boardHeader + mapBytes n
+
+abbrev pub boardLength : ℕ → ℕ → ℕ
+boardLength n m = stepsPlace n + 4 * m
+
+unfoldable pub boardMap : List ℕ → List ℕ
+boardMap b = take (mapBytes (boardTurns b)) (drop boardHeader b)
+
+unfoldable pub boardChoice : List ℕ → List Bool
+boardChoice b = choiceIn (boardTurns b) (boardMap b)
+
+-- a step: turn number and amount, two bytes each
+abbrev pub stepAt : List ℕ → ℕ → Step
+stepAt bytes i = record { turn = valueAt bytes (4 * i) 2; amount = valueAt bytes (4 * i + 2) 2 }
+
+unfoldable pub stepsIn : ℕ → List ℕ → List Step
+stepsIn m bytes = tab m (stepAt bytes)
+
+-- the steps that stand in a board's bytes
+unfoldable pub writtenSteps : List ℕ → List Step
+writtenSteps b = stepsIn (boardSteps b) (drop (stepsPlace (boardTurns b)) b)
+
+unfoldable pub stepBytes : List Step → List ℕ
+stepBytes [] = []
+stepBytes (x ∷ xs) = (bytesOf 2 (x .turn) ++ bytesOf 2 (x .amount)) ++ stepBytes xs
+
+-- the board of a choice of n turns, steps and two sums
+unfoldable pub boardOf : List Bool → List Step → ℕ → ℕ → List ℕ
+boardOf S xs tally worth =
+    boardMark ++ (bytesOf 2 (length S) ++ (bytesOf 2 (length xs) ++ (bytesOf 4 tally ++ (bytesOf 4 worth ++ (mapOf S ++ stepBytes xs)))))

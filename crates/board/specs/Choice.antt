@@ -1,0 +1,50 @@
+-- The choice map: which turns are chosen, one bit a turn. Assumes nothing.
+use Prim.Native.Nat.{ℕ, zero, suc, _+_, _-_, _*_, _/_, _%_, _^_}
+use mathlib.Core.List.{List, [], _∷_}
+use mathlib.Core.Bool.{Bool, true, false, not, cond}
+use lib.ListN.{length, getD, set}
+use lib.Dec.{eqb}
+use Rattle.model.specs.Lists.{every, tab, sum, below}
+use Rattle.model.specs.Choice.{has}
+
+-- bit k of a byte, bit 0 the lowest
+unfoldable pub bitOf : ℕ → ℕ → Bool
+bitOf x k = eqb (x / 2 ^ k % 2) 1
+
+-- as many bytes as hold a bit for each of n turns
+abbrev pub mapBytes : ℕ → ℕ
+mapBytes n = (n + 7) / 8
+
+-- turn t is bit t % 8 of byte t / 8
+unfoldable pub chosenIn : List ℕ → ℕ → Bool
+chosenIn map t = bitOf (getD map (t / 8) 0) (t % 8)
+
+-- the choice that a map's bytes hold for n turns
+unfoldable pub choiceIn : ℕ → List ℕ → List Bool
+choiceIn n map = tab n (chosenIn map)
+
+-- a byte with bit k set, and a map with turn t chosen too
+unfoldable pub withBit : ℕ → ℕ → ℕ
+withBit x k = cond (bitOf x k) x (x + 2 ^ k)
+
+unfoldable pub withTurn : List ℕ → ℕ → List ℕ
+withTurn map t = set map (t / 8) (withBit (getD map (t / 8) 0) (t % 8))
+
+-- the count of ones in a byte; the number of chosen turns is their sum over the map's bytes
+unfoldable pub onesOf : ℕ → ℕ
+onesOf x = sum (λ k. cond (bitOf x k) 1 0) (below 8)
+
+unfoldable pub onesIn : List ℕ → ℕ
+onesIn [] = 0
+onesIn (x ∷ map) = onesOf x + onesIn map
+
+-- the bits past the last of n turns are clear
+unfoldable pub clearPast : ℕ → List ℕ → Bool
+clearPast n map = every (λ k. not (chosenIn map (n + k))) (8 * mapBytes n - n)
+
+-- the map of a choice: its byte k has the bits of the turns from 8 k on
+unfoldable pub byteOf : List Bool → ℕ → ℕ
+byteOf S k = sum (λ i. cond (has S (8 * k + i)) (2 ^ i) 0) (below 8)
+
+unfoldable pub mapOf : List Bool → List ℕ
+mapOf S = tab (mapBytes (length S)) (byteOf S)

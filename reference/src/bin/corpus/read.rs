@@ -1,0 +1,131 @@
+//! Cases for reading a sheet.
+
+use slopeboard_reference::gen::{self, Rng};
+use slopeboard_reference::read;
+
+use crate::Corpus;
+
+const ENTRY: u8 = 1;
+const MOST_PLACES: usize = 2004;
+const LONGEST_SHEET: usize = 4000;
+
+/// What every place holds before the call.
+const FILL: u16 = 0xA5A5;
+
+/// The worked example: two groomers, three slopes, four turns.
+const EXAMPLE: [u8; 39] = [
+    0x47, 0x52, 0x4D, 0x02, 0x03, 0x00, 0x04, 0x1F, 0x01, 0x01, 0x00, 0x00, 0x00, 0x3C, 0x00, 0x64,
+    0x15, 0x02, 0x00, 0x1E, 0x00, 0x96, 0x1F, 0x01, 0x02, 0x00, 0x00, 0x00, 0x78, 0x00, 0x50, 0x1D,
+    0x03, 0x00, 0x78, 0x00, 0x3C, 0x00, 0x5A,
+];
+
+/// Where the last record of the example has its map.
+const EXAMPLE_LAST_MAP: usize = 31;
+
+/// Adds all cases of this entry.
+pub fn add(corpus: &mut Corpus) {
+    named_cases(corpus);
+    sweeps(corpus);
+    seeded_cases(corpus);
+}
+
+/// Sums up the whole table, so that a write to any place shows.
+fn checksum(table: &[u16]) -> u32 {
+    table
+        .iter()
+        .fold(1, |sum, &value| (sum * 31 + u32::from(value)) % 65_521)
+}
+
+fn case(corpus: &mut Corpus, sheet: &[u8], places: usize) {
+    assert!(places <= MOST_PLACES && sheet.len() <= LONGEST_SHEET);
+    let mut table = vec![FILL; places];
+    let (refusal, [groomers, slopes, turns]) = match read(sheet, &mut table) {
+        Ok(header) => (0, [header.groomers, header.slopes, header.turns]),
+        Err(number) => (number, [0; 3]),
+    };
+    let sum = checksum(&table);
+    let line = format!("read {refusal} {groomers} {slopes} {turns} {sum}");
+    corpus.push(ENTRY, places, sheet, &line);
+}
+
+/// The case with a table that fits, one place less and one place more.
+fn case_with_tables(corpus: &mut Corpus, sheet: &[u8]) {
+    let places = gen::places_wanted(sheet);
+    if places > 0 {
+        case(corpus, sheet, places - 1);
+    }
+    case(corpus, sheet, places);
+    case(corpus, sheet, places + 1);
+}
+
+fn named_cases(corpus: &mut Corpus) {
+    case_with_tables(corpus, &EXAMPLE);
+    case(corpus, &EXAMPLE, 0);
+    case(corpus, &EXAMPLE, MOST_PLACES);
+    case_with_tables(corpus, &[]);
+    case_with_tables(corpus, b"GRM\x02\x03\0\0");
+    case_with_tables(corpus, b"GRM\x01\x01\0\0");
+    case_with_tables(corpus, b"GRM\x02\x03\x01\x90");
+    case_with_tables(corpus, b"GRM\x02\x03\x01\x91");
+    case_with_tables(corpus, b"GRM\x02\x03\0\0\0");
+    case_with_tables(corpus, b"GRB\x02\x03\0");
+    case_with_tables(corpus, b"GRB\0\x03\x01\x91");
+    case_with_tables(corpus, b"GRM\0\x03\x01\x91");
+    for sheet in gen::single_bounds() {
+        case_with_tables(corpus, &sheet);
+    }
+    for sheet in gen::wrong_marks(&EXAMPLE) {
+        case(corpus, &sheet, 20);
+    }
+    for len in 0..EXAMPLE.len() {
+        case(corpus, &EXAMPLE[..len], 20);
+    }
+}
+
+fn sweeps(corpus: &mut Corpus) {
+    for place in [gen::HEADER_LEN, EXAMPLE_LAST_MAP] {
+        for sheet in gen::byte_sweep(&EXAMPLE, place) {
+            case(corpus, &sheet, 20);
+        }
+    }
+    for place in 0..gen::HEADER_LEN {
+        for value in [0, 1, 2, 4, 5, 16, 17, 71, 77, 82, 120, 121, 144, 145, 255] {
+            let mut sheet = EXAMPLE;
+            sheet[place] = value;
+            case(corpus, &sheet, 20);
+        }
+    }
+}
+
+fn seeded_cases(corpus: &mut Corpus) {
+    let mut rng = Rng::new(1);
+    for (sheets, low, high) in [(50, 1, 20), (20, 20, 90), (4, 100, 399), (4, 400, 400)] {
+        for _ in 0..sheets {
+            let turns = rng.between(low, high) as usize;
+            let sheet = gen::typical(&mut rng, turns);
+            case_with_tables(corpus, &sheet.bytes);
+        }
+    }
+    for kind in 0..100 {
+        let turns = rng.between(1, 25) as usize;
+        let sheet = faulty(&mut rng, turns, kind % 5);
+        case_with_tables(corpus, &sheet);
+    }
+}
+
+/// A sheet that went wrong in one of five ways. Some are still accepted.
+fn faulty(rng: &mut Rng, turns: usize, kind: u32) -> Vec<u8> {
+    let shift = gen::shift(rng, turns);
+    let mut sheet = gen::encode(rng, &shift, 20).bytes;
+    match kind {
+        0 => gen::damaged(rng, &sheet),
+        1 => gen::with_bound(rng, &shift),
+        2 => gen::trailing(rng, &sheet),
+        3 => gen::with_faults(rng, &shift, 2),
+        _ => {
+            let len = rng.below(sheet.len() as u32) as usize;
+            sheet.truncate(len);
+            sheet
+        }
+    }
+}

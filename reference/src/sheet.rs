@@ -1,0 +1,214 @@
+//! The shift sheet: reader and writer.
+
+use crate::refusal;
+use crate::turns::{judge_counts, Turn, FIELDS, MAX_TURNS};
+
+const MAGIC: [u8; 3] = *b"GRM";
+const HEADER_LEN: usize = 7;
+/// The longest record is a map and all its fields.
+const MAX_LEN: usize = HEADER_LEN + MAX_TURNS * 9;
+
+const HAS_SLOPE: u8 = 1;
+const HAS_GROOMER: u8 = 1 << 1;
+const HAS_START: u8 = 1 << 2;
+const HAS_LENGTH: u8 = 1 << 3;
+const HAS_WORTH: u8 = 1 << 4;
+const ALL_FIELDS: u8 = 0x1F;
+/// The fields of two bytes; the others have one.
+const WIDE_FIELDS: u8 = HAS_START | HAS_LENGTH | HAS_WORTH;
+
+/// The three counts at the head of a sheet.
+#[derive(Clone, Copy, Debug, PartialEq, Eq)]
+pub struct Header {
+    pub groomers: u16,
+    pub slopes: u16,
+    pub turns: u16,
+}
+
+/// Room for the turns of any accepted sheet.
+pub(crate) type TurnArray = [Turn; MAX_TURNS];
+
+pub(crate) fn no_turns() -> TurnArray {
+    [Turn::default(); MAX_TURNS]
+}
+
+/// Reads a sheet into a turn table. The table is written only on success, and
+/// only as far as the turns go.
+pub fn read(sheet: &[u8], table: &mut [u16]) -> Result<Header, u8> {
+    let mut turns = no_turns();
+    let header = parse(sheet, &mut turns)?;
+    let count = usize::from(header.turns);
+    if table.len() < count * FIELDS {
+        return Err(refusal::BUFFER_TOO_SMALL);
+    }
+    for (place, turn) in table.chunks_exact_mut(FIELDS).zip(&turns[..count]) {
+        place.copy_from_slice(&turn.fields());
+    }
+    Ok(header)
+}
+
+/// Goes through all bytes of a sheet and leaves its turns in the array.
+pub(crate) fn parse(sheet: &[u8], turns: &mut TurnArray) -> Result<Header, u8> {
+    let (header, mut rest) = parse_header(sheet)?;
+    let groomers = u32::from(header.groomers);
+    let slopes = u32::from(header.slopes);
+    let mut previous = None;
+    for place in &mut turns[..usize::from(header.turns)] {
+        let (turn, later) = parse_record(rest, previous)?;
+        turn.judge(groomers, slopes)?;
+        *place = turn;
+        previous = Some(turn);
+        rest = later;
+    }
+    if rest.is_empty() {
+        Ok(header)
+    } else {
+        Err(refusal::TRAILING_BYTES)
+    }
+}
+
+fn parse_header(sheet: &[u8]) -> Result<(Header, &[u8]), u8> {
+    if sheet.len() < HEADER_LEN {
+        return Err(refusal::TRUNCATED);
+    }
+    let (bytes, rest) = sheet.split_at(HEADER_LEN);
+    if bytes[..3] != MAGIC {
+        return Err(refusal::BAD_MAGIC);
+    }
+    let header = Header {
+        groomers: u16::from(bytes[3]),
+        slopes: u16::from(bytes[4]),
+        turns: u16::from_be_bytes([bytes[5], bytes[6]]),
+    };
+    judge_counts(u32::from(header.groomers), u32::from(header.slopes))?;
+    if usize::from(header.turns) > MAX_TURNS {
+        return Err(refusal::TOO_MANY_TURNS);
+    }
+    Ok((header, rest))
+}
+
+/// Takes one record off the bytes. The whole record must be there before any
+/// of its values counts, so the values are judged by the caller.
+fn parse_record(bytes: &[u8], previous: Option<Turn>) -> Result<(Turn, &[u8]), u8> {
+    let (&map, after) = bytes.split_first().ok_or(refusal::TRUNCATED)?;
+    let map_fits = match previous {
+        None => map == ALL_FIELDS,
+        Some(_) => map & !ALL_FIELDS == 0,
+    };
+    if !map_fits {
+        return Err(refusal::BAD_FIELD_MAP);
+    }
+    let size = fields_len(map);
+    if after.len() < size {
+        return Err(refusal::TRUNCATED);
+    }
+    let (fields, rest) = after.split_at(size);
+    Ok((resolve(map, fields, previous.unwrap_or_default()), rest))
+}
+
+/// Bytes of the fields that a map announces.
+fn fields_len(map: u8) -> usize {
+    (map.count_ones() + (map & WIDE_FIELDS).count_ones()) as usize
+}
+
+/// Completes the turn before with the fields that the record brings.
+fn resolve(map: u8, fields: &[u8], previous: Turn) -> Turn {
+    let mut turn = previous;
+    let mut at = 0;
+    if map & HAS_SLOPE != 0 {
+        turn.slope = u16::from(fields[at]);
+        at += 1;
+    }
+    if map & HAS_GROOMER != 0 {
+        turn.groomer = u16::from(fields[at]);
+        at += 1;
+    }
+    if map & HAS_START != 0 {
+        turn.start = u16::from_be_bytes([fields[at], fields[at + 1]]);
+        at += 2;
+    }
+    if map & HAS_LENGTH != 0 {
+        turn.length = u16::from_be_bytes([fields[at], fields[at + 1]]);
+        at += 2;
+    }
+    if map & HAS_WORTH != 0 {
+        turn.worth = u16::from_be_bytes([fields[at], fields[at + 1]]);
+    }
+    turn
+}
+
+/// Puts the turns of a table, in their order, into as few bytes as the format
+/// allows and gives the number of bytes. The counts are wide numbers, so that
+/// one too large for its byte is refused instead of cut.
+pub fn write(groomers: u32, slopes: u32, table: &[u16], out: &mut [u8]) -> Result<usize, u8> {
+    if !table.len().is_multiple_of(FIELDS) {
+        return Err(refusal::BAD_TABLE_LENGTH);
+    }
+    judge_counts(groomers, slopes)?;
+    let count = table.len() / FIELDS;
+    if count > MAX_TURNS {
+        return Err(refusal::TOO_MANY_TURNS);
+    }
+    // A late turn may still be refused, and its refusal must leave the
+    // caller's buffer alone: hence a buffer of our own.
+    let mut sheet = [0; MAX_LEN];
+    // The counts were judged above: each fits its place.
+    put_header(groomers as u8, slopes as u8, count as u16, &mut sheet);
+    let mut len = HEADER_LEN;
+    let mut previous = None;
+    for turn in table.chunks_exact(FIELDS).map(Turn::from_fields) {
+        turn.judge(groomers, slopes)?;
+        len += put_record(shortest_map(previous, turn), turn, &mut sheet[len..]);
+        previous = Some(turn);
+    }
+    let Some(place) = out.get_mut(..len) else {
+        return Err(refusal::BUFFER_TOO_SMALL);
+    };
+    place.copy_from_slice(&sheet[..len]);
+    Ok(len)
+}
+
+fn put_header(groomers: u8, slopes: u8, turns: u16, out: &mut [u8]) {
+    out[..3].copy_from_slice(&MAGIC);
+    out[3] = groomers;
+    out[4] = slopes;
+    out[5..HEADER_LEN].copy_from_slice(&turns.to_be_bytes());
+}
+
+/// The map of a record that brings only what changed.
+fn shortest_map(previous: Option<Turn>, turn: Turn) -> u8 {
+    let Some(old) = previous else {
+        return ALL_FIELDS;
+    };
+    let flag = |changed: bool, flag: u8| if changed { flag } else { 0 };
+    flag(old.slope != turn.slope, HAS_SLOPE)
+        | flag(old.groomer != turn.groomer, HAS_GROOMER)
+        | flag(old.start != turn.start, HAS_START)
+        | flag(old.length != turn.length, HAS_LENGTH)
+        | flag(old.worth != turn.worth, HAS_WORTH)
+}
+
+/// Writes the map and the fields it announces, and gives their length. The
+/// turn has been judged, so its slope and groomer fit a byte each.
+fn put_record(map: u8, turn: Turn, out: &mut [u8]) -> usize {
+    out[0] = map;
+    let mut at = 1;
+    for (flag, value) in [(HAS_SLOPE, turn.slope), (HAS_GROOMER, turn.groomer)] {
+        if map & flag != 0 {
+            out[at] = value as u8;
+            at += 1;
+        }
+    }
+    let wide = [
+        (HAS_START, turn.start),
+        (HAS_LENGTH, turn.length),
+        (HAS_WORTH, turn.worth),
+    ];
+    for (flag, value) in wide {
+        if map & flag != 0 {
+            out[at..at + 2].copy_from_slice(&value.to_be_bytes());
+            at += 2;
+        }
+    }
+    at
+}

@@ -1,0 +1,146 @@
+//! Turns, their limits, and which of them may stand on a board together.
+
+use crate::refusal;
+
+pub const MAX_GROOMERS: u32 = 16;
+pub const MAX_SLOPES: u32 = 120;
+pub const MAX_TURNS: usize = 400;
+pub const LAST_END: u32 = 960;
+pub const MAX_WORTH: u16 = 60_000;
+
+/// Numbers that a turn takes in a turn table.
+pub const FIELDS: usize = 5;
+
+/// One turn; the fields stand in the order of the turn table.
+#[derive(Clone, Copy, Debug, Default, PartialEq, Eq)]
+pub struct Turn {
+    pub slope: u16,
+    pub groomer: u16,
+    pub start: u16,
+    pub length: u16,
+    pub worth: u16,
+}
+
+impl Turn {
+    /// Takes a turn from its five numbers in a table.
+    pub fn from_fields(fields: &[u16]) -> Turn {
+        Turn {
+            slope: fields[0],
+            groomer: fields[1],
+            start: fields[2],
+            length: fields[3],
+            worth: fields[4],
+        }
+    }
+
+    pub fn fields(&self) -> [u16; FIELDS] {
+        [
+            self.slope,
+            self.groomer,
+            self.start,
+            self.length,
+            self.worth,
+        ]
+    }
+
+    /// First minute after the turn. Wider than the fields, because a turn
+    /// that is yet to be judged may end far past any shift.
+    pub fn end(&self) -> u32 {
+        u32::from(self.start) + u32::from(self.length)
+    }
+
+    /// Whether the groomer and minutes of the two turns overlap.
+    fn same_groomer_at_once(&self, other: &Turn) -> bool {
+        (self.groomer == other.groomer)
+            & (u32::from(self.start) < other.end())
+            & (u32::from(other.start) < self.end())
+    }
+
+    /// Whether the two turns exclude each other. True for a turn and itself:
+    /// callers that mean two different turns compare numbers first, the
+    /// others rely on it.
+    pub fn conflicts(&self, other: &Turn) -> bool {
+        (self.slope == other.slope) | self.same_groomer_at_once(other)
+    }
+
+    /// Judges the turn's values, slope first and worth last.
+    pub fn judge(&self, groomers: u32, slopes: u32) -> Result<(), u8> {
+        if self.slope == 0 || u32::from(self.slope) > slopes {
+            return Err(refusal::BAD_SLOPE);
+        }
+        if self.groomer == 0 || u32::from(self.groomer) > groomers {
+            return Err(refusal::BAD_GROOMER);
+        }
+        if self.length == 0 || self.end() > LAST_END {
+            return Err(refusal::BAD_TIME);
+        }
+        if self.worth == 0 || self.worth > MAX_WORTH {
+            return Err(refusal::BAD_WORTH);
+        }
+        Ok(())
+    }
+}
+
+/// Judges the two counts of a sheet's header.
+pub fn judge_counts(groomers: u32, slopes: u32) -> Result<(), u8> {
+    let groomers_fit = (1..=MAX_GROOMERS).contains(&groomers);
+    let slopes_fit = (1..=MAX_SLOPES).contains(&slopes);
+    if groomers_fit && slopes_fit {
+        Ok(())
+    } else {
+        Err(refusal::BAD_COUNTS)
+    }
+}
+
+/// Chosen turns without a conflict among them, all of them judged before.
+/// There is room for one turn a slope, which is as many as can ever be free
+/// of conflict.
+pub struct Selection {
+    /// By slope number; most turns that do not fit fail on this.
+    slope_taken: [bool; MAX_SLOPES as usize + 1],
+    turns: [Turn; MAX_SLOPES as usize],
+    count: usize,
+}
+
+impl Selection {
+    pub fn new() -> Selection {
+        Selection {
+            slope_taken: [false; MAX_SLOPES as usize + 1],
+            turns: [Turn::default(); MAX_SLOPES as usize],
+            count: 0,
+        }
+    }
+
+    /// Whether the turn is in conflict with no chosen one. A turn already
+    /// chosen does not fit again, since it shares its own slope.
+    pub fn fits(&self, turn: &Turn) -> bool {
+        let busy = |other: &Turn| other.same_groomer_at_once(turn);
+        !self.slope_taken[usize::from(turn.slope)] && !self.chosen().iter().any(busy)
+    }
+
+    /// Adds the turn if it fits and says whether it did.
+    pub fn add(&mut self, turn: &Turn) -> bool {
+        let fits = self.fits(turn);
+        if fits {
+            self.slope_taken[usize::from(turn.slope)] = true;
+            self.turns[self.count] = *turn;
+            self.count += 1;
+        }
+        fits
+    }
+
+    /// What the selection is worth: at most 120 times 60,000.
+    pub fn worth(&self) -> u32 {
+        self.chosen().iter().map(|turn| u32::from(turn.worth)).sum()
+    }
+
+    fn chosen(&self) -> &[Turn] {
+        &self.turns[..self.count]
+    }
+}
+
+impl Default for Selection {
+    fn default() -> Self {
+        Selection::new()
+    }
+}
