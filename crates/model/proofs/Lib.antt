@@ -6,3 +6,8 @@ pub mod Conflicts
 pub mod Residuals
 pub mod Minutes
 pub mod Bound
+pub mod Choices
+pub mod Earnings
+pub mod Filled
+pub mod Picks
+pub mod Planned
