@@ -11,3 +11,7 @@ pub mod Earnings
 pub mod Filled
 pub mod Picks
 pub mod Planned
+pub mod Readings
+pub mod Promised
+pub mod Limits
+pub mod Selection
