@@ -2,15 +2,15 @@
 use mathlib.Core.Path.{_≡_}
 use mathlib.Core.Logic.{_≢_}
 use mathlib.Core.List.{List, [], _∷_}
-use mathlib.Core.Bool.{Bool, true, false, cond, _&&_, _||_, or-false}
-use Prim.Native.Nat.{ℕ, _+_, _*_, _≤_, _<_}
+use mathlib.Core.Bool.{Bool, true, false, _&&_, or-false}
+use Prim.Native.Nat.{ℕ, _*_, _≤_, _<_}
 use native.Mathlib.Omega.{arith}
 use lib.IntN.{ℤ}
 use lib.ListN.{length}
 use Rattle.model.specs.Lists.{sum, All, none, more}
 use Rattle.model.specs.Turns.{Turns, PositiveLengths, bySlope, byGroomer, conflict, Conflict}
-use Rattle.model.specs.Steps.{Step, isOpen, left, initial, touches, taken, afterStep, afterSteps, final, total, tally}
-use Rattle.model.specs.Rules.{Right, Each, done, step}
+use Rattle.model.specs.Steps.{Step, left, initial, touches, taken, afterStep, afterSteps, final, total, tally}
+use Rattle.model.specs.Rules.{Right}
 use Rattle.model.specs.Feasible.{Distinct, Feasible, worthOf, OneTurnASlope}
 use Rattle.model.proofs.Bools.{and-1, and-2}
 use Rattle.model.proofs.Sums.{sum-mono, sum-zero, all-of, all-map, all-tail}
@@ -18,6 +18,7 @@ use Rattle.model.proofs.Account.{each-map, Covers, upper}
 use Rattle.model.proofs.Groups.{Apart, empty, other, held, Clique, Cliques, groups}
 use Rattle.model.proofs.Conflicts
 use Rattle.model.proofs.Residuals
+use Rattle.model.proofs.Residuals.{Closed, RightSteps}
 use Rattle.model.proofs.Minutes
 
 -- ---- the groups of a right step: any two turns that it touches in one of them conflict
@@ -50,7 +51,7 @@ module _ (T : Turns) where
 module _ (T : Turns) (R : List ℕ) (range : All (λ t. t < T .count) R) (apart : Apart (conflict T) R) where
   -- with any cost that covers what a right step takes from the set
   pub bound-cost : (cost : List ℤ → Step → ℕ) → ((s : List ℤ) (x : Step) → Right T s x → sum (taken T s x) R ≤ cost s x) →
-      {xs : List Step} → Each (afterStep T) (Right T) (initial T) xs → ((t : ℕ) → t < T .count → isOpen (afterSteps T (initial T) xs) t ≡ false) → sum (T .worth) R ≤ total (afterStep T) cost (initial T) xs
+      {xs : List Step} → RightSteps T (initial T) xs → Closed T (afterSteps T (initial T) xs) → sum (T .worth) R ≤ total (afterStep T) cost (initial T) xs
   unfolding afterSteps
   bound-cost cost h {xs} r p =
       omega (
@@ -70,7 +71,7 @@ module _ (T : Turns) (R : List ℕ) (range : All (λ t. t < T .count) R) (apart 
     totals s [] = omega arith
     totals s (x ∷ xs) = omega (arith, totals (afterStep T s x) xs)
 
-    pub bound-times : {xs : List Step} → Each (afterStep T) (Right T) (initial T) xs → ((t : ℕ) → t < T .count → isOpen (afterSteps T (initial T) xs) t ≡ false) → sum (T .worth) R ≤ k * tally xs
+    pub bound-times : {xs : List Step} → RightSteps T (initial T) xs → Closed T (afterSteps T (initial T) xs) → sum (T .worth) R ≤ k * tally xs
     bound-times {xs} r p = omega (arith, totals (initial T) xs, bound-cost (λ s x. k * x .amount) h r p)
 
   -- k groups that hold what a step touches, any two of a group in conflict: at most k times the amount
@@ -93,10 +94,10 @@ module _ (T : Turns) (R : List ℕ) (range : All (λ t. t < T .count) R) (apart 
 
 -- ---- against feasible sets
 
-module _ (T : Turns) (long : PositiveLengths T) {R : List ℕ} (feasible : Feasible T R) where
+module _ (T : Turns) (lengths : PositiveLengths T) {R : List ℕ} (feasible : Feasible T R) where
   apart-head : {t : ℕ} {ts : List ℕ} → t < T .count → All (λ u. u < T .count) ts → All (λ u. t ≢ u) ts → All (λ u. t ≢ u → Conflict T t u → ⊥) ts → All (λ u. conflict T t u ≡ false) ts
   apart-head l none none none = none
-  apart-head {t} l (more {t = u} m ms) (more d ds) (more h hs) = more (Minutes.no-conflict-is T long t u l m .1 (h d)) (apart-head l ms ds hs)
+  apart-head {t} l (more {t = u} m ms) (more d ds) (more h hs) = more (Minutes.no-conflict-is T lengths t u l m .1 (h d)) (apart-head l ms ds hs)
 
   apart-all : {ts : List ℕ} → All (λ t. t < T .count) ts → Distinct ts → All (λ t. All (λ u. t ≢ u → Conflict T t u → ⊥) ts) ts → Apart (conflict T) ts
   apart-all none Distinct.empty none = empty
@@ -105,7 +106,7 @@ module _ (T : Turns) (long : PositiveLengths T) {R : List ℕ} (feasible : Feasi
   apart : Apart (conflict T) R
   apart = apart-all (feasible .numbers) (feasible .once) (feasible .apart)
 
-  module _ {xs : List Step} (right : Each (afterStep T) (Right T) (initial T) xs) (closed : (t : ℕ) → t < T .count → isOpen (afterSteps T (initial T) xs) t ≡ false) where
+  module _ {xs : List Step} (right : RightSteps T (initial T) xs) (closed : Closed T (afterSteps T (initial T) xs)) where
     -- every feasible set is worth at most twice the tally
     pub bound-twice : worthOf T R ≤ 2 * tally xs
     bound-twice = bound-times T R (feasible .numbers) apart 2 (two-groups T R (feasible .numbers) apart) right closed

@@ -1,6 +1,6 @@
--- Choosing one turn after another wherever it fits, for any test of what fits, and sums over the chosen turns. Assumes nothing.
+-- Choosing one turn after another wherever it fits, for any test of what fits, and sums over the chosen turns. Of the source only lines 8 to 11 of 5.2.1: add J if that is feasible. Assumes nothing.
 use mathlib.Core.Path.{_≡_, refl, sym, ap, _∙_}
-use mathlib.Core.Logic.{_⊎_, inl, inr, ⊎-elim}
+use mathlib.Core.Logic.{_⊎_, inl, inr}
 use mathlib.Core.List.{List, [], _∷_}
 use mathlib.Core.Bool.{Bool, true, false, cond}
 use Prim.Native.Nat.{ℕ, zero, suc, _+_, _≤_, _<_}
@@ -10,7 +10,7 @@ use lib.Dec.{eqb}
 use lib.ListN.{length, set, replicate, length-set}
 use lib.Seq.{getD-set-same, getD-set-other}
 use borrow.Author.Tests.{eqb-true}
-use Rattle.model.specs.Lists.{sum, below}
+use Rattle.model.specs.Lists.{below}
 use Rattle.model.specs.Choice.{has, chosen, choose, back, fill}
 use Rattle.model.proofs.Bools.{not-both, up-to}
 use Rattle.model.proofs.Sums.{sum-add, sum-mono, sum-point, sum-room, all-of, all-below}

@@ -1,7 +1,7 @@
 -- Where the gap is 0: two turns of a minute or more overlap just if some minute is held by both, and the test of conflict is the reading of it. The source's intervals are half open likewise (5.2). Assumes nothing.
 use mathlib.Core.Path.{_≡_}
 use mathlib.Core.Logic.{_↔_}
-use mathlib.Core.Bool.{Bool, true, false}
+use mathlib.Core.Bool.{true, false}
 use Prim.Native.Nat.{ℕ, _<_, max}
 use native.Mathlib.Omega.{arith}
 use Rattle.model.specs.Turns.{Turns, PositiveLengths, gap, overlap, conflict, Holds, Conflict, same-slope, same-groomer}
@@ -23,23 +23,23 @@ module _ (T : Turns) where
   pub share-a-minute : (x y : ℕ) → T .start x < T .end x → T .start y < T .end y → overlap T x y ≡ true ↔ ((minute : ℕ) × Holds T x minute × Holds T y minute)
   share-a-minute x y hx hy = (overlap-minute x y hx hy, λ (minute, p, q). minute-overlap x y minute p q)
 
-  pub Conflict-test : (x y : ℕ) → Conflict T x y → conflict T x y ≡ true
-  Conflict-test x y (same-slope e) = Conflicts.conflicts T x y (Conflicts.slopes (Conflicts.is-slope T x y e))
-  Conflict-test x y (same-groomer e m p q) = Conflicts.conflicts T x y (Conflicts.groomers (Conflicts.is-groomer T x y e (minute-overlap x y m p q)))
+  pub reads-conflict : (x y : ℕ) → Conflict T x y → conflict T x y ≡ true
+  reads-conflict x y (same-slope e) = Conflicts.conflicts T x y (Conflicts.slopes (Conflicts.is-slope T x y e))
+  reads-conflict x y (same-groomer e m p q) = Conflicts.conflicts T x y (Conflicts.groomers (Conflicts.is-groomer T x y e (minute-overlap x y m p q)))
 
-  module _ (long : PositiveLengths T) where
-    pub test-Conflict : (x y : ℕ) → x < T .count → y < T .count → conflict T x y ≡ true → Conflict T x y
-    test-Conflict x y hx hy e = go (Conflicts.ways T x y e)
+  module _ (lengths : PositiveLengths T) where
+    pub conflict-reads : (x y : ℕ) → x < T .count → y < T .count → conflict T x y ≡ true → Conflict T x y
+    conflict-reads x y hx hy e = go (Conflicts.ways T x y e)
       where
         go : Conflicts.Ways T x y → Conflict T x y
         go (Conflicts.slopes h) = same-slope (Conflicts.slope-is T x y h)
         go (Conflicts.groomers h) =
             let g = Conflicts.groomer-is T x y h in
-            let m = overlap-minute x y (long x hx) (long y hy) (g .1) in
+            let m = overlap-minute x y (lengths x hx) (lengths y hy) (g .1) in
             same-groomer (g .0) (m .0) (m .1) (m .2)
 
     pub conflict-is : (x y : ℕ) → x < T .count → y < T .count → conflict T x y ≡ true ↔ Conflict T x y
-    conflict-is x y hx hy = (test-Conflict x y hx hy, Conflict-test x y)
+    conflict-is x y hx hy = (conflict-reads x y hx hy, reads-conflict x y)
 
     pub no-conflict-is : (x y : ℕ) → x < T .count → y < T .count → conflict T x y ≡ false ↔ (Conflict T x y → ⊥)
-    no-conflict-is x y hx hy = (λ e c. not-both (Conflict-test x y c) e, λ h. fails (conflict T x y) (λ e. h (test-Conflict x y hx hy e)))
+    no-conflict-is x y hx hy = (λ e c. not-both (reads-conflict x y c) e, λ h. fails (conflict T x y) (λ e. h (conflict-reads x y hx hy e)))

@@ -1,28 +1,29 @@
 -- Algorithm IS (5.2.1, with the machines of 5.2.4) returns what going back over the planner's steps chooses: some derivation does, and so does every one, in whatever order spent intervals are removed. Assumes nothing.
 use mathlib.Core.Path.{_≡_, refl, sym, ap, _∙_}
-use mathlib.Core.Logic.{_≢_, _↔_, _⊎_}
-use mathlib.Core.List.{List, [], _∷_, map}
+use mathlib.Core.Logic.{_≢_, _↔_}
+use mathlib.Core.List.{List, [], _∷_}
 use mathlib.Core.Bool.{Bool, true, false, not, cond, _&&_, _||_}
 use Prim.Native.Nat.{ℕ, zero, suc, _≤_, _<_}
 use native.Mathlib.Omega.{arith}
 use native.Mathlib.Decide.{ℕ-discrete, decLt}
 use lib.IntN.{ℤ, pos, _-ℤ_, +ℤ-idr}
-use lib.ListN.{length, set, replicate, getD-replicate}
+use lib.ListN.{set, replicate, getD-replicate}
 use lib.Seq.{getD-set-same, getD-set-other}
 use Rattle.model.specs.Turns.{Turns, PositiveLengths, bySlope, byGroomer, conflict}
 use Rattle.model.specs.Steps.{Step, residual, above, isOpen, left, initial, touches, afterStep}
 use Rattle.model.specs.Choice.{has, fits, choose, back, fill, goBack, choice}
 use Rattle.model.specs.Pick.{pick, nextStep, plan, steps, Picked}
-use Rattle.model.specs.Rules.{Independent, Right, Each, done, step}
-use Rattle.model.specs.IntervalSelection.{near, w₁, w₂, Empty, Weighty, EndsFirst, IS, line1, line3, line9, line11, Selects}
+use Rattle.model.specs.Rules.{Independent, Right}
+use Rattle.model.specs.IntervalSelection.{neighbour, w₁, w₂, AllPositive, EndsFirst, IS, line1, line3, line9, line11, Selects}
 use Rattle.model.proofs.Bools.{not-both, fails, up-to}
 use Rattle.model.proofs.Choices.{put-keeps, choose-cases}
-use Rattle.model.proofs.Filled.{NoConflict, apart-fits, put-apart, goBack-apart, goBack-length, goBack-earns, repays}
+use Rattle.model.proofs.Filled.{apart-fits, put-apart, goBack-apart, goBack-length, goBack-earns}
 use Rattle.model.proofs.Picks.{pick-picked, picked-pick, pick-count, pick-none, nextStep-right}
-use Rattle.model.proofs.Planned.{opens, opens-fall, opens-some, opens-most, plan-goes, plan-stops, plan-ind, plan-right}
+use Rattle.model.proofs.Planned.{opens, opens-fall, opens-some, opens-most, plan-goes, plan-stops, plan-right}
 use Rattle.model.proofs.Readings.{apart-reads}
 use Rattle.model.proofs.Minutes
 use Rattle.model.proofs.Residuals
+use Rattle.model.proofs.Residuals.{Closed, RightSteps}
 
 -- ---- removing from a set
 
@@ -53,9 +54,9 @@ module _ (T : Turns) where
         gone = λ t l e. absurd (not-both (getD-replicate (T .count) t true false l) e);
       }
 
-  near-is : (j I : ℕ) → near T j I ≡ conflict T j I
-  unfolding near conflict
-  near-is j I = go (bySlope T j I) (byGroomer T j I)
+  neighbour-is : (j I : ℕ) → neighbour T j I ≡ conflict T j I
+  unfolding neighbour conflict
+  neighbour-is j I = go (bySlope T j I) (byGroomer T j I)
     where
       go : (a b : Bool) → (a || (not a && b)) ≡ (a || b)
       go true b = refl
@@ -82,7 +83,7 @@ module _ (T : Turns) where
         go t m f (no q) = a .gone t m (sym (getD-set-other A i t false false q) ∙ f)
 
     -- line 5 picks the planner's turn
-    ends-first-picked : (j : ℕ) → Weighty T A w → EndsFirst T A j → Picked T s j
+    ends-first-picked : (j : ℕ) → AllPositive T A w → EndsFirst T A j → Picked T s j
     ends-first-picked j h e =
         record {
           inside = e .inside;
@@ -90,7 +91,7 @@ module _ (T : Turns) where
           earliest = λ t l o d. e .earliest t l (open-member t l o) d;
         }
 
-    picked-ends-first : (j : ℕ) → Weighty T A w → Picked T s j → EndsFirst T A j
+    picked-ends-first : (j : ℕ) → AllPositive T A w → Picked T s j → EndsFirst T A j
     picked-ends-first j h p =
         record {
           inside = p .inside;
@@ -99,11 +100,11 @@ module _ (T : Turns) where
         }
 
     -- line 6 does what the step does
-    splitting : Weighty T A w → (x : Step) → Right T s x → Agrees T A (w₂ T w (x .turn)) (afterStep T s x)
+    splitting : AllPositive T A w → (x : Step) → Right T s x → Agrees T A (w₂ T w (x .turn)) (afterStep T s x)
     unfolding w₂ w₁
     splitting h x q =
         record {
-          same = λ t l e. rw (Residuals.residual-step T s x t, reached t (member-open t l e ∙ h t l e), near-is (x .turn) t, a .same t l e, weight) (go (residual s t) (conflict T (x .turn) t));
+          same = λ t l e. rw (Residuals.residual-step T s x t, reached t (member-open t l e ∙ h t l e), neighbour-is (x .turn) t, a .same t l e, weight) (go (residual s t) (conflict T (x .turn) t));
           gone = λ t l e. fails (isOpen (afterStep T s x) t) (λ o. omega (arith, Residuals.open-left (afterStep T s x) t o, Residuals.left-after T s x t, Residuals.closed-left s t (a .gone t l e)));
         }
       where
@@ -136,9 +137,9 @@ module _ (T : Turns) where
   choose-not S j e = rw e
 
   -- lines 8 and 10: after a right step J can be added just if it fits
-  feasible-is : PositiveLengths T → {s : List ℤ} {x : Step} (xs : List Step) → Right T s x → Each (afterStep T) (Right T) (afterStep T s x) xs →
+  feasible-is : PositiveLengths T → {s : List ℤ} {x : Step} (xs : List Step) → Right T s x → RightSteps T (afterStep T s x) xs →
       fits T (goBack T xs) (x .turn) ≡ true ↔ Independent T (set (goBack T xs) (x .turn) true)
-  feasible-is long {s} {x} xs q qs = (λ e. apart-reads T (set U j true) long (put-apart T U j e (goBack-apart T xs)), λ h. apart-fits T U j (λ t l e. Minutes.no-conflict-is T long t j l (q .inside) .1 (h t j l (q .inside) (differs t e) (put-keeps U j t e) (getD-set-same U j true false (omega (arith, goBack-length T xs, q .inside))))))
+  feasible-is lengths {s} {x} xs q qs = (λ e. apart-reads T (set U j true) lengths (put-apart T U j e (goBack-apart T xs)), λ h. apart-fits T U j (λ t l e. Minutes.no-conflict-is T lengths t j l (q .inside) .1 (h t j l (q .inside) (differs t e) (put-keeps U j t e) (getD-set-same U j true false (omega (arith, goBack-length T xs, q .inside))))))
     where
       U : List Bool
       U = goBack T xs
@@ -147,18 +148,18 @@ module _ (T : Turns) where
       j = x .turn
 
       differs : (t : ℕ) → has U t ≡ true → t ≢ j
-      differs t e d = omega (arith, goBack-earns T qs .lives t e, repays T s x q .spent, ap (left (afterStep T s x)) d)
+      differs t e d = omega (arith, goBack-earns T qs .lives t e, Residuals.right-spends T s x q, ap (left (afterStep T s x)) d)
 
   -- ---- every derivation
 
-  module _ (long : PositiveLengths T) where
+  module _ (lengths : PositiveLengths T) where
     -- lines 5 to 7: the call for the weights that stay has returned S
-    called : {A S : List Bool} {w : ℕ → ℤ} (j : ℕ) → Weighty T A w → EndsFirst T A j → (k : ℕ) (s : List ℤ) → opens T s ≤ k → Agrees T A w s →
+    called : {A S : List Bool} {w : ℕ → ℤ} (j : ℕ) → AllPositive T A w → EndsFirst T A j → (k : ℕ) (s : List ℤ) → opens T s ≤ k → Agrees T A w s →
         ((k : ℕ) (s : List ℤ) → opens T s ≤ k → Agrees T A (w₂ T w j) s → S ≡ goBack T (plan T k s)) →
         (fits T S j ≡ true ↔ Independent T (set S j true)) × (choose (fits T) S j ≡ goBack T (plan T k s))
     unfolding nextStep
     called j h e zero s m a ih = absurd (omega (arith, opens-some T s j (e .inside) (ends-first-picked a j h e .live)))
-    called {A} {S} {w} j h e (suc k) s m a ih = (rw (r, ← at-j) (feasible-is long (plan T k after) q (plan-right T k after)), rw (plan-goes T k s l, goBack-goes, r, ← at-j))
+    called {A} {S} {w} j h e (suc k) s m a ih = (rw (r, ← at-j) (feasible-is lengths (plan T k after) q (plan-right T k after)), rw (plan-goes T k s l, goBack-goes, r, ← at-j))
       where
         at-j : pick T s ≡ j
         at-j = picked-pick T s j (ends-first-picked a j h e)
@@ -212,12 +213,12 @@ module _ (T : Turns) where
                 )
             by false e d q = (B, b, up-to (λ t. has B t ≡ true → isOpen s t ≡ true) i o (λ p. absurd (not-both p e)), f)
 
-    derived-none : (s : List ℤ) → ((t : ℕ) → t < T .count → isOpen s t ≡ false) → {A : List Bool} {w : ℕ → ℤ} → Agrees T A w s → IS T A w (goBack T [])
+    derived-none : (s : List ℤ) → Closed T s → {A : List Bool} {w : ℕ → ℤ} → Agrees T A w s → IS T A w (goBack T [])
     derived-none s h a =
         let (B, b, o, f) = removable a (T .count) (omega arith) in
         f (goBack T []) (rw goBack-none (line1 (λ I l. fails (has B I) (λ e. not-both (o I l e) (h I l)))))
 
-    derived-step : (s : List ℤ) (xs : List Step) → pick T s < T .count → Each (afterStep T) (Right T) (afterStep T s (nextStep T s)) xs →
+    derived-step : (s : List ℤ) (xs : List Step) → pick T s < T .count → RightSteps T (afterStep T s (nextStep T s)) xs →
         ((A : List Bool) (w : ℕ → ℤ) → Agrees T A w (afterStep T s (nextStep T s)) → IS T A w (goBack T xs)) →
         {A : List Bool} {w : ℕ → ℤ} → Agrees T A w s → IS T A w (goBack T (nextStep T s ∷ xs))
     unfolding nextStep
@@ -225,21 +226,21 @@ module _ (T : Turns) where
       where
         go : Removable A w s (T .count) → IS T A w (goBack T (nextStep T s ∷ xs))
         go (B, b, o, f) =
-            let weighty : Weighty T B w = λ t m e. sym (member-open b t m e) ∙ o t m e in
+            let positive : AllPositive T B w = λ t m e. sym (member-open b t m e) ∙ o t m e in
             let q = nextStep-right T s l in
-            let first = picked-ends-first b (pick T s) weighty (pick-picked T s l) in
-            let d : IS T B (w₂ T w (pick T s)) (goBack T xs) = ih B (w₂ T w (pick T s)) (splitting b weighty (nextStep T s) q) in
-            let fit = feasible-is long xs q r in
+            let first = picked-ends-first b (pick T s) positive (pick-picked T s l) in
+            let d : IS T B (w₂ T w (pick T s)) (goBack T xs) = ih B (w₂ T w (pick T s)) (splitting b positive (nextStep T s) q) in
+            let fit = feasible-is lengths xs q r in
             f (goBack T (nextStep T s ∷ xs))
             (rw goBack-goes
             (choose-cases (fits T) (IS T B w) (goBack T xs) (pick T s)
-            (λ e. line9 (pick T s) weighty first d (fit .0 e))
-            (λ e. line11 (pick T s) weighty first d (λ i. not-both (fit .1 i) e))))
+            (λ e. line9 (pick T s) positive first d (fit .0 e))
+            (λ e. line11 (pick T s) positive first d (λ i. not-both (fit .1 i) e))))
 
     derived : (k : ℕ) (s : List ℤ) → opens T s ≤ k → (A : List Bool) (w : ℕ → ℤ) → Agrees T A w s → IS T A w (goBack T (plan T k s))
     derived zero s m A w a = rw (plan-stops T zero s (omega (arith, none))) (derived-none s closed a)
       where
-        closed : (t : ℕ) → t < T .count → isOpen s t ≡ false
+        closed : Closed T s
         closed t l = fails (isOpen s t) (λ e. omega (arith, opens-some T s t l e))
 
         none : pick T s ≡ T .count

@@ -1,6 +1,6 @@
--- Sums over lists of numbers, and what holds of every element. Assumes nothing.
+-- Sums over lists of numbers, and what holds of every element. None of this is in the source. Assumes nothing.
 use mathlib.Core.Path.{_≡_, refl, ap}
-use mathlib.Core.Bool.{Bool, true, false, cond}
+use mathlib.Core.Bool.{cond}
 use mathlib.Core.List.{List, [], _∷_}
 use Prim.Native.Nat.{ℕ, zero, suc, _+_, _≤_, _<_}
 use native.Mathlib.Omega.{arith}

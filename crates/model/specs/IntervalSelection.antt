@@ -12,12 +12,12 @@ use Rattle.model.specs.Choice.{has}
 use Rattle.model.specs.Rules.{Independent}
 
 -- I is of J's activity, as J is, or of another one and intersects J on the same machine
-unfoldable pub near : Turns → ℕ → ℕ → Bool
-near T J I = bySlope T J I || (not (bySlope T J I) && byGroomer T J I)
+unfoldable pub neighbour : Turns → ℕ → ℕ → Bool
+neighbour T J I = bySlope T J I || (not (bySlope T J I) && byGroomer T J I)
 
 -- line 6: the weight that is split off, and the weight that stays
 unfoldable pub w₁ : Turns → (ℕ → ℤ) → ℕ → ℕ → ℤ
-w₁ T w J I = cond (near T J I) (w J) (pos 0)
+w₁ T w J I = cond (neighbour T J I) (w J) (pos 0)
 
 unfoldable pub w₂ : Turns → (ℕ → ℤ) → ℕ → ℕ → ℤ
 w₂ T w J I = w I -ℤ w₁ T w J I
@@ -27,8 +27,8 @@ abbrev pub Empty : Turns → List Bool → Type 0
 Empty T A = (I : ℕ) → I < T .count → has A I ≡ false
 
 -- each interval in A has weight
-abbrev pub Weighty : Turns → List Bool → (ℕ → ℤ) → Type 0
-Weighty T A w = (I : ℕ) → I < T .count → has A I ≡ true → above (w I) ≡ true
+abbrev pub AllPositive : Turns → List Bool → (ℕ → ℤ) → Type 0
+AllPositive T A w = (I : ℕ) → I < T .count → has A I ≡ true → above (w I) ≡ true
 
 -- line 5: J has the earliest end in A; of equals, which the source leaves open, the lowest turn number is taken
 pub record EndsFirst (T : Turns) (A : List Bool) (J : ℕ) : Type 0 where
@@ -42,9 +42,9 @@ pub data IS (T : Turns) : List Bool → (ℕ → ℤ) → List Bool → Type 0 w
   -- lines 2 and 3: any interval without weight may be the one removed
   line3 : {A S : List Bool} {w : ℕ → ℤ} (I : ℕ) → I < T .count → has A I ≡ true → above (w I) ≡ false → IS T (set A I false) w S → IS T A w S
   -- lines 4 to 9: J is added, if that is feasible
-  line9 : {A S : List Bool} {w : ℕ → ℤ} (J : ℕ) → Weighty T A w → EndsFirst T A J → IS T A (w₂ T w J) S → Independent T (set S J true) → IS T A w (set S J true)
+  line9 : {A S : List Bool} {w : ℕ → ℤ} (J : ℕ) → AllPositive T A w → EndsFirst T A J → IS T A (w₂ T w J) S → Independent T (set S J true) → IS T A w (set S J true)
   -- lines 10 and 11: it is not
-  line11 : {A S : List Bool} {w : ℕ → ℤ} (J : ℕ) → Weighty T A w → EndsFirst T A J → IS T A (w₂ T w J) S → (Independent T (set S J true) → ⊥) → IS T A w S
+  line11 : {A S : List Bool} {w : ℕ → ℤ} (J : ℕ) → AllPositive T A w → EndsFirst T A J → IS T A (w₂ T w J) S → (Independent T (set S J true) → ⊥) → IS T A w S
 
 -- the first call: all intervals, with their own weights
 abbrev pub Selects : Turns → List Bool → Type 0
