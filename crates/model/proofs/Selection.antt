@@ -10,7 +10,7 @@ use lib.IntN.{ℤ, pos, _-ℤ_, +ℤ-idr}
 use lib.ListN.{set, replicate, getD-replicate}
 use lib.Seq.{getD-set-same, getD-set-other}
 use Rattle.model.specs.Turns.{Turns, PositiveLengths, bySlope, byGroomer, conflict}
-use Rattle.model.specs.Steps.{Step, residual, above, isOpen, left, initial, touches, afterStep}
+use Rattle.model.specs.Steps.{Step, residual, above, isOpen, left, initial, afterStep}
 use Rattle.model.specs.Choice.{has, fits, choose, back, fill, goBack, choice}
 use Rattle.model.specs.Pick.{pick, nextStep, plan, steps, Picked}
 use Rattle.model.specs.Rules.{Independent, Right}
@@ -54,9 +54,9 @@ module _ (T : Turns) where
         gone = λ t l e. absurd (not-both (getD-replicate (T .count) t true false l) e);
       }
 
-  neighbour-is : (j I : ℕ) → neighbour T j I ≡ conflict T j I
+  neighbour-is : (j t : ℕ) → neighbour T j t ≡ conflict T j t
   unfolding neighbour conflict
-  neighbour-is j I = go (bySlope T j I) (byGroomer T j I)
+  neighbour-is j t = go (bySlope T j t) (byGroomer T j t)
     where
       go : (a b : Bool) → (a || (not a && b)) ≡ (a || b)
       go true b = refl
@@ -104,13 +104,10 @@ module _ (T : Turns) where
     unfolding w₂ w₁
     splitting h x q =
         record {
-          same = λ t l e. rw (Residuals.residual-step T s x t, reached t (member-open t l e ∙ h t l e), neighbour-is (x .turn) t, a .same t l e, weight) (go (residual s t) (conflict T (x .turn) t));
+          same = λ t l e. rw (Residuals.residual-step T s x t, Residuals.touches-open T s x (x .turn) t (member-open t l e ∙ h t l e), neighbour-is (x .turn) t, a .same t l e, weight) (go (residual s t) (conflict T (x .turn) t));
           gone = λ t l e. fails (isOpen (afterStep T s x) t) (λ o. omega (arith, Residuals.open-left (afterStep T s x) t o, Residuals.left-after T s x t, Residuals.closed-left s t (a .gone t l e)));
         }
       where
-        reached : (t : ℕ) → isOpen s t ≡ true → touches T s (x .turn) t ≡ conflict T (x .turn) t
-        reached t o = Residuals.touches-open T s x (x .turn) t o
-
         weight : w (x .turn) ≡ pos (x .amount)
         weight = a .same (x .turn) (q .inside) (open-member (x .turn) (q .inside) (q .live)) ∙ Residuals.open-residual s (x .turn) (q .live) ∙ ap pos (sym (q .owed))
 
@@ -139,16 +136,20 @@ module _ (T : Turns) where
   -- lines 8 and 10: after a right step J can be added just if it fits
   feasible-is : PositiveLengths T → {s : List ℤ} {x : Step} (xs : List Step) → Right T s x → RightSteps T (afterStep T s x) xs →
       fits T (goBack T xs) (x .turn) ≡ true ↔ Independent T (set (goBack T xs) (x .turn) true)
-  feasible-is lengths {s} {x} xs q qs = (λ e. apart-reads T (set U j true) lengths (put-apart T U j e (goBack-apart T xs)), λ h. apart-fits T U j (λ t l e. Minutes.no-conflict-is T lengths t j l (q .inside) .1 (h t j l (q .inside) (differs t e) (put-keeps U j t e) (getD-set-same U j true false (omega (arith, goBack-length T xs, q .inside))))))
+  feasible-is lengths {s} {x} xs q qs = (λ e. apart-reads T (set U (x .turn) true) lengths (put-apart T U (x .turn) e (goBack-apart T xs)), λ h. apart-fits T U (x .turn) (free h))
     where
       U : List Bool
       U = goBack T xs
 
-      j : ℕ
-      j = x .turn
+      added : has (set U (x .turn) true) (x .turn) ≡ true
+      added = getD-set-same U (x .turn) true false (omega (arith, goBack-length T xs, q .inside))
 
-      differs : (t : ℕ) → has U t ≡ true → t ≢ j
+      -- what is chosen is open after the step, and J is not
+      differs : (t : ℕ) → has U t ≡ true → t ≢ x .turn
       differs t e d = omega (arith, goBack-earns T qs .lives t e, Residuals.right-spends T s x q, ap (left (afterStep T s x)) d)
+
+      free : Independent T (set U (x .turn) true) → (t : ℕ) → t < T .count → has U t ≡ true → conflict T t (x .turn) ≡ false
+      free h t l e = Minutes.no-conflict-is T lengths t (x .turn) l (q .inside) .1 (h t (x .turn) l (q .inside) (differs t e) (put-keeps U (x .turn) t e) added)
 
   -- ---- every derivation
 
@@ -216,7 +217,7 @@ module _ (T : Turns) where
     derived-none : (s : List ℤ) → Closed T s → {A : List Bool} {w : ℕ → ℤ} → Agrees T A w s → IS T A w (goBack T [])
     derived-none s h a =
         let (B, b, o, f) = removable a (T .count) (omega arith) in
-        f (goBack T []) (rw goBack-none (line1 (λ I l. fails (has B I) (λ e. not-both (o I l e) (h I l)))))
+        f (goBack T []) (rw goBack-none (line1 (λ t l. fails (has B t) (λ e. not-both (o t l e) (h t l)))))
 
     derived-step : (s : List ℤ) (xs : List Step) → pick T s < T .count → RightSteps T (afterStep T s (nextStep T s)) xs →
         ((A : List Bool) (w : ℕ → ℤ) → Agrees T A w (afterStep T s (nextStep T s)) → IS T A w (goBack T xs)) →

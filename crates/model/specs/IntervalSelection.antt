@@ -41,7 +41,7 @@ pub data IS (T : Turns) : List Bool → (ℕ → ℤ) → List Bool → Type 0 w
   line1 : {A : List Bool} {w : ℕ → ℤ} → Empty T A → IS T A w (replicate (T .count) false)
   -- lines 2 and 3: any interval without weight may be the one removed
   line3 : {A S : List Bool} {w : ℕ → ℤ} (I : ℕ) → I < T .count → has A I ≡ true → above (w I) ≡ false → IS T (set A I false) w S → IS T A w S
-  -- lines 4 to 9: J is added, if that is feasible
+  -- lines 4 to 9: J is added, if that is feasible: no two then conflict
   line9 : {A S : List Bool} {w : ℕ → ℤ} (J : ℕ) → AllPositive T A w → EndsFirst T A J → IS T A (w₂ T w J) S → Independent T (set S J true) → IS T A w (set S J true)
   -- lines 10 and 11: it is not
   line11 : {A S : List Bool} {w : ℕ → ℤ} (J : ℕ) → AllPositive T A w → EndsFirst T A J → IS T A (w₂ T w J) S → (Independent T (set S J true) → ⊥) → IS T A w S
