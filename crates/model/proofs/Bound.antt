@@ -80,13 +80,13 @@ module _ (T : Turns) (R : List ℕ) (range : All (λ t. t < T .count) R) (apart 
   unfolding taken
   by-groups s x Gs h k = groups (λ t. t < T .count) (conflict T) (x .amount) Gs (touches T s (x .turn)) h k range apart
 
-  -- no feasible set has more than two of the turns touched (5.2.1, 5.2.4)
+  -- at most two of the turns touched are in the set: one of J's slope, and one that overlaps J on its groomer (5.2.1, 5.2.4)
   pub two-groups : (s : List ℤ) (x : Step) → Right T s x → sum (taken T s x) R ≤ 2 * x .amount
   unfolding held conflict
   two-groups s x q =
       by-groups s x (bySlope T (x .turn) ∷ byGroomer T (x .turn) ∷ []) (λ t l e. rw or-false (Residuals.touched-conflict T s x (x .turn) t e)) (slope-group T s x, (groomer-group T s x q, tt))
 
-  -- nor more than one, where no slope has two turns (5.2.2)
+  -- at most one, where no slope has two turns (5.2.2)
   pub single-group : OneTurnASlope T → (s : List ℤ) (x : Step) → Right T s x → sum (taken T s x) R ≤ 1 * x .amount
   unfolding held
   single-group single s x q =
@@ -107,10 +107,10 @@ module _ (T : Turns) (lengths : PositiveLengths T) {R : List ℕ} (feasible : Fe
   apart = apart-all (feasible .numbers) (feasible .once) (feasible .apart)
 
   module _ {xs : List Step} (right : RightSteps T (initial T) xs) (closed : Closed T (afterSteps T (initial T) xs)) where
-    -- every feasible set is worth at most twice the tally
+    -- the factor 2 of 5.2.1 and 5.2.4: every feasible set is worth at most twice the tally
     pub bound-twice : worthOf T R ≤ 2 * tally xs
     bound-twice = bound-times T R (feasible .numbers) apart 2 (two-groups T R (feasible .numbers) apart) right closed
 
-    -- at most the tally, where no slope has two turns
+    -- the factor 1 of 5.2.2: at most the tally, where no slope has two turns
     pub bound-once : OneTurnASlope T → worthOf T R ≤ tally xs
     bound-once single = omega (arith, bound-times T R (feasible .numbers) apart 1 (single-group T R (feasible .numbers) apart single) right closed)

@@ -46,6 +46,14 @@ module _ (fits : List Bool → ℕ → Bool) where
       go true e = h e
       go false e = k e
 
+  pub choose-set : (S : List Bool) (j : ℕ) → fits S j ≡ true → choose fits S j ≡ set S j true
+  unfolding choose
+  choose-set S j e = rw e
+
+  pub choose-not : (S : List Bool) (j : ℕ) → fits S j ≡ false → choose fits S j ≡ S
+  unfolding choose
+  choose-not S j e = rw e
+
   -- what one turn more keeps, if it fits, going back and filling keep
   module _ (P : List Bool → Type 0) (put : (S : List Bool) (j : ℕ) → fits S j ≡ true → P S → P (set S j true)) where
     pub choose-kept : (S : List Bool) (j : ℕ) → P S → P (choose fits S j)

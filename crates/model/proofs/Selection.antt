@@ -11,13 +11,13 @@ use lib.ListN.{set, replicate, getD-replicate}
 use lib.Seq.{getD-set-same, getD-set-other}
 use Rattle.model.specs.Turns.{Turns, PositiveLengths, bySlope, byGroomer, conflict}
 use Rattle.model.specs.Steps.{Step, residual, above, isOpen, left, initial, afterStep}
-use Rattle.model.specs.Choice.{has, fits, choose, back, fill, goBack, choice}
+use Rattle.model.specs.Choice.{has, fits, choose, fill, goBack, choice}
 use Rattle.model.specs.Pick.{pick, nextStep, plan, steps, Picked}
 use Rattle.model.specs.Rules.{Independent, Right}
 use Rattle.model.specs.IntervalSelection.{neighbour, w₁, w₂, AllPositive, EndsFirst, IS, line1, line3, line9, line11, Selects}
 use Rattle.model.proofs.Bools.{not-both, fails, up-to}
-use Rattle.model.proofs.Choices.{put-keeps, choose-cases}
-use Rattle.model.proofs.Filled.{apart-fits, put-apart, goBack-apart, goBack-length, goBack-earns}
+use Rattle.model.proofs.Choices.{put-keeps, choose-cases, choose-set, choose-not}
+use Rattle.model.proofs.Filled.{apart-fits, put-apart, goBack-apart, goBack-length, goBack-earns, goBack-none, goBack-goes}
 use Rattle.model.proofs.Picks.{pick-picked, picked-pick, pick-count, pick-none, nextStep-right}
 use Rattle.model.proofs.Planned.{opens, opens-fall, opens-some, opens-most, plan-goes, plan-stops, plan-right}
 use Rattle.model.proofs.Readings.{apart-reads}
@@ -117,22 +117,6 @@ module _ (T : Turns) where
 
   -- ---- what is returned
 
-  goBack-none : goBack T [] ≡ replicate (T .count) false
-  unfolding goBack back
-  goBack-none = refl
-
-  goBack-goes : (x : Step) (xs : List Step) → goBack T (x ∷ xs) ≡ choose (fits T) (goBack T xs) (x .turn)
-  unfolding goBack back
-  goBack-goes x xs = refl
-
-  choose-set : (S : List Bool) (j : ℕ) → fits T S j ≡ true → choose (fits T) S j ≡ set S j true
-  unfolding choose
-  choose-set S j e = rw e
-
-  choose-not : (S : List Bool) (j : ℕ) → fits T S j ≡ false → choose (fits T) S j ≡ S
-  unfolding choose
-  choose-not S j e = rw e
-
   -- lines 8 and 10: after a right step J can be added just if it fits
   feasible-is : PositiveLengths T → {s : List ℤ} {x : Step} (xs : List Step) → Right T s x → RightSteps T (afterStep T s x) xs →
       fits T (goBack T xs) (x .turn) ≡ true ↔ Independent T (set (goBack T xs) (x .turn) true)
@@ -180,14 +164,14 @@ module _ (T : Turns) where
     returns : {A S : List Bool} {w : ℕ → ℤ} → IS T A w S → (k : ℕ) (s : List ℤ) → opens T s ≤ k → Agrees T A w s → S ≡ goBack T (plan T k s)
     returns (line1 e) k s m a =
         let none : pick T s ≡ T .count = pick-count T s .1 (λ t l. a .gone t l (e t l)) in
-        rw (plan-stops T k s (omega arith)) (sym goBack-none)
+        rw (plan-stops T k s (omega arith)) (sym (goBack-none T))
     returns (line3 i l e c d) k s m a = returns d k s m (removing a i l e c)
     returns (line9 {S = S} j h e d f) k s m a =
         let (fit, r) = called j h e k s m a (λ k s m a. returns d k s m a) in
-        sym (choose-set S j (fit .1 f)) ∙ r
+        sym (choose-set (fits T) S j (fit .1 f)) ∙ r
     returns (line11 {S = S} j h e d f) k s m a =
         let (fit, r) = called j h e k s m a (λ k s m a. returns d k s m a) in
-        sym (choose-not S j (fails (fits T S j) (λ i. f (fit .0 i)))) ∙ r
+        sym (choose-not (fits T) S j (fails (fits T S j) (λ i. f (fit .0 i)))) ∙ r
 
     -- ---- some derivation
 
