@@ -5,3 +5,5 @@ pub mod Rules
 pub mod Pick
 pub mod Choice
 pub mod Feasible
+pub mod Promises
+pub mod IntervalSelection

@@ -55,3 +55,7 @@ pub record Holds (T : Turns) (x minute : ℕ) : Type 0 where
 pub data Conflict (T : Turns) (x y : ℕ) : Type 0 where
   same-slope : T .slope x ≡ T .slope y → Conflict T x y
   same-groomer : T .groomer x ≡ T .groomer y → (minute : ℕ) → Holds T x minute → Holds T y minute → Conflict T x y
+
+-- every turn is at least a minute long
+abbrev pub PositiveLengths : Turns → Type 0
+PositiveLengths T = (t : ℕ) → t < T .count → T .start t < T .end t

@@ -1,0 +1,100 @@
+-- Tests: what their parts say, and a test of every number below n. None of this is in the source. Assumes nothing.
+use mathlib.Core.Path.{_≡_, refl, sym, ap, _∙_}
+use mathlib.Core.Logic.{_⊎_, inl, inr}
+use mathlib.Core.Bool.{Bool, true, false, not, _&&_, _||_, true≢false}
+use Prim.Native.Nat.{ℕ, zero, suc, _<_}
+use native.Mathlib.Omega.{arith}
+use native.Mathlib.Decide.{ℕ-discrete}
+use Rattle.model.specs.Lists.{every}
+
+pub not-both : {b : Bool} → b ≡ true → b ≡ false → ⊥
+not-both p q = true≢false (sym p ∙ q)
+
+-- a test that cannot pass fails
+pub fails : (b : Bool) → (b ≡ true → ⊥) → b ≡ false
+fails true h = absurd (h refl)
+fails false h = refl
+
+-- ---- and, or, not
+
+pub and-1 : (a b : Bool) → (a && b) ≡ true → a ≡ true
+and-1 true b e = refl
+and-1 false b e = e
+
+pub and-2 : (a b : Bool) → (a && b) ≡ true → b ≡ true
+and-2 true b e = e
+and-2 false b e = absurd (true≢false (sym e))
+
+pub and-of : (a b : Bool) → a ≡ true → b ≡ true → (a && b) ≡ true
+and-of true b e f = f
+and-of false b e f = e
+
+pub or-cases : (a b : Bool) → (a || b) ≡ true → (a ≡ true) ⊎ (b ≡ true)
+or-cases true b e = inl refl
+or-cases false b e = inr e
+
+pub or-1 : (a b : Bool) → a ≡ true → (a || b) ≡ true
+or-1 true b e = refl
+or-1 false b e = absurd (true≢false (sym e))
+
+pub or-2 : (a b : Bool) → b ≡ true → (a || b) ≡ true
+or-2 true b e = refl
+or-2 false b e = e
+
+-- of two tests that do not both pass, the second fails where the first passes
+pub second-fails : (a b : Bool) → not (a && b) ≡ true → a ≡ true → b ≡ false
+second-fails true true e p = sym e
+second-fails true false e p = refl
+second-fails false b e p = absurd (not-both p refl)
+
+pub not-two : (a b : Bool) → (a ≡ true → b ≡ false) → not (a && b) ≡ true
+not-two true b h = ap not (h refl)
+not-two false b h = refl
+
+-- the same of three
+pub third-fails : (a b c : Bool) → not (a && b && c) ≡ true → a ≡ true → b ≡ true → c ≡ false
+third-fails true true true e p q = sym e
+third-fails true true false e p q = refl
+third-fails true false c e p q = absurd (not-both q refl)
+third-fails false b c e p q = absurd (not-both p refl)
+
+pub not-three : (a b c : Bool) → (a ≡ true → b ≡ true → c ≡ false) → not (a && b && c) ≡ true
+not-three true true c h = ap not (h refl refl)
+not-three true false c h = refl
+not-three false b c h = refl
+
+-- ---- every number below n
+
+pub every-at : (p : ℕ → Bool) (n : ℕ) → every p n ≡ true → (t : ℕ) → t < n → p t ≡ true
+unfolding every
+every-at p zero e t h = absurd (omega arith)
+every-at p (suc n) e t h = go (ℕ-discrete t n) (every-at p n (and-2 (p n) (every p n) e) t)
+  where
+    go : Dec (t ≡ n) → (t < n → p t ≡ true) → p t ≡ true
+    go (yes q) ih = ap p q ∙ and-1 (p n) (every p n) e
+    go (no q) ih = ih (omega arith)
+
+pub every-of : (p : ℕ → Bool) (n : ℕ) → ((t : ℕ) → t < n → p t ≡ true) → every p n ≡ true
+unfolding every
+every-of p zero h = refl
+every-of p (suc n) h = and-of (p n) (every p n) (h n (omega arith)) (every-of p n (λ t l. h t (omega arith)))
+
+pub every-not : (p : ℕ → Bool) (n : ℕ) → every p n ≡ false → (t : ℕ) × (t < n) × (p t ≡ false)
+unfolding every
+every-not p zero e = absurd (not-both refl e)
+every-not p (suc n) e = go (p n) refl e (every-not p n)
+  where
+    go : (b : Bool) → p n ≡ b → (b && every p n) ≡ false → (every p n ≡ false → (t : ℕ) × (t < n) × (p t ≡ false)) → (t : ℕ) × (t < suc n) × (p t ≡ false)
+    go true q e ih = let r = ih e in (r .0, omega (arith, r .1), r .2)
+    go false q e ih = (n, omega arith, q)
+
+pub every-fails : (p : ℕ → Bool) (n t : ℕ) → t < n → p t ≡ false → every p n ≡ false
+every-fails p n t l e = fails (every p n) (λ q. not-both (every-at p n q t l) e)
+
+-- a fact of every number below i, and of i
+pub up-to : (P : ℕ → Type 0) (i : ℕ) → ((t : ℕ) → t < i → P t) → P i → (t : ℕ) → t < suc i → P t
+up-to P i h p t l = go (ℕ-discrete t i)
+  where
+    go : Dec (t ≡ i) → P t
+    go (yes q) = rw q p
+    go (no q) = h t (omega arith)

@@ -1,0 +1,17 @@
+pub mod Bools
+pub mod Sums
+pub mod Account
+pub mod Groups
+pub mod Conflicts
+pub mod Residuals
+pub mod Minutes
+pub mod Bound
+pub mod Choices
+pub mod Earnings
+pub mod Filled
+pub mod Picks
+pub mod Planned
+pub mod Readings
+pub mod Promised
+pub mod Limits
+pub mod Selection

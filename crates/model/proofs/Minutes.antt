@@ -1,0 +1,45 @@
+-- Where the gap is 0: two turns of a minute or more overlap just if some minute is held by both, and the test of conflict is the reading of it. The source's intervals are half open likewise (5.2). Assumes nothing.
+use mathlib.Core.Path.{_≡_}
+use mathlib.Core.Logic.{_↔_}
+use mathlib.Core.Bool.{true, false}
+use Prim.Native.Nat.{ℕ, _<_, max}
+use native.Mathlib.Omega.{arith}
+use Rattle.model.specs.Turns.{Turns, PositiveLengths, gap, overlap, conflict, Holds, Conflict, same-slope, same-groomer}
+use Rattle.model.proofs.Bools.{not-both, fails}
+use Rattle.model.proofs.Conflicts
+
+module _ (T : Turns) where
+  -- a shared minute: the later of the two starts
+  pub overlap-minute : (x y : ℕ) → T .start x < T .end x → T .start y < T .end y → overlap T x y ≡ true → (minute : ℕ) × Holds T x minute × Holds T y minute
+  unfolding gap
+  overlap-minute x y hx hy e =
+      let h = Conflicts.overlap-lt T x y e in
+      (max (T .start x) (T .start y), omega arith, omega arith)
+
+  pub minute-overlap : (x y minute : ℕ) → Holds T x minute → Holds T y minute → overlap T x y ≡ true
+  unfolding gap
+  minute-overlap x y minute p q = Conflicts.lt-overlap T x y (omega arith)
+
+  pub share-a-minute : (x y : ℕ) → T .start x < T .end x → T .start y < T .end y → overlap T x y ≡ true ↔ ((minute : ℕ) × Holds T x minute × Holds T y minute)
+  share-a-minute x y hx hy = (overlap-minute x y hx hy, λ (minute, p, q). minute-overlap x y minute p q)
+
+  pub reads-conflict : (x y : ℕ) → Conflict T x y → conflict T x y ≡ true
+  reads-conflict x y (same-slope e) = Conflicts.conflicts T x y (Conflicts.slopes (Conflicts.is-slope T x y e))
+  reads-conflict x y (same-groomer e m p q) = Conflicts.conflicts T x y (Conflicts.groomers (Conflicts.is-groomer T x y e (minute-overlap x y m p q)))
+
+  module _ (lengths : PositiveLengths T) where
+    pub conflict-reads : (x y : ℕ) → x < T .count → y < T .count → conflict T x y ≡ true → Conflict T x y
+    conflict-reads x y hx hy e = go (Conflicts.ways T x y e)
+      where
+        go : Conflicts.Ways T x y → Conflict T x y
+        go (Conflicts.slopes h) = same-slope (Conflicts.slope-is T x y h)
+        go (Conflicts.groomers h) =
+            let g = Conflicts.groomer-is T x y h in
+            let m = overlap-minute x y (lengths x hx) (lengths y hy) (g .1) in
+            same-groomer (g .0) (m .0) (m .1) (m .2)
+
+    pub conflict-is : (x y : ℕ) → x < T .count → y < T .count → conflict T x y ≡ true ↔ Conflict T x y
+    conflict-is x y hx hy = (conflict-reads x y hx hy, reads-conflict x y)
+
+    pub no-conflict-is : (x y : ℕ) → x < T .count → y < T .count → conflict T x y ≡ false ↔ (Conflict T x y → ⊥)
+    no-conflict-is x y hx hy = (λ e c. not-both (reads-conflict x y c) e, λ h. fails (conflict T x y) (λ e. h (conflict-reads x y hx hy e)))
