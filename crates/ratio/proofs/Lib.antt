@@ -1,0 +1,5 @@
+pub mod Turns
+pub mod Signed
+pub mod Steps
+pub mod Chosen
+pub mod Order

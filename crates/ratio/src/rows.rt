@@ -1,0 +1,71 @@
+// A turn is a row of five numbers: slope, groomer, start, length, worth.
+ghost use mathlib.Core.Path.{_≡_};
+ghost use Prim.Native.Nat.{_+_, _*_, _≤_, _<_};
+ghost use lib.ListN.{length};
+ghost use lib.Dec.{eqb};
+ghost use Rattle.model.specs.Turns.{turnsIn, gap, overlap, byGroomer, conflict};
+
+// The free minutes that a groomer needs between two turns.
+const GAP: u32 = 0;
+
+fn wide(x: u16) -> u32
+    ensures { λ r. ⌜ (r ≡ x) × (r < 65536) ⌝ }
+{
+    x as u32
+}
+
+pub fn start_of(table: &[u16], n: usize, t: usize) -> u32
+    requires { ⌜ (t < n) × (5 * n ≤ length (now table)) ⌝ }
+    ensures { λ r. ⌜ (r ≡ turnsIn n (now (table .entry)) .start t) × (r < 65536) ⌝ }
+{
+    wide(table[t * 5 + 2])
+}
+
+pub fn end_of(table: &[u16], n: usize, t: usize) -> u32
+    requires { ⌜ (t < n) × (5 * n ≤ length (now table)) ⌝ }
+    ensures { λ r. ⌜ (r ≡ turnsIn n (now (table .entry)) .end t) × (r < 131072) ⌝ }
+{
+    wide(table[t * 5 + 2]) + wide(table[t * 5 + 3])
+}
+
+pub fn worth_of(table: &[u16], n: usize, t: usize) -> u32
+    requires { ⌜ (t < n) × (5 * n ≤ length (now table)) ⌝ }
+    ensures { λ r. ⌜ (r ≡ turnsIn n (now (table .entry)) .worth t) × (r < 65536) ⌝ }
+{
+    wide(table[t * 5 + 4])
+}
+
+// Whether two turns share a minute, the gap counted to each.
+fn overlaps(table: &[u16], n: usize, x: usize, y: usize) -> bool
+    requires { ⌜ (x < n) × (y < n) × (5 * n ≤ length (now table)) ⌝ }
+    ensures { λ r. ⌜ r ≡ overlap (turnsIn n (now (table .entry))) x y ⌝ }
+{
+    if start_of(table, n, x) < end_of(table, n, y) + GAP {
+        start_of(table, n, y) < end_of(table, n, x) + GAP
+    } else {
+        false
+    }
+}
+
+// Whether two turns have the same groomer.
+pub fn same_groomer(table: &[u16], n: usize, x: usize, y: usize) -> bool
+    requires { ⌜ (x < n) × (y < n) × (5 * n ≤ length (now table)) ⌝ }
+    ensures { λ r. ⌜ r ≡ eqb (turnsIn n (now (table .entry)) .groomer x) (turnsIn n (now (table .entry)) .groomer y) ⌝ }
+{
+    table[x * 5 + 1] == table[y * 5 + 1]
+}
+
+// Whether two different turns conflict.
+pub fn conflicts(table: &[u16], n: usize, x: usize, y: usize) -> bool
+    requires { ⌜ (x < n) × (y < n) × (5 * n ≤ length (now table)) ⌝ }
+    ensures { λ r. ⌜ r ≡ conflict (turnsIn n (now (table .entry))) x y ⌝ }
+{
+    if table[x * 5] == table[y * 5] {
+        return true;
+    }
+    if same_groomer(table, n, x, y) {
+        overlaps(table, n, x, y)
+    } else {
+        false
+    }
+}
