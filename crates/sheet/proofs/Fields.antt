@@ -20,6 +20,7 @@ use Rattle.sheet.specs.declared.record.Cursor.{Cursor}
 use Rattle.sheet.specs.Record.{widthOf, field, turnFrom, badMapFor, mapAt, endAt, turnAt, cursorAfter, recordCauses}
 use Rattle.sheet.specs.Write.{fieldBytes, recordOf}
 use Rattle.sheet.specs.Accepted.{GoodMap, Carried}
+use Rattle.sheet.proofs.Maps.{good-map-iff}
 
 -- behind what stands at a place
 drop-front : (vs s : List ℕ) (at : ℕ) (rest : List ℕ) → drop at s ≡ vs ++ rest → drop (at + length vs) s ≡ rest
@@ -62,11 +63,6 @@ record-length m t =
       field-length (m / 16 % 2) 2 (t .worth) (omega arith),
     ))
 
-good-map : (first : Bool) (m : ℕ) → GoodMap first m → badMapFor first m ≡ false
-unfolding badMapFor
-good-map true m g = rw (le-ltb 31 m (g .below), eq-eqb m 31 (g .full refl))
-good-map false m g = rw (le-ltb 31 m (g .below))
-
 -- the record of a turn stands at a cursor: nothing is wrong with it, the turn is what is read, and the cursor behind it stands at the rest
 pub record RecordRead (s : List ℕ) (limits : Counts) (c : Cursor) (t : Turn) (rest : List ℕ) : Type 0 where
   pub faultless : firstOf (recordCauses s limits c) ≡ 0
@@ -102,7 +98,7 @@ module _ (s : List ℕ) (limits : Counts) (c : Cursor) (m : ℕ) (t : Turn) (res
       let long : c .at + 1 + widthOf m ≤ length s = omega (arith, length-drop (c .at) s, simp length-append at (ap length stands), record-length m t) in
       let inside : c .at < length s = omega arith in
       record {
-        faultless = rw (lt-leb (length s) (c .at) inside, map-is, good-map (c .first) m map, le-ltb (length s) (c .at + 1 + widthOf m) long, turn-read .0) (in-range-fine limits t fits);
+        faultless = rw (lt-leb (length s) (c .at) inside, map-is, good-map-iff (c .first) m .1 map, le-ltb (length s) (c .at + 1 + widthOf m) long, turn-read .0) (in-range-fine limits t fits);
         turn-is = rw map-is (turn-read .0);
         behind = rw map-is (turn-read .1);
       }
