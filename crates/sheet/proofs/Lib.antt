@@ -7,3 +7,4 @@ pub mod Fields
 pub mod Accepting
 pub mod Causes
 pub mod ReadCauses
+pub mod Tables
