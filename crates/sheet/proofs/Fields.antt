@@ -1,26 +1,25 @@
 -- A record's bytes and what is read of them: one field over its width, then the whole record. Assumes nothing.
 use Prim.Native.Nat.{ℕ, zero, suc, _+_, _*_, _/_, _%_, _^_, _<_, _≤_}
 use mathlib.Core.Path.{_≡_, refl, sym, _∙_, ap}
-use mathlib.Core.Bool.{Bool, true, false, not, cond}
 use mathlib.Core.List.{List, [], _∷_, _++_, append-assoc}
 use native.Mathlib.Omega.{arith}
 use native.Mathlib.Numerals.{add-one}
 use native.Mathlib.Nat.{mul-zero, mul-one, add-zero}
-use lib.ListN.{length, getD, drop, take, length-append, length-drop}
+use lib.ListN.{length, getD, drop, length-append, length-drop}
 use lib.Seq.{drop-cons, drop-drop, drop-append-seam, getD-drop}
 use lib.Dec.{leb, ltb}
-use borrow.Author.Tests.{lt-leb, le-ltb, eq-eqb, ltb-false}
+use borrow.Author.Tests.{lt-leb, le-ltb, ltb-false}
 use Rattle.refusal.specs.Number.{truncated, badMap}
 use Rattle.refusal.specs.Cause.{firstOf, _when_}
 use Rattle.refusal.proofs.Order.{clear-cons}
-use Rattle.wire.specs.Number.{bytesOf, valueAt, Bytes}
+use Rattle.wire.specs.Number.{Bytes}
 use Rattle.wire.proofs.Numbers.{length-bytes, value-front, bytes-rest}
 use Rattle.turns.specs.declared.Turn.{Turn}
 use Rattle.turns.specs.declared.Counts.{Counts}
-use Rattle.turns.specs.Turn.{turnCauses, InRange}
+use Rattle.turns.specs.Turn.{InRange}
 use Rattle.turns.proofs.Ranges.{fine-iff}
 use Rattle.sheet.specs.declared.record.Cursor.{Cursor}
-use Rattle.sheet.specs.Record.{widthOf, field, turnFrom, badMapFor, mapAt, endAt, turnAt, cursorAfter, recordCauses}
+use Rattle.sheet.specs.Record.{widthOf, field, turnFrom, badMapFor, mapAt, endAt, turnAt, recordCauses}
 use Rattle.sheet.specs.Write.{fieldBytes, recordOf}
 use Rattle.sheet.specs.Accepted.{GoodMap, Carried}
 use Rattle.sheet.proofs.Maps.{good-map-iff}

@@ -1,8 +1,8 @@
 -- The turns of an accepted sheet are in range, and its table has them five numbers each. Assumes nothing.
-use Prim.Native.Nat.{ℕ, zero, suc, _+_, _*_, _<_, _≤_}
-use mathlib.Core.Path.{_≡_, refl, sym, _∙_, ap, subst₂}
+use Prim.Native.Nat.{ℕ, zero, suc, _+_, _*_, _<_}
+use mathlib.Core.Path.{_≡_, sym, _∙_, ap, subst₂}
 use mathlib.Core.Bool.{Bool}
-use mathlib.Core.List.{List, [], _∷_, _++_}
+use mathlib.Core.List.{List, [], _∷_}
 use native.Mathlib.Omega.{arith}
 use native.Mathlib.Nat.{add-zero, zero-add}
 use lib.ListN.{length, getD, List·getD-append}
@@ -10,10 +10,9 @@ use lib.Seq.{getD-append-add}
 use Rattle.turns.specs.declared.Turn.{Turn}
 use Rattle.turns.specs.declared.Counts.{Counts}
 use Rattle.turns.specs.Turn.{rowOf, InRange}
-use Rattle.sheet.specs.declared.record.Cursor.{Cursor}
-use Rattle.sheet.specs.Record.{turnAt, cursorAfter, firstCursor}
+use Rattle.sheet.specs.Record.{firstCursor}
 use Rattle.sheet.specs.Read.{countsIn, turnCount, turnsFrom, rows, turnsOf, tableOf}
-use Rattle.sheet.specs.Accepted.{Records, none, more, SheetFor, Accepted, cursorOf, turnOf}
+use Rattle.sheet.specs.Accepted.{Records, none, more, Accepted, cursorOf, turnOf}
 use Rattle.sheet.proofs.Readings.{rows-length, turnsFrom-length}
 use Rattle.sheet.proofs.Accepting.{sheet-reads}
 
