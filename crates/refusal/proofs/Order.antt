@@ -53,6 +53,25 @@ first-goes (c ∷ a) b p e = go (c .there) e (first-goes a b (both-1 (ltb 0 (c .
     go true e ih = absurd (omega (arith, ltb-true 0 (c .number) (both-0 (ltb 0 (c .number)) (numbered a) p)))
     go false e ih = ih e
 
+-- ---- nothing given: of a cause and those behind it, of one list and another
+
+pub clear-cons : (c : Cause) (cs : List Cause) → (c .number ≡ 0 → ⊥) → firstOf (c ∷ cs) ≡ 0 → (c .there ≡ false) × (firstOf cs ≡ 0)
+unfolding firstOf
+clear-cons c cs z e = go (c .there) refl e
+  where
+    go : (t : Bool) → c .there ≡ t → cond t (c .number) (firstOf cs) ≡ 0 → (c .there ≡ false) × (firstOf cs ≡ 0)
+    go true q e = absurd (z e)
+    go false q e = (q, e)
+
+pub clear-append : (a b : List Cause) → numbered a ≡ true → firstOf (a ++ b) ≡ 0 → (firstOf a ≡ 0) × (firstOf b ≡ 0)
+unfolding firstOf
+clear-append [] b p e = (refl, e)
+clear-append (c ∷ a) b p e = go (c .there) e (clear-append a b (both-1 (ltb 0 (c .number)) (numbered a) p))
+  where
+    go : (t : Bool) → cond t (c .number) (firstOf (a ++ b)) ≡ 0 → (firstOf (a ++ b) ≡ 0 → (firstOf a ≡ 0) × (firstOf b ≡ 0)) → (cond t (c .number) (firstOf a) ≡ 0) × (firstOf b ≡ 0)
+    go true e ih = absurd (omega (arith, ltb-true 0 (c .number) (both-0 (ltb 0 (c .number)) (numbered a) p)))
+    go false e ih = ih e
+
 -- ---- the order
 
 none-there : {k r : ℕ} → There [] k r → ⊥

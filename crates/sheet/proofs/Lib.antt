@@ -2,3 +2,9 @@ pub mod Records
 pub mod Headers
 pub mod Scans
 pub mod Readings
+pub mod Maps
+pub mod Fields
+pub mod Accepting
+pub mod Causes
+pub mod ReadCauses
+pub mod Tables

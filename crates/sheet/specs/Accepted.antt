@@ -5,7 +5,7 @@ use mathlib.Core.Logic.{_≢_, _⊎_}
 use mathlib.Core.List.{List, [], _∷_, _++_}
 use mathlib.Core.Bool.{Bool, true, false}
 use lib.ListN.{length, take}
-use Rattle.refusal.specs.Number.{truncated, badMagic, badCounts, tooManyTurns, badMap, badSlope, badGroomer, badTime, badWorth, trailingBytes}
+use Rattle.refusal.specs.Number.{truncated, badMagic, badCounts, tooManyTurns, badMap, badSlope, badGroomer, badTime, badWorth, trailingBytes, bufferTooSmall}
 use Rattle.wire.specs.Mark.{sheetMark}
 use Rattle.turns.specs.declared.Turn.{Turn}
 use Rattle.turns.specs.declared.Counts.{Counts}
@@ -89,3 +89,20 @@ pub data SheetCause (s : List ℕ) : ℕ → ℕ → Type 0 where
   time : (i : ℕ) → i < turnCount s → (turnOf s i .length ≡ 0) ⊎ (shiftMinutes < turnOf s i .start + turnOf s i .length) → SheetCause s badTime (placeOf i 5)
   worth : (i : ℕ) → i < turnCount s → Outside (turnOf s i .worth) mostWorth → SheetCause s badWorth (placeOf i 6)
   bytes-behind : cursorOf s (turnCount s) .at < length s → SheetCause s trailingBytes (placeOf (turnCount s) 0)
+
+-- a cause to refuse reading s into a table of so many places: one of the sheet's, and after them all that the table is too short
+pub data ReadCause (s : List ℕ) (places : ℕ) : ℕ → ℕ → Type 0 where
+  of-sheet : {k r : ℕ} → SheetCause s k r → ReadCause s places k r
+  small-table : places < 5 * turnCount s → ReadCause s places bufferTooSmall (placeOf (turnCount s) 1)
+
+-- of causes at their places, cause k is there and none comes earlier
+pub record FirstAmong (Causes : ℕ → ℕ → Type 0) (k : ℕ) : Type 0 where
+  pub place : ℕ
+  pub cause : Causes k place
+  pub none-before : (j r : ℕ) → r < place → Causes j r → ⊥
+
+abbrev pub FirstCause : List ℕ → ℕ → Type 0
+FirstCause s k = FirstAmong (SheetCause s) k
+
+abbrev pub FirstReadCause : List ℕ → ℕ → ℕ → Type 0
+FirstReadCause s places k = FirstAmong (ReadCause s places) k
