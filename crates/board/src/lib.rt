@@ -7,3 +7,4 @@ pub use choice::count_chosen;
 pub use choice::is_chosen;
 pub use opening::open;
 pub use opening::steps;
+pub use opening::steps_place;

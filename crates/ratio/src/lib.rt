@@ -5,4 +5,17 @@ mod orders;
 mod residuals;
 mod rows;
 
+pub use choices::chosen_worth;
+pub use choices::has_room;
+pub use choices::is_independent;
+pub use choices::is_maximal;
+pub use orders::is_right;
+pub use orders::pick_turn;
+pub use residuals::apply_step;
+pub use residuals::left_of;
+pub use residuals::none_open;
+pub use residuals::set_initial;
 pub use rows::conflicts;
+pub use rows::end_of;
+pub use rows::start_of;
+pub use rows::worth_of;

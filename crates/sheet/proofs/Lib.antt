@@ -8,3 +8,4 @@ pub mod Accepting
 pub mod Causes
 pub mod ReadCauses
 pub mod Tables
+pub mod Unrefused

@@ -48,3 +48,20 @@ pub fn word_at(s: &[u8], at: usize) -> u16
     let next = at + 1;
     wide(s[at]) * 256 + wide(s[next])
 }
+
+fn wider(x: u8) -> u32
+    ensures { λ r. ⌜ (r ≡ x) × (r < 256) ⌝ }
+{
+    x as u32
+}
+
+// The number in the four bytes from a place on.
+pub fn quad_at(s: &[u8], at: usize) -> u32
+    requires { ⌜ at + 4 ≤ length (now s) ⌝ }
+    ensures { λ r. ⌜ r ≡ valueAt (now (s .entry)) at 4 ⌝ }
+{
+    let a1 = at + 1;
+    let a2 = a1 + 1;
+    let a3 = a2 + 1;
+    ((wider(s[at]) * 256 + wider(s[a1])) * 256 + wider(s[a2])) * 256 + wider(s[a3])
+}

@@ -1,0 +1,55 @@
+-- What holds of every sheet that is not refused, for all lists of numbers. Assumes nothing.
+use Prim.Native.Nat.{ℕ, _+_, _*_, _<_, _≤_}
+use mathlib.Core.Path.{_≡_}
+use mathlib.Core.Logic.{_⊎_, inl, inr}
+use mathlib.Core.List.{List}
+use native.Mathlib.Omega.{arith}
+use native.Mathlib.Decide.{decLt, ℕ-discrete}
+use lib.ListN.{getD}
+use Rattle.refusal.specs.Cause.{firstOf}
+use Rattle.refusal.proofs.Order.{none-given}
+use Rattle.turns.specs.declared.Turn.{Turn}
+use Rattle.turns.specs.Turn.{InRange, shiftMinutes, mostWorth}
+use Rattle.sheet.specs.Read.{countsIn, turnCount, tableOf, sheetCauses, mostTurns}
+use Rattle.sheet.specs.Accepted.{SheetCause, turn-count, slope, groomer, time, worth, turnOf, Outside}
+use Rattle.sheet.proofs.Causes.{cause-there}
+use Rattle.sheet.proofs.Readings.{sheet-numbered}
+use Rattle.sheet.proofs.Tables.{rowTurn, table-rows}
+
+inside : (x top : ℕ) → (Outside x top → ⊥) → (1 ≤ x) × (x ≤ top)
+inside x top n = go (ℕ-discrete x 0) (decLt top x)
+  where
+    go : Dec (x ≡ 0) → Dec (top < x) → (1 ≤ x) × (x ≤ top)
+    go (yes e) d = absurd (n (inl e))
+    go (no e) (yes l) = absurd (n (inr l))
+    go (no e) (no l) = (omega arith, omega arith)
+
+module _ (s : List ℕ) (e : firstOf (sheetCauses s) ≡ 0) where
+  no-cause : {k r : ℕ} → SheetCause s k r → ⊥
+  no-cause {k} {r} c = none-given (sheetCauses s) e (sheet-numbered s) k r (cause-there s c)
+
+  pub few-turns : turnCount s ≤ mostTurns
+  few-turns = go (decLt mostTurns (turnCount s))
+    where
+      go : Dec (mostTurns < turnCount s) → turnCount s ≤ mostTurns
+      go (yes l) = absurd (no-cause (turn-count l))
+      go (no l) = omega arith
+
+  pub turn-in-range : (i : ℕ) → i < turnCount s → InRange (countsIn s) (turnOf s i)
+  turn-in-range i h =
+      let a = inside (turnOf s i .slope) (countsIn s .slopes) (λ o. no-cause (slope i h o)) in
+      let b = inside (turnOf s i .groomer) (countsIn s .groomers) (λ o. no-cause (groomer i h o)) in
+      let c = timely (ℕ-discrete (turnOf s i .length) 0) (decLt shiftMinutes (turnOf s i .start + turnOf s i .length)) in
+      let d = inside (turnOf s i .worth) mostWorth (λ o. no-cause (worth i h o)) in
+      record { slope-from = a .0; slope-to = a .1; groomer-from = b .0; groomer-to = b .1; length-from = c .0; end-to = c .1; worth-from = d .0; worth-to = d .1 }
+    where
+      timely : Dec (turnOf s i .length ≡ 0) → Dec (shiftMinutes < turnOf s i .start + turnOf s i .length) → (1 ≤ turnOf s i .length) × (turnOf s i .start + turnOf s i .length ≤ shiftMinutes)
+      timely (yes z) d = absurd (no-cause (time i h (inl z)))
+      timely (no z) (yes l) = absurd (no-cause (time i h (inr l)))
+      timely (no z) (no l) = (omega arith, omega arith)
+
+  pub row-in-range : (i : ℕ) → i < turnCount s → InRange (countsIn s) (rowTurn (tableOf s) i)
+  row-in-range i h =
+      let r = table-rows s i h in
+      let e : rowTurn (tableOf s) i ≡ turnOf s i = λ j. record { slope = r .slope j; groomer = r .groomer j; start = r .start j; length = r .length j; worth = r .worth j } in
+      rw e (turn-in-range i h)
