@@ -7,10 +7,11 @@ use lib.Dec.{eqb}
 use Rattle.refusal.specs.Number.{malformedBoard, conflict, notMaximal, wrongStep, turnLeftOpen, wrongSums}
 use Rattle.refusal.specs.Cause.{Cause, _when_, firstOf}
 use Rattle.model.specs.Turns.{Turns, turnsIn}
-use Rattle.model.specs.Steps.{initial, afterSteps}
+use Rattle.model.specs.Steps.{Step, initial, afterSteps}
 use Rattle.model.specs.Rules.{independent, maximal, allRight, noneOpen, sums, KeepsRules}
 use Rattle.sheet.specs.Read.{turnCount, tableOf, sheetCauses}
 use Rattle.sheet.specs.Accepted.{Accepted}
+use Rattle.audit.specs.declared.judge.CheckAnswer.{CheckAnswer}
 use Rattle.board.specs.Board.{boardTurns, boardSteps, boardTally, boardWorth, boardChoice, writtenSteps}
 use Rattle.board.specs.Open.{malformed, WellFormed}
 
@@ -18,31 +19,33 @@ use Rattle.board.specs.Open.{malformed, WellFormed}
 abbrev pub sheetTurns : List ℕ → Turns
 sheetTurns s = turnsIn (turnCount s) (tableOf s)
 
--- what may be wrong with a board for these turns, in the order of refusal
+-- what may be wrong with a board for these turns, in the order of refusal: its choice, its steps, its sums, and before all that its form
+unfoldable pub choiceCauses : Turns → List Bool → List Cause
+choiceCauses T S = conflict when not (independent T S) ∷ notMaximal when not (maximal T S) ∷ []
+
+unfoldable pub stepCauses : Turns → List Step → List Cause
+stepCauses T xs = wrongStep when not (allRight T (initial T) xs) ∷ turnLeftOpen when not (noneOpen T (afterSteps T (initial T) xs)) ∷ []
+
+unfoldable pub ruleCauses : Turns → List Bool → List Step → List Cause
+ruleCauses T S xs = choiceCauses T S ++ stepCauses T xs
+
+unfoldable pub sumCauses : Turns → List Bool → List Step → ℕ → ℕ → List Cause
+sumCauses T S xs tallied worth = wrongSums when not (sums T S xs tallied worth) ∷ []
+
 unfoldable pub boardCauses : Turns → List ℕ → List Cause
 boardCauses T b =
     malformedBoard when (malformed b || not (eqb (boardTurns b) (T .count)))
-    ∷ conflict when not (independent T (boardChoice b))
-    ∷ notMaximal when not (maximal T (boardChoice b))
-    ∷ wrongStep when not (allRight T (initial T) (writtenSteps b))
-    ∷ turnLeftOpen when not (noneOpen T (afterSteps T (initial T) (writtenSteps b)))
-    ∷ wrongSums when not (sums T (boardChoice b) (writtenSteps b) (boardTally b) (boardWorth b))
-    ∷ []
+    ∷ (ruleCauses T (boardChoice b) (writtenSteps b) ++ sumCauses T (boardChoice b) (writtenSteps b) (boardTally b) (boardWorth b))
 
 -- the sheet's causes come first
 unfoldable pub checkCauses : List ℕ → List ℕ → List Cause
 checkCauses s b = sheetCauses s ++ boardCauses (sheetTurns s) b
 
 -- the check's refusal, 0 if none, and the board's tally and worth, 0 on a refusal
-pub record Checked : Type 0 where
-  pub refusal : ℕ
-  pub tally : ℕ
-  pub worth : ℕ
-
-abbrev pub checked : ℕ → ℕ → ℕ → Checked
+abbrev pub checked : ℕ → ℕ → ℕ → CheckAnswer
 checked refusal tally worth = record { refusal = refusal; tally = tally; worth = worth }
 
-unfoldable pub checkOf : List ℕ → List ℕ → Checked
+unfoldable pub checkOf : List ℕ → List ℕ → CheckAnswer
 checkOf s b =
     let f = firstOf (checkCauses s b) in
     cond (eqb f 0) (checked 0 (boardTally b) (boardWorth b)) (checked f 0 0)

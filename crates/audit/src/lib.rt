@@ -1,1 +1,6 @@
 // The check of a board against its sheet.
+mod judge;
+mod replay;
+
+pub use judge::CheckAnswer;
+pub use judge::check;

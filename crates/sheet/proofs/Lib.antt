@@ -9,3 +9,4 @@ pub mod Causes
 pub mod ReadCauses
 pub mod Tables
 pub mod Unrefused
+pub mod Whole

@@ -1,0 +1,93 @@
+-- The check's answer by its cases, each premise in the form in which the code's calls and tests leave it. Assumes nothing.
+use Prim.Native.Nat.{ℕ, _+_, _*_, _<_, _≤_}
+use mathlib.Core.Path.{_≡_, refl, sym, _∙_, ap}
+use mathlib.Core.List.{List, [], _∷_, _++_}
+use mathlib.Core.Bool.{Bool, true, false, not, cond, _||_}
+use native.Mathlib.Omega.{arith}
+use lib.ListN.{length, take}
+use lib.Dec.{eqb}
+use borrow.Author.Tests.{eq-eqb, ne-eqb}
+use Rattle.refusal.specs.Number.{malformedBoard}
+use Rattle.refusal.specs.Cause.{Cause, _when_, firstOf}
+use Rattle.refusal.proofs.Order.{first-stops, first-goes}
+use Rattle.wire.specs.Number.{valueAt}
+use Rattle.turns.specs.Turn.{InRange}
+use Rattle.model.specs.Turns.{Turns, turnsIn}
+use Rattle.sheet.specs.declared.reader.ReadAnswer.{ReadAnswer}
+use Rattle.sheet.specs.Read.{turnCount, tableOf, sheetCauses, outcome, readOf}
+use Rattle.sheet.proofs.Readings.{sheet-numbered}
+use Rattle.sheet.proofs.Tables.{table-length, rowTurn}
+use Rattle.sheet.proofs.Unrefused.{row-in-range}
+use Rattle.sheet.proofs.Whole.{whole-refusal, whole-turns, whole-few, whole-room, whole-table}
+use Rattle.board.specs.Board.{boardHeader, boardTurns, boardTally, boardWorth}
+use Rattle.board.specs.Open.{malformed}
+use Rattle.board.proofs.Openings.{formed-header}
+use Rattle.ratio.specs.Bounds.{WorthsBounded}
+use Rattle.audit.specs.declared.judge.CheckAnswer.{CheckAnswer}
+use Rattle.audit.specs.Check.{sheetTurns, ruleCauses, sumCauses, boardCauses, checkCauses, checked, checkOf}
+
+-- ---- a refusal, and a pass
+
+module _ (s b : List ℕ) where
+  check-refused : (f : ℕ) → firstOf (checkCauses s b) ≡ f → (f ≡ 0 → ⊥) → checked f 0 0 ≡ checkOf s b
+  unfolding checkOf
+  check-refused f e z = rw (e, ne-eqb f 0 z)
+
+  check-fine : firstOf (checkCauses s b) ≡ 0 → checked 0 (boardTally b) (boardWorth b) ≡ checkOf s b
+  unfolding checkOf
+  check-fine e = rw e
+
+  by-sheet : (f : ℕ) → firstOf (sheetCauses s) ≡ f → (f ≡ 0 → ⊥) → firstOf (checkCauses s b) ≡ f
+  unfolding checkCauses
+  by-sheet f e z = first-stops (sheetCauses s) (boardCauses (sheetTurns s) b) f e z
+
+  by-board : firstOf (sheetCauses s) ≡ 0 → firstOf (checkCauses s b) ≡ firstOf (boardCauses (sheetTurns s) b)
+  unfolding checkCauses
+  by-board e = first-goes (sheetCauses s) (boardCauses (sheetTurns s) b) (sheet-numbered s) e
+
+-- a board that gives no cause opens
+or-first : (x y : Bool) → (x || y) ≡ false → x ≡ false
+or-first true y e = e
+or-first false y e = refl
+
+head-none : (x : Bool) (cs : List Cause) → firstOf (malformedBoard when x ∷ cs) ≡ 0 → x ≡ false
+unfolding firstOf
+head-none true cs e = absurd (omega arith)
+head-none false cs e = refl
+
+pub passed-header : (T : Turns) (b : List ℕ) {f : ℕ} → f ≡ firstOf (boardCauses T b) → f ≡ 0 → boardHeader ≤ length b
+unfolding boardCauses
+passed-header T b e z = formed-header b (or-first (malformed b) _ (head-none _ _ (sym e ∙ z)))
+
+-- ---- the table that was read
+
+module _ (s lent t : List ℕ) (a : ReadAnswer) (e : outcome a t ≡ readOf s lent) (l : 2000 ≤ length lent) (z : a .refusal ≡ 0) where
+  accepted : firstOf (sheetCauses s) ≡ 0
+  accepted = sym (whole-refusal s lent t a e l) ∙ z
+
+  pub check-worths : WorthsBounded (a .turns) (take (5 * a .turns) t)
+  unfolding WorthsBounded turnsIn
+  check-worths = rw (whole-table s lent t a e l z, whole-turns s lent t a e l z) (λ i h. row-in-range s accepted i h .worth-to)
+
+  pub check-rows : length (take (5 * a .turns) t) ≡ 5 * a .turns
+  check-rows = rw (whole-table s lent t a e l z) (omega (arith, table-length s, whole-turns s lent t a e l z))
+
+-- ---- the entry
+
+module _ (s b lent t : List ℕ) (a : ReadAnswer) (e : outcome a t ≡ readOf s lent) (l : 2000 ≤ length lent) where
+  pub check-sheet : {x : CheckAnswer} → (a .refusal ≡ 0 → ⊥) → x ≡ checked (a .refusal) 0 0 → x ≡ checkOf s b
+  check-sheet z x = x ∙ check-refused s b (a .refusal) (by-sheet s b (a .refusal) (sym (whole-refusal s lent t a e l)) z) z
+
+  module _ (z : a .refusal ≡ 0) where
+    turns-are : turnsIn (a .turns) (take (5 * a .turns) t) ≡ sheetTurns s
+    turns-are = rw (whole-table s lent t a e l z, whole-turns s lent t a e l z)
+
+    module _ {f : ℕ} (g : f ≡ firstOf (boardCauses (turnsIn (a .turns) (take (5 * a .turns) t)) b)) where
+      board-is : firstOf (checkCauses s b) ≡ f
+      board-is = by-board s b (accepted s lent t a e l z) ∙ sym (rw turns-are at g)
+
+      pub check-board : {x : CheckAnswer} → (f ≡ 0 → ⊥) → x ≡ checked f 0 0 → x ≡ checkOf s b
+      check-board y x = x ∙ check-refused s b f board-is y
+
+      pub check-passed : {tallied worth : ℕ} → f ≡ 0 → tallied ≡ valueAt b 7 4 → worth ≡ valueAt b 11 4 → checked 0 tallied worth ≡ checkOf s b
+      check-passed y p q = rw (p, q) (check-fine s b (board-is ∙ y))

@@ -1,0 +1,3 @@
+pub mod Replays
+pub mod Judgements
+pub mod Checks

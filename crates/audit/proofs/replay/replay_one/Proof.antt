@@ -1,0 +1,53 @@
+use Rattle.audit.proofs.Replays.{one-cases}
+use borrow.Author.Needs.{needs}
+use Rattle.audit.proofs.replay.replay_one.Statement.{statement}
+use Rattle.audit.proofs.replay.replay_one.Tie as tie
+
+mul-at : tie.Need-mul-at
+mul-at c = search needs
+
+word-at-requires : tie.Need-word-at-requires
+word-at-requires c κs = search needs
+
+add-word-at : tie.Need-add-word-at
+add-word-at c = search needs
+
+word-at-requires-2 : tie.Need-word-at-requires-2
+word-at-requires-2 c κs = search needs
+
+is-right-requires : tie.Need-is-right-requires
+is-right-requires c κs = search needs
+
+cast-apply-step : tie.Need-cast-apply-step
+cast-apply-step c = search needs
+
+apply-step-requires : tie.Need-apply-step-requires
+apply-step-requires c κs = search (needs, one-cases)
+
+same-length : tie.Need-same-length
+same-length c = search needs
+
+returns : tie.Need-returns
+returns c = search (needs, one-cases)
+
+same-length-2 : tie.Need-same-length-2
+same-length-2 c = search needs
+
+returns-2 : tie.Need-returns-2
+returns-2 c = search (needs, one-cases)
+
+pub replay-one-spec : {M : Type 1} → statement M
+replay-one-spec =
+    tie.close
+    (tie.spec
+    mul-at
+    word-at-requires
+    add-word-at
+    word-at-requires-2
+    is-right-requires
+    cast-apply-step
+    apply-step-requires
+    same-length
+    returns
+    same-length-2
+    returns-2)

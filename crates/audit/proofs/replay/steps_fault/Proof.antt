@@ -1,0 +1,45 @@
+use Rattle.audit.proofs.Replays.{fault-cases}
+use borrow.Author.Needs.{needs}
+use Rattle.audit.proofs.replay.steps_fault.Statement.{statement}
+use Rattle.audit.proofs.replay.steps_fault.Tie as tie
+
+set-initial-requires : tie.Need-set-initial-requires
+set-initial-requires c κs = search (needs, fault-cases)
+
+replay-requires : tie.Need-replay-requires
+replay-requires c κs = search (needs, fault-cases)
+
+none-open-requires : tie.Need-none-open-requires
+none-open-requires c κs = search (needs, fault-cases)
+
+same-length : tie.Need-same-length
+same-length c = search (needs, fault-cases)
+
+returns : tie.Need-returns
+returns c = search (needs, fault-cases)
+
+same-length-2 : tie.Need-same-length-2
+same-length-2 c = search (needs, fault-cases)
+
+returns-2 : tie.Need-returns-2
+returns-2 c = search (needs, fault-cases)
+
+same-length-3 : tie.Need-same-length-3
+same-length-3 c = search (needs, fault-cases)
+
+returns-3 : tie.Need-returns-3
+returns-3 c = search (needs, fault-cases)
+
+pub steps-fault-spec : {M : Type 1} → statement M
+steps-fault-spec =
+    tie.close
+    (tie.spec
+    set-initial-requires
+    replay-requires
+    none-open-requires
+    same-length
+    returns
+    same-length-2
+    returns-2
+    same-length-3
+    returns-3)

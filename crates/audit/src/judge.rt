@@ -1,0 +1,142 @@
+// The check: the sheet's causes first, then the board's, one after another.
+ghost use mathlib.Core.Path.{_≡_};
+ghost use mathlib.Core.Bool.{not, _&&_};
+ghost use mathlib.Core.List.{_++_};
+ghost use Prim.Native.Nat.{_+_, _*_, _≤_, _<_};
+ghost use lib.ListN.{length};
+ghost use lib.Dec.{eqb, leb};
+ghost use Rattle.refusal.specs.Cause.{firstOf};
+ghost use Rattle.model.specs.Turns.{turnsIn};
+ghost use Rattle.board.specs.Choice.{choiceIn};
+ghost use Rattle.board.specs.Board.{boardHeader, boardSteps, boardTally, boardWorth, stepsIn};
+ghost use Rattle.ratio.specs.Bounds.{Lent, WorthsBounded};
+ghost use Rattle.audit.specs.Check.{choiceCauses, ruleCauses, sumCauses, boardCauses, checkOf};
+use super::replay::steps_fault;
+use super::replay::tally_of;
+
+const HEADER_BYTES: usize = 15;
+
+// What the check returns: a refusal, 0 if none, and the board's tally and worth, 0 on a refusal.
+#[repr(C)]
+pub struct CheckAnswer {
+    pub refusal: u8,
+    pub tally: u32,
+    pub worth: u32,
+}
+
+fn choice_fault(table: &[u16], n: usize, map: &[u8]) -> u8
+    requires { ⌜ Lent n (now table) (now map) ⌝ }
+    ensures { λ r. ⌜ r ≡ firstOf (choiceCauses (turnsIn n (now (table .entry))) (choiceIn n (now (map .entry)))) ⌝ }
+{
+    if ratio::is_independent(table, n, map) {
+        if ratio::is_maximal(table, n, map) {
+            0
+        } else {
+            refusal::NOT_MAXIMAL
+        }
+    } else {
+        refusal::CONFLICT
+    }
+}
+
+// Whether the sums that a board names are not those of its steps and its choice.
+fn are_wrong(tally: u32, worth: u32, paid: u32, earned: u32) -> bool
+    ensures { λ r. ⌜ not r ≡ (eqb tally paid && (eqb worth earned && leb tally worth)) ⌝ }
+{
+    if tally != paid {
+        return true;
+    }
+    if worth != earned {
+        return true;
+    }
+    worth < tally
+}
+
+// The first cause that the choice or the steps give, 0 if none.
+fn rules_fault(table: &[u16], n: usize, map: &[u8], steps: &[u8], m: usize) -> u8
+    requires { ⌜ (n ≤ 400) × Lent n (now table) (now map) × WorthsBounded n (now table) × (4 * m ≤ length (now steps)) ⌝ }
+    ensures { λ r. ⌜ r ≡ firstOf (ruleCauses (turnsIn n (now (table .entry))) (choiceIn n (now (map .entry))) (stepsIn m (now (steps .entry)))) ⌝ }
+{
+    let fault = choice_fault(table, n, map);
+    if fault != 0 {
+        return fault;
+    }
+    let mut space = [0i32; 400];
+    steps_fault(&mut space[..n], table, n, steps, m)
+}
+
+// The cause that the sums of a board give, 0 if none.
+fn sums_fault(b: &[u8], table: &[u16], n: usize, map: &[u8], steps: &[u8], m: usize) -> u8
+    requires { ⌜ (boardHeader ≤ length (now b)) × (n ≤ 400) × Lent n (now table) (now map) × (4 * m ≤ length (now steps)) × (m ≤ 65535) ⌝ }
+    ensures { λ r. ⌜ r ≡ firstOf (sumCauses (turnsIn n (now (table .entry))) (choiceIn n (now (map .entry))) (stepsIn m (now (steps .entry))) (boardTally (now (b .entry))) (boardWorth (now (b .entry)))) ⌝ }
+{
+    let tally = wire::quad_at(b, 7);
+    let worth = wire::quad_at(b, 11);
+    let paid = tally_of(steps, m);
+    let earned = ratio::chosen_worth(table, n, map);
+    if are_wrong(tally, worth, paid, earned) {
+        refusal::WRONG_SUMS
+    } else {
+        0
+    }
+}
+
+// The first cause that the parts of a board give, 0 if none: its map and its steps.
+fn parts_fault(b: &[u8], map: &[u8], steps: &[u8], table: &[u16], n: usize) -> u8
+    requires { ⌜ (boardHeader ≤ length (now b)) × (n ≤ 400) × Lent n (now table) (now map) × WorthsBounded n (now table) × (4 * boardSteps (now b) ≤ length (now steps)) ⌝ }
+    ensures { λ r. ⌜ r ≡ firstOf (ruleCauses (turnsIn n (now (table .entry))) (choiceIn n (now (map .entry))) (stepsIn (boardSteps (now (b .entry))) (now (steps .entry))) ++ sumCauses (turnsIn n (now (table .entry))) (choiceIn n (now (map .entry))) (stepsIn (boardSteps (now (b .entry))) (now (steps .entry))) (boardTally (now (b .entry))) (boardWorth (now (b .entry)))) ⌝ }
+{
+    let m = wire::word_at(b, 5);
+    let fault = rules_fault(table, n, map, steps, m as usize);
+    if fault != 0 {
+        return fault;
+    }
+    sums_fault(b, table, n, map, steps, m as usize)
+}
+
+// The first cause to refuse a board for the n turns of a table, 0 if none.
+fn board_fault(b: &[u8], table: &[u16], n: u16) -> u8
+    requires { ⌜ (n ≤ 400) × (length (now table) ≡ 5 * n) × WorthsBounded n (now table) ⌝ }
+    ensures { λ r. ⌜ r ≡ firstOf (boardCauses (turnsIn n (now (table .entry))) (now (b .entry))) ⌝ }
+{
+    if board::open(b) != 0 {
+        return refusal::MALFORMED_BOARD;
+    }
+    if wire::word_at(b, 3) != n {
+        return refusal::MALFORMED_BOARD;
+    }
+    let place = board::steps_place(n);
+    parts_fault(b, &b[HEADER_BYTES..place], &b[place..], table, n as usize)
+}
+
+fn refused(k: u8) -> CheckAnswer
+    ensures { λ r. ⌜ r ≡ record { refusal = k; tally = 0; worth = 0 } ⌝ }
+{
+    CheckAnswer {
+        refusal: k,
+        tally: 0,
+        worth: 0,
+    }
+}
+
+// Checks any bytes as a board against any bytes as a sheet.
+pub fn check(s: &[u8], b: &[u8]) -> CheckAnswer
+    ensures { λ r. ⌜ r ≡ checkOf (now (s .entry)) (now (b .entry)) ⌝ }
+{
+    let mut table = [0u16; 2000];
+    let sheet = sheet::read(s, &mut table);
+    if sheet.refusal != 0 {
+        return refused(sheet.refusal);
+    }
+    let n = sheet.turns;
+    let end = 5 * (n as usize);
+    let fault = board_fault(b, &table[..end], n);
+    if fault != 0 {
+        return refused(fault);
+    }
+    CheckAnswer {
+        refusal: 0,
+        tally: wire::quad_at(b, 7),
+        worth: wire::quad_at(b, 11),
+    }
+}
