@@ -7,3 +7,6 @@ pub mod Fields
 pub mod Accepting
 pub mod Causes
 pub mod ReadCauses
+pub mod WriteRecords
+pub mod Measures
+pub mod Writings

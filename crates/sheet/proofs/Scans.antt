@@ -11,6 +11,7 @@ use borrow.Author.Tests.{lt-ltb, le-ltb, eqb-true, eqb-false}
 use Rattle.refusal.specs.Number.{trailingBytes}
 use Rattle.refusal.specs.Cause.{Cause, firstOf}
 use Rattle.refusal.proofs.Order.{numbered, first-stops, first-goes}
+use Rattle.wire.specs.Number.{puts}
 use Rattle.turns.specs.declared.Turn.{Turn}
 use Rattle.turns.specs.declared.Counts.{Counts}
 use Rattle.turns.specs.Turn.{rowOf, turnCauses}
@@ -18,7 +19,7 @@ use Rattle.sheet.specs.declared.record.Cursor.{Cursor}
 use Rattle.sheet.specs.declared.record.Next.{Next}
 use Rattle.sheet.specs.declared.record.Next.the-variants.{Read, Refused}
 use Rattle.sheet.specs.Record.{turnAt, cursorAfter, recordCauses, nextOf}
-use Rattle.sheet.specs.Read.{recordsCauses, turnsFrom, rows, puts}
+use Rattle.sheet.specs.Read.{recordsCauses, turnsFrom, rows}
 
 -- ---- what an answer of the reader's says
 

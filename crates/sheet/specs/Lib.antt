@@ -1,4 +1,5 @@
 pub mod Record
 pub mod Read
 pub mod Write
+pub mod Measure
 pub mod Accepted
