@@ -1,25 +1,21 @@
 -- The order in which a sheet is refused: each cause at its place is one of the list's, and the number given is that of the first. Assumes nothing.
-use Prim.Native.Nat.{ℕ, zero, suc, _+_, _-_, _*_, _<_, _≤_}
-use mathlib.Core.Path.{_≡_, refl, sym, _∙_, ap, subst, subst₂}
-use mathlib.Core.Bool.{Bool, true, false, not, cond, true≢false}
-use mathlib.Core.List.{List, [], _∷_, _++_}
-use mathlib.Core.Logic.{_⊎_, inl, inr, ⊎-elim, _↔_, _≢_}
+use Prim.Native.Nat.{ℕ, zero, suc, _+_, _-_, _*_, _<_}
+use mathlib.Core.Path.{_≡_, refl, sym, _∙_, subst, subst₂}
+use mathlib.Core.Bool.{Bool, true, false, not, true≢false}
+use mathlib.Core.List.{List}
+use mathlib.Core.Logic.{⊎-elim, _↔_, _≢_}
 use native.Mathlib.Omega.{arith}
 use native.Mathlib.Nat.{zero-add}
-use lib.Dec.{ltb, eqb}
 use lib.ListN.{length, take}
-use borrow.Author.Tests.{ltb-true, lt-ltb, leb-true, le-leb, le-ltb, eqb-false, ne-eqb, not-true}
-use Rattle.refusal.specs.Number.{truncated, badMagic, badCounts, tooManyTurns, badMap, badSlope, badGroomer, badTime, badWorth, trailingBytes}
-use Rattle.refusal.specs.Cause.{Cause, _when_, There, here, later, First, firstOf}
+use borrow.Author.Tests.{ltb-true, lt-ltb, leb-true, le-leb, not-true}
+use Rattle.refusal.specs.Cause.{Cause, There, First, firstOf}
 use Rattle.refusal.proofs.Order.{first-iff}
-use Rattle.refusal.proofs.Places.{absent, causeAt, there-at, at-there, there-left, there-right, there-split}
+use Rattle.refusal.proofs.Places.{causeAt, there-at, at-there, there-left, there-right, there-split}
 use Rattle.wire.specs.Mark.{sheetMark, opensWith}
 use Rattle.wire.proofs.Marks.{sheet-mark-iff}
-use Rattle.turns.specs.declared.Counts.{Counts}
-use Rattle.turns.specs.Turn.{outsideRange, mostWorth, turnCauses}
+use Rattle.turns.specs.Turn.{mostWorth, turnCauses}
 use Rattle.turns.proofs.Ranges.{outside-iff, past-iff}
-use Rattle.sheet.specs.declared.record.Cursor.{Cursor}
-use Rattle.sheet.specs.Record.{fullMap, widthOf, badMapFor, mapAt, endAt, cursorAfter, firstCursor, recordCauses}
+use Rattle.sheet.specs.Record.{widthOf, endAt, firstCursor, recordCauses}
 use Rattle.sheet.specs.Read.{headerBytes, mostGroomers, mostSlopes, mostTurns, countsIn, turnCount, countCauses, headerCauses, recordsCauses, sheetCauses}
 use Rattle.sheet.proofs.Maps.{bad-map-iff}
 use Rattle.sheet.specs.Accepted.{cursorOf, mapOf, turnOf, placeOf, SheetCause, short-header, other-mark, groomer-count, slope-count, turn-count, no-map, wrong-map, short-fields, slope, groomer, time, worth, bytes-behind, FirstCause, FirstAmong}

@@ -1,26 +1,29 @@
 -- A record's bytes and what is read of them: one field over its width, then the whole record. Assumes nothing.
 use Prim.Native.Nat.{ℕ, zero, suc, _+_, _*_, _/_, _%_, _^_, _<_, _≤_}
 use mathlib.Core.Path.{_≡_, refl, sym, _∙_, ap}
-use mathlib.Core.Bool.{Bool, true, false, not, cond}
 use mathlib.Core.List.{List, [], _∷_, _++_, append-assoc}
 use native.Mathlib.Omega.{arith}
+use native.Mathlib.Numerals.{add-one}
 use native.Mathlib.Nat.{mul-zero, mul-one, add-zero}
-use lib.ListN.{length, getD, drop, take, length-append, length-drop}
-use lib.Seq.{drop-drop, drop-append-seam, getD-drop}
-use lib.Dec.{eqb}
-use borrow.Author.Tests.{lt-leb, le-ltb, eq-eqb}
-use Rattle.refusal.specs.Cause.{firstOf}
-use Rattle.wire.specs.Number.{bytesOf, valueAt, Bytes}
-use Rattle.wire.proofs.Numbers.{length-bytes, value-front}
+use lib.ListN.{length, getD, drop, length-append, length-drop}
+use lib.Seq.{drop-cons, drop-drop, drop-append-seam, getD-drop}
+use lib.Dec.{leb, ltb}
+use borrow.Author.Tests.{lt-leb, le-ltb, ltb-false}
+use Rattle.refusal.specs.Number.{truncated, badMap}
+use Rattle.refusal.specs.Cause.{firstOf, _when_}
+use Rattle.refusal.proofs.Order.{clear-cons}
+use Rattle.wire.specs.Number.{Bytes}
+use Rattle.wire.proofs.Numbers.{length-bytes, value-front, bytes-rest}
 use Rattle.turns.specs.declared.Turn.{Turn}
 use Rattle.turns.specs.declared.Counts.{Counts}
-use Rattle.turns.specs.Turn.{turnCauses, InRange}
-use Rattle.turns.proofs.Ranges.{in-range-fine}
+use Rattle.turns.specs.Turn.{InRange}
+use Rattle.turns.proofs.Ranges.{fine-iff}
 use Rattle.sheet.specs.declared.record.Cursor.{Cursor}
-use Rattle.sheet.specs.Record.{widthOf, field, turnFrom, badMapFor, mapAt, endAt, turnAt, cursorAfter, recordCauses}
+use Rattle.sheet.specs.Record.{widthOf, field, turnFrom, badMapFor, mapAt, endAt, turnAt, recordCauses}
 use Rattle.sheet.specs.Write.{fieldBytes, recordOf}
 use Rattle.sheet.specs.Accepted.{GoodMap, Carried}
 use Rattle.sheet.proofs.Maps.{good-map-iff}
+use Rattle.sheet.proofs.Records.{field-carried}
 
 -- behind what stands at a place
 drop-front : (vs s : List ℕ) (at : ℕ) (rest : List ℕ) → drop at s ≡ vs ++ rest → drop (at + length vs) s ≡ rest
@@ -63,6 +66,18 @@ record-length m t =
       field-length (m / 16 % 2) 2 (t .worth) (omega arith),
     ))
 
+-- a record and what follows it, field by field
+five : (a b c d e r : List ℕ) → (a ++ (b ++ (c ++ (d ++ e)))) ++ r ≡ a ++ (b ++ (c ++ (d ++ (e ++ r))))
+five a b c d e r = simp append-assoc
+
+record-append : (m : ℕ) (t : Turn) (rest : List ℕ) → recordOf m t ++ rest
+    ≡ m ∷ (fieldBytes (m % 2) 1 (t .slope) ++ (fieldBytes (m / 2 % 2) 1 (t .groomer) ++ (fieldBytes (m / 4 % 2) 2 (t .start) ++ (fieldBytes (m / 8 % 2) 2 (t .length) ++ (fieldBytes (m / 16 % 2) 2 (t .worth) ++ rest)))))
+unfolding recordOf
+record-append m t rest =
+    ap
+    (λ (l : List ℕ). m ∷ l)
+    (five (fieldBytes (m % 2) 1 (t .slope)) (fieldBytes (m / 2 % 2) 1 (t .groomer)) (fieldBytes (m / 4 % 2) 2 (t .start)) (fieldBytes (m / 8 % 2) 2 (t .length)) (fieldBytes (m / 16 % 2) 2 (t .worth)) rest)
+
 -- the record of a turn stands at a cursor: nothing is wrong with it, the turn is what is read, and the cursor behind it stands at the rest
 pub record RecordRead (s : List ℕ) (limits : Counts) (c : Cursor) (t : Turn) (rest : List ℕ) : Type 0 where
   pub faultless : firstOf (recordCauses s limits c) ≡ 0
@@ -72,14 +87,13 @@ pub record RecordRead (s : List ℕ) (limits : Counts) (c : Cursor) (t : Turn) (
 module _ (s : List ℕ) (limits : Counts) (c : Cursor) (m : ℕ) (t : Turn) (rest : List ℕ) (few : limits .groomers ≤ 255) (low : limits .slopes ≤ 255)
     (map : GoodMap (c .first) m) (kept : Carried m (c .prev) t) (fits : InRange limits t) (stands : drop (c .at) s ≡ recordOf m t ++ rest) where
   map-is : mapAt s c ≡ m
-  unfolding recordOf
-  map-is = get-front s (c .at) m _ stands
+  map-is = get-front s (c .at) m _ (stands ∙ record-append m t rest)
 
   turn-read : (turnFrom s (c .at + 1) m (c .prev) ≡ t) × (drop (c .at + 1 + widthOf m) s ≡ rest)
-  unfolding recordOf turnFrom
+  unfolding turnFrom
   turn-read =
       let at = c .at + 1 in
-      let e = simp append-assoc at (drop-front (m ∷ []) s (c .at) _ stands) in
+      let e = drop-front (m ∷ []) s (c .at) _ (stands ∙ record-append m t rest) in
       let slope = field-read (m % 2) 1 (t .slope) (c .prev .slope) (m % 2) s at _ (omega arith) (omega arith) (omega arith) (kept .slope) e in
       let at-1 = at + m % 2 in
       let groomer = field-read (m / 2 % 2) 1 (t .groomer) (c .prev .groomer) (m / 2 % 2) s at-1 _ (omega arith) (omega arith) (omega arith) (kept .groomer) (slope .1) in
@@ -98,7 +112,67 @@ module _ (s : List ℕ) (limits : Counts) (c : Cursor) (m : ℕ) (t : Turn) (res
       let long : c .at + 1 + widthOf m ≤ length s = omega (arith, length-drop (c .at) s, simp length-append at (ap length stands), record-length m t) in
       let inside : c .at < length s = omega arith in
       record {
-        faultless = rw (lt-leb (length s) (c .at) inside, map-is, good-map-iff (c .first) m .1 map, le-ltb (length s) (c .at + 1 + widthOf m) long, turn-read .0) (in-range-fine limits t fits);
+        faultless = rw (lt-leb (length s) (c .at) inside, map-is, good-map-iff (c .first) m .1 map, le-ltb (length s) (c .at + 1 + widthOf m) long, turn-read .0) (fine-iff limits t .1 fits);
         turn-is = rw map-is (turn-read .0);
         behind = rw map-is (turn-read .1);
+      }
+
+-- ---- the other way: what is read of bytes stands there
+
+-- a field that was read, and then the rest
+field-stands : (bit width old size : ℕ) {s : List ℕ} → Bytes s → (at : ℕ) → bit < 2 → size ≡ width * bit → at + size ≤ length s → drop at s ≡ fieldBytes bit width (field width s at bit old) ++ drop (at + size) s
+unfolding field
+field-stands zero width old size b at h z l = let e : at + size ≡ at = omega (arith, mul-zero width) in rw e
+field-stands (suc zero) width old size b at h z l = let e : size ≡ width = omega (arith, mul-one width) in rw e (bytes-rest b at width (omega arith))
+field-stands (suc (suc bit)) width old size b at h z l = absurd (omega arith)
+
+-- nothing is wrong with the record at a cursor: it is the record of the turn that is read, and the rest stands behind it
+pub record RecordStands (s : List ℕ) (limits : Counts) (c : Cursor) : Type 0 where
+  pub map : GoodMap (c .first) (mapAt s c)
+  pub kept : Carried (mapAt s c) (c .prev) (turnAt s c)
+  pub fits : InRange limits (turnAt s c)
+  pub bytes : drop (c .at) s ≡ recordOf (mapAt s c) (turnAt s c) ++ drop (endAt s c) s
+
+module _ {s : List ℕ} (b : Bytes s) (limits : Counts) (c : Cursor) where
+  turn-stands : endAt s c ≤ length s → drop (c .at) s ≡ recordOf (mapAt s c) (turnAt s c) ++ drop (endAt s c) s
+  unfolding endAt turnAt turnFrom
+  turn-stands l =
+      let m = mapAt s c in
+      let at = c .at + 1 in
+      let head : drop (c .at) s ≡ m ∷ drop at s = rw (add-one, drop-cons s (c .at) 0 (omega arith)) in
+      let slope = field-stands (m % 2) 1 (c .prev .slope) (m % 2) b at (omega arith) (omega arith) (omega arith) in
+      let at-1 = at + m % 2 in
+      let groomer = field-stands (m / 2 % 2) 1 (c .prev .groomer) (m / 2 % 2) b at-1 (omega arith) (omega arith) (omega arith) in
+      let at-2 = at-1 + m / 2 % 2 in
+      let start = field-stands (m / 4 % 2) 2 (c .prev .start) (2 * (m / 4 % 2)) b at-2 (omega arith) refl (omega arith) in
+      let at-3 = at-2 + 2 * (m / 4 % 2) in
+      let len = field-stands (m / 8 % 2) 2 (c .prev .length) (2 * (m / 8 % 2)) b at-3 (omega arith) refl (omega arith) in
+      let at-4 = at-3 + 2 * (m / 8 % 2) in
+      let worth = field-stands (m / 16 % 2) 2 (c .prev .worth) (2 * (m / 16 % 2)) b at-4 (omega arith) refl (omega arith) in
+      let end : c .at + 1 + widthOf m ≡ at-4 + 2 * (m / 16 % 2) = omega arith in
+      rw (record-append m (turnAt s c) (drop (c .at + 1 + widthOf m) s), head, slope, groomer, start, len, worth, end)
+
+  turn-kept : Carried (mapAt s c) (c .prev) (turnAt s c)
+  unfolding turnAt turnFrom
+  turn-kept =
+      let m = mapAt s c in
+      record {
+        slope = field-carried 1 s _ (m % 2) (c .prev .slope);
+        groomer = field-carried 1 s _ (m / 2 % 2) (c .prev .groomer);
+        start = field-carried 2 s _ (m / 4 % 2) (c .prev .start);
+        length = field-carried 2 s _ (m / 8 % 2) (c .prev .length);
+        worth = field-carried 2 s _ (m / 16 % 2) (c .prev .worth);
+      }
+
+  pub record-stands : firstOf (recordCauses s limits c) ≡ 0 → RecordStands s limits c
+  unfolding recordCauses
+  record-stands e =
+      let p = clear-cons (truncated when leb (length s) (c .at)) _ (omega arith) e in
+      let q = clear-cons (badMap when badMapFor (c .first) (mapAt s c)) _ (omega arith) (p .1) in
+      let r = clear-cons (truncated when ltb (length s) (endAt s c)) _ (omega arith) (q .1) in
+      record {
+        map = good-map-iff (c .first) (mapAt s c) .0 (q .0);
+        kept = turn-kept;
+        fits = fine-iff limits (turnAt s c) .0 (r .1);
+        bytes = turn-stands (ltb-false (length s) (endAt s c) (r .0));
       }

@@ -7,6 +7,7 @@ pub mod Fields
 pub mod Accepting
 pub mod Causes
 pub mod ReadCauses
+pub mod Tables
 pub mod WriteRecords
 pub mod Measures
 pub mod Writings

@@ -1,22 +1,22 @@
 -- What the reader refuses: the sheet's causes in their order, and after them all a table that is too short. Assumes nothing.
-use Prim.Native.Nat.{ℕ, zero, suc, _+_, _*_, _<_}
-use mathlib.Core.Path.{_≡_, refl, sym, _∙_, ap}
+use Prim.Native.Nat.{ℕ, zero, suc, _+_, _*_}
+use mathlib.Core.Path.{_≡_, refl, sym, _∙_}
 use mathlib.Core.Bool.{Bool, true, false, cond, true≢false}
 use mathlib.Core.List.{List, [], _∷_, _++_}
-use mathlib.Core.Logic.{_⊎_, ⊎-elim, _↔_}
+use mathlib.Core.Logic.{⊎-elim, _↔_}
 use native.Mathlib.Omega.{arith}
 use lib.Dec.{ltb, eqb}
-use lib.ListN.{length, drop, length-append}
+use lib.ListN.{length, drop}
 use borrow.Author.Tests.{ltb-true, lt-ltb, eqb-true}
 use Rattle.refusal.specs.Number.{bufferTooSmall}
-use Rattle.refusal.specs.Cause.{Cause, _when_, There, firstOf}
-use Rattle.refusal.proofs.Places.{causeAt, there-at, at-there, there-left, there-right, there-split}
+use Rattle.refusal.specs.Cause.{_when_, There, firstOf}
+use Rattle.refusal.proofs.Places.{there-at, at-there, there-left, there-right, there-split}
 use Rattle.turns.specs.declared.Counts.{Counts}
 use Rattle.turns.specs.Turn.{turnCauses}
 use Rattle.sheet.specs.declared.record.Cursor.{Cursor}
 use Rattle.sheet.specs.Record.{cursorAfter, firstCursor, recordCauses}
 use Rattle.sheet.specs.Read.{countsIn, turnCount, countCauses, headerCauses, recordsCauses, sheetCauses, readCauses, tableOf, outcome, refusedWith, readAnswer, readOf}
-use Rattle.sheet.specs.Accepted.{placeOf, SheetCause, ReadCause, of-sheet, small-table, FirstReadCause}
+use Rattle.sheet.specs.Accepted.{placeOf, ReadCause, of-sheet, small-table, FirstReadCause}
 use Rattle.sheet.proofs.Causes.{there-cause, cause-there, first-same}
 
 -- the reader's number is that of the first cause

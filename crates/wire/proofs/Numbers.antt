@@ -5,7 +5,7 @@ use mathlib.Core.List.{List, [], _∷_, _++_}
 use native.Mathlib.Omega.{arith}
 use native.Mathlib.Nat.{div-div-eq-div-mul, pow-suc, div-eq-of-lt, div-one, add-zero}
 use native.Mathlib.Numerals.{add-one}
-use lib.ListN.{length, getD, take, drop}
+use lib.ListN.{length, getD, take, drop, take-append-drop}
 use lib.Seq.{drop-cons, drop-drop, getD-drop, drop-append-seam}
 use Rattle.wire.specs.Number.{bytesOf, valueFrom, valueOf, bytesAt, valueAt, Bytes, none, more}
 
@@ -75,6 +75,10 @@ bytesAt-part s at (suc k) h =
     let l : at < length s = omega arith in
     let e : drop at s ≡ getD s at 0 ∷ drop (at + 1) s = rw (add-one, drop-cons s at 0) in
     rw e (ap (λ (r : List ℕ). getD s at 0 ∷ r) (bytesAt-part s (at + 1) k (omega arith)))
+
+-- so bytes from a place on are the number that is read there, as bytes, and then the rest
+pub bytes-rest : {s : List ℕ} → Bytes s → (at k : ℕ) → at + k ≤ length s → drop at s ≡ bytesOf k (valueAt s at k) ++ drop (at + k) s
+bytes-rest {s} b at k h = sym (take-append-drop k (drop at s)) ∙ ap₂ _++_ (sym (bytes-valueAt b at k ∙ bytesAt-part s at k h)) (drop-drop k at s)
 
 -- bytes that stand at a place are what is read there
 pub bytesAt-front : (bs s : List ℕ) (at : ℕ) (rest : List ℕ) → drop at s ≡ bs ++ rest → bytesAt s at (length bs) ≡ bs
