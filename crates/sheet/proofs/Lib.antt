@@ -11,3 +11,6 @@ pub mod Tables
 pub mod WriteRecords
 pub mod Measures
 pub mod Writings
+pub mod WriteMaps
+pub mod Shortest
+pub mod RoundTrip

@@ -1,26 +1,25 @@
 -- The reader's answer by its cases, each premise in the form in which the code's calls and tests leave it. Assumes nothing.
-use Prim.Native.Nat.{ℕ, zero, suc, _+_, _*_, _<_, _≤_}
+use Prim.Native.Nat.{ℕ, zero, suc, _*_, _<_, _≤_}
 use mathlib.Core.Path.{_≡_, refl, sym, _∙_, ap}
 use mathlib.Core.Bool.{Bool, true, false, cond}
-use mathlib.Core.List.{List, [], _∷_, _++_}
+use mathlib.Core.List.{List, [], _∷_}
 use native.Mathlib.Omega.{arith}
-use lib.ListN.{length, drop}
+use lib.ListN.{length}
 use lib.Dec.{eqb}
-use borrow.Author.Tests.{eq-eqb, ne-eqb, lt-ltb, le-ltb, eqb-true, eqb-false}
+use borrow.Author.Tests.{ne-eqb, lt-ltb, le-ltb, eqb-true, eqb-false}
 use Rattle.refusal.specs.Number.{bufferTooSmall}
-use Rattle.refusal.specs.Cause.{Cause, _when_, firstOf}
+use Rattle.refusal.specs.Cause.{_when_, firstOf}
 use Rattle.refusal.proofs.Order.{numbered, numbered-append, first-stops, first-goes}
 use Rattle.wire.specs.Number.{puts}
 use Rattle.wire.proofs.Puts.{puts-front}
 use Rattle.turns.specs.declared.Turn.{Turn}
 use Rattle.turns.specs.declared.Counts.{Counts}
-use Rattle.turns.specs.Turn.{rowOf}
 use Rattle.sheet.specs.declared.record.Cursor.{Cursor}
 use Rattle.sheet.specs.declared.reader.Header.{Header}
 use Rattle.sheet.specs.declared.reader.Header.the-variants.{Found, Refused}
 use Rattle.sheet.specs.declared.reader.ReadAnswer.{ReadAnswer}
 use Rattle.sheet.specs.Record.{recordCauses, cursorAfter, firstCursor}
-use Rattle.sheet.specs.Read.{countsIn, turnCount, countCauses, headerCauses, headerOf, recordsCauses, turnsFrom, rows, sheetCauses, turnsOf, tableOf, readCauses, Outcome, outcome, refusedWith, readAnswer, readOf}
+use Rattle.sheet.specs.Read.{countsIn, turnCount, countCauses, headerCauses, headerOf, recordsCauses, turnsFrom, rows, sheetCauses, turnsOf, tableOf, readCauses, outcome, refusedWith, readOf}
 use Rattle.sheet.proofs.Scans.{record-numbered}
 
 -- ---- lengths
