@@ -14,3 +14,4 @@ pub mod Writings
 pub mod WriteMaps
 pub mod Shortest
 pub mod RoundTrip
+pub mod WriteCauses

@@ -3,3 +3,4 @@ pub mod Read
 pub mod Write
 pub mod Measure
 pub mod Accepted
+pub mod WriteCause
