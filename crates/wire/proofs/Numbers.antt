@@ -66,8 +66,8 @@ pub bytesAt-below : {s : List ℕ} → Bytes s → (at k : ℕ) → Bytes (bytes
 bytesAt-below h at zero = none
 bytesAt-below h at (suc k) = more (byte-below h at) (bytesAt-below h (at + 1) k)
 
-pub bytes-valueAt : {s : List ℕ} → Bytes s → (at k : ℕ) → bytesOf k (valueAt s at k) ≡ bytesAt s at k
-bytes-valueAt {s} h at k = ap (λ (n : ℕ). bytesOf n (valueAt s at k)) (sym (bytesAt-length s at k)) ∙ bytes-value (bytesAt-below h at k)
+pub bytes-valueAt : (s : List ℕ) (at k : ℕ) → Bytes (bytesAt s at k) → bytesOf k (valueAt s at k) ≡ bytesAt s at k
+bytes-valueAt s at k h = ap (λ (n : ℕ). bytesOf n (valueAt s at k)) (sym (bytesAt-length s at k)) ∙ bytes-value h
 
 pub bytesAt-part : (s : List ℕ) (at k : ℕ) → at + k ≤ length s → bytesAt s at k ≡ take k (drop at s)
 bytesAt-part s at zero h = refl
@@ -78,7 +78,7 @@ bytesAt-part s at (suc k) h =
 
 -- so bytes from a place on are the number that is read there, as bytes, and then the rest
 pub bytes-rest : {s : List ℕ} → Bytes s → (at k : ℕ) → at + k ≤ length s → drop at s ≡ bytesOf k (valueAt s at k) ++ drop (at + k) s
-bytes-rest {s} b at k h = sym (take-append-drop k (drop at s)) ∙ ap₂ _++_ (sym (bytes-valueAt b at k ∙ bytesAt-part s at k h)) (drop-drop k at s)
+bytes-rest {s} b at k h = sym (take-append-drop k (drop at s)) ∙ ap₂ _++_ (sym (bytes-valueAt s at k (bytesAt-below b at k) ∙ bytesAt-part s at k h)) (drop-drop k at s)
 
 -- bytes that stand at a place are what is read there
 pub bytesAt-front : (bs s : List ℕ) (at : ℕ) (rest : List ℕ) → drop at s ≡ bs ++ rest → bytesAt s at (length bs) ≡ bs
