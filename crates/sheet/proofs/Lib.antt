@@ -2,12 +2,6 @@ pub mod Records
 pub mod Headers
 pub mod Scans
 pub mod Readings
-pub mod Maps
-pub mod Fields
-pub mod Accepting
-pub mod Causes
-pub mod ReadCauses
-pub mod Tables
 pub mod WriteRecords
 pub mod Measures
 pub mod Writings
@@ -15,3 +9,9 @@ pub mod WriteMaps
 pub mod Shortest
 pub mod RoundTrip
 pub mod WriteCauses
+pub mod Maps
+pub mod Fields
+pub mod Accepting
+pub mod Causes
+pub mod ReadCauses
+pub mod Tables

@@ -8,6 +8,5 @@ pub use reader::ReadAnswer;
 pub use reader::read;
 pub use record::Cursor;
 pub use record::Next;
-pub use writer::Measure;
 pub use writer::WriteAnswer;
 pub use writer::write;

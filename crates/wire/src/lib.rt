@@ -26,29 +26,6 @@ pub fn opens_with(s: &[u8], mark: [u8; 3]) -> bool
     }
 }
 
-fn wide(x: u8) -> u16
-    ensures { λ r. ⌜ (r ≡ x) × (r < 256) ⌝ }
-{
-    x as u16
-}
-
-// The byte at a place, as a wider number.
-pub fn byte_at(s: &[u8], at: usize) -> u16
-    requires { ⌜ at + 1 ≤ length (now s) ⌝ }
-    ensures { λ r. ⌜ (r ≡ valueAt (now (s .entry)) at 1) × (r < 256) ⌝ }
-{
-    wide(s[at])
-}
-
-// The number in the two bytes from a place on.
-pub fn word_at(s: &[u8], at: usize) -> u16
-    requires { ⌜ at + 2 ≤ length (now s) ⌝ }
-    ensures { λ r. ⌜ r ≡ valueAt (now (s .entry)) at 2 ⌝ }
-{
-    let next = at + 1;
-    wide(s[at]) * 256 + wide(s[next])
-}
-
 // The mark at the front of lent bytes.
 pub fn put_mark(out: &mut [u8], mark: [u8; 3])
     requires { ⌜ 3 ≤ length (now out) ⌝ }
@@ -75,4 +52,27 @@ pub fn put_word(out: &mut [u8], at: usize, x: u16)
     let next = at + 1;
     out[at] = (x / 256) as u8;
     out[next] = (x % 256) as u8;
+}
+
+fn wide(x: u8) -> u16
+    ensures { λ r. ⌜ (r ≡ x) × (r < 256) ⌝ }
+{
+    x as u16
+}
+
+// The byte at a place, as a wider number.
+pub fn byte_at(s: &[u8], at: usize) -> u16
+    requires { ⌜ at + 1 ≤ length (now s) ⌝ }
+    ensures { λ r. ⌜ (r ≡ valueAt (now (s .entry)) at 1) × (r < 256) ⌝ }
+{
+    wide(s[at])
+}
+
+// The number in the two bytes from a place on.
+pub fn word_at(s: &[u8], at: usize) -> u16
+    requires { ⌜ at + 2 ≤ length (now s) ⌝ }
+    ensures { λ r. ⌜ r ≡ valueAt (now (s .entry)) at 2 ⌝ }
+{
+    let next = at + 1;
+    wide(s[at]) * 256 + wide(s[next])
 }
