@@ -4,16 +4,16 @@ use mathlib.Core.Path.{_≡_, refl, sym, _∙_, ap}
 use mathlib.Core.List.{List, [], _∷_, _++_, append-assoc}
 use native.Mathlib.Omega.{arith}
 use native.Mathlib.Numerals.{add-one}
-use native.Mathlib.Nat.{mul-zero, mul-one, add-zero}
-use lib.ListN.{length, getD, drop, length-append, length-drop}
-use lib.Seq.{drop-cons, drop-drop, drop-append-seam, getD-drop}
+use native.Mathlib.Nat.{mul-zero, mul-one}
+use lib.ListN.{length, drop, length-append, length-drop}
+use lib.Seq.{drop-cons, drop-drop, drop-append-seam}
 use lib.Dec.{leb, ltb}
 use borrow.Author.Tests.{lt-leb, le-ltb, ltb-false}
 use Rattle.refusal.specs.Number.{truncated, badMap}
 use Rattle.refusal.specs.Cause.{firstOf, _when_}
 use Rattle.refusal.proofs.Order.{clear-cons}
 use Rattle.wire.specs.Number.{Bytes}
-use Rattle.wire.proofs.Numbers.{length-bytes, value-front, bytes-rest}
+use Rattle.wire.proofs.Numbers.{length-bytes, byte-front, value-front, bytes-rest}
 use Rattle.turns.specs.declared.Turn.{Turn}
 use Rattle.turns.specs.declared.Counts.{Counts}
 use Rattle.turns.specs.Turn.{InRange}
@@ -29,12 +29,9 @@ use Rattle.sheet.proofs.Records.{field-carried}
 drop-front : (vs s : List ℕ) (at : ℕ) (rest : List ℕ) → drop at s ≡ vs ++ rest → drop (at + length vs) s ≡ rest
 drop-front vs s at rest e = sym (drop-drop (length vs) at s) ∙ ap (drop (length vs)) e ∙ drop-append-seam vs rest
 
-get-front : (s : List ℕ) (at b : ℕ) (rest : List ℕ) → drop at s ≡ b ∷ rest → getD s at 0 ≡ b
-get-front s at b rest e = ap (λ (i : ℕ). getD s i 0) (sym (add-zero at)) ∙ sym (getD-drop at s 0 0) ∙ ap (λ (l : List ℕ). getD l 0 0) e
-
 -- ---- a field, at every width
 
-field-length : (bit width v : ℕ) → bit < 2 → length (fieldBytes bit width v) ≡ width * bit
+pub field-length : (bit width v : ℕ) → bit < 2 → length (fieldBytes bit width v) ≡ width * bit
 field-length zero width v h = sym (mul-zero width)
 field-length (suc zero) width v h = length-bytes width v ∙ sym (mul-one width)
 field-length (suc (suc bit)) width v h = absurd (omega arith)
@@ -87,7 +84,7 @@ pub record RecordRead (s : List ℕ) (limits : Counts) (c : Cursor) (t : Turn) (
 module _ (s : List ℕ) (limits : Counts) (c : Cursor) (m : ℕ) (t : Turn) (rest : List ℕ) (few : limits .groomers ≤ 255) (low : limits .slopes ≤ 255)
     (map : GoodMap (c .first) m) (kept : Carried m (c .prev) t) (fits : InRange limits t) (stands : drop (c .at) s ≡ recordOf m t ++ rest) where
   map-is : mapAt s c ≡ m
-  map-is = get-front s (c .at) m _ (stands ∙ record-append m t rest)
+  map-is = byte-front s (c .at) m _ (stands ∙ record-append m t rest)
 
   turn-read : (turnFrom s (c .at + 1) m (c .prev) ≡ t) × (drop (c .at + 1 + widthOf m) s ≡ rest)
   unfolding turnFrom

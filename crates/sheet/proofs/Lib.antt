@@ -2,6 +2,13 @@ pub mod Records
 pub mod Headers
 pub mod Scans
 pub mod Readings
+pub mod WriteRecords
+pub mod Measures
+pub mod Writings
+pub mod WriteMaps
+pub mod Shortest
+pub mod RoundTrip
+pub mod WriteCauses
 pub mod Maps
 pub mod Fields
 pub mod Accepting

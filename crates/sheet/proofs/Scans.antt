@@ -1,16 +1,18 @@
 -- Records one after another: what the loops keep as they go on. Assumes nothing.
-use Prim.Native.Nat.{ℕ, zero, suc, _+_, _-_, _*_, _<_, _≤_}
+use Prim.Native.Nat.{ℕ, zero, suc, _+_, _-_, _<_, _≤_}
 use mathlib.Core.Path.{_≡_, refl, sym, _∙_, ap}
 use mathlib.Core.Bool.{Bool, true, false, cond}
-use mathlib.Core.List.{List, [], _∷_, _++_}
+use mathlib.Core.List.{List, _∷_, _++_}
 use native.Mathlib.Omega.{arith}
 use native.Mathlib.Numerals.{sub-one}
-use lib.ListN.{length, set}
+use lib.ListN.{length}
 use lib.Dec.{eqb}
 use borrow.Author.Tests.{lt-ltb, le-ltb, eqb-true, eqb-false}
 use Rattle.refusal.specs.Number.{trailingBytes}
-use Rattle.refusal.specs.Cause.{Cause, firstOf}
+use Rattle.refusal.specs.Cause.{firstOf}
 use Rattle.refusal.proofs.Order.{numbered, first-stops, first-goes}
+use Rattle.wire.specs.Number.{puts}
+use Rattle.wire.proofs.Puts.{puts-append}
 use Rattle.turns.specs.declared.Turn.{Turn}
 use Rattle.turns.specs.declared.Counts.{Counts}
 use Rattle.turns.specs.Turn.{rowOf, turnCauses}
@@ -18,7 +20,7 @@ use Rattle.sheet.specs.declared.record.Cursor.{Cursor}
 use Rattle.sheet.specs.declared.record.Next.{Next}
 use Rattle.sheet.specs.declared.record.Next.the-variants.{Read, Refused}
 use Rattle.sheet.specs.Record.{turnAt, cursorAfter, recordCauses, nextOf}
-use Rattle.sheet.specs.Read.{recordsCauses, turnsFrom, rows, puts}
+use Rattle.sheet.specs.Read.{recordsCauses, turnsFrom, rows}
 
 -- ---- what an answer of the reader's says
 
@@ -84,10 +86,6 @@ pub ruleset scan-cases = (scan-read, scan-refused, scan-trailing, scan-done)
 
 -- ---- the table
 
--- a row, and then what follows it
-puts-row : (l : List ℕ) (at : ℕ) (t : Turn) (vs : List ℕ) → puts (puts l at (rowOf t)) (at + 5) vs ≡ puts l at (rowOf t ++ vs)
-puts-row l at t vs = let e : at + 5 ≡ at + 1 + 1 + 1 + 1 + 1 = omega arith in rw e
-
 module _ (k : ℕ) (s : List ℕ) (limits : Counts) (c : Cursor) (at : ℕ) (l : List ℕ) where
   pub fill-read : {r : Next} {t : Turn} {d : Cursor} {l′ a : List ℕ} → r ≡ Read t d → r ≡ nextOf s limits c → 0 < k → l′ ≡ puts l at (rowOf t)
       → puts l at (rows (turnsFrom k s c)) ≡ a → puts l′ (at + 5) (rows (turnsFrom (k - 1) s d)) ≡ a
@@ -95,7 +93,7 @@ module _ (k : ℕ) (s : List ℕ) (limits : Counts) (c : Cursor) (at : ℕ) (l :
   fill-read {t = t} {d = d} g e h p i =
       let f = next-fine s limits c e g in
       let q : turnsFrom k s c ≡ t ∷ turnsFrom (k - 1) s d = turns-more k s c h ∙ rw (f .turn-is, f .cursor-is) in
-      rw p (puts-row l at t (rows (turnsFrom (k - 1) s d)) ∙ ap (λ (ts : List Turn). puts l at (rows ts)) (sym q) ∙ i)
+      rw p (puts-append (rowOf t) (rows (turnsFrom (k - 1) s d)) l at (at + 5) (omega arith) ∙ ap (λ (ts : List Turn). puts l at (rows ts)) (sym q) ∙ i)
 
   pub fill-refused : {r : Next} {f : ℕ} {a : List ℕ} → r ≡ Refused f → r ≡ nextOf s limits c → 0 < k → firstOf (recordsCauses k s limits c) ≡ 0 → l ≡ a
   fill-refused g e h i = absurd (next-refused s limits c e g .1 (scan-refused k s limits c g e h i))

@@ -48,15 +48,7 @@ module _ (s : List ℕ) where
 
 -- ---- the table
 
--- the five numbers of row i are those of a turn
-pub record RowIs (table : List ℕ) (i : ℕ) (t : Turn) : Type 0 where
-  pub slope : getD table (i * 5) 0 ≡ t .slope
-  pub groomer : getD table (i * 5 + 1) 0 ≡ t .groomer
-  pub start : getD table (i * 5 + 2) 0 ≡ t .start
-  pub length : getD table (i * 5 + 3) 0 ≡ t .length
-  pub worth : getD table (i * 5 + 4) 0 ≡ t .worth
-
--- the turn that a row's numbers are
+-- the five numbers of row i, as a turn
 abbrev pub rowTurn : List ℕ → ℕ → Turn
 rowTurn table i =
     record {
@@ -82,19 +74,11 @@ module _ (s : List ℕ) where
   unfolding tableOf
   table-at i k h l = row-at (turnsOf s) (turnOf s i) i k (omega (arith, turns-length s)) l ∙ ap (λ (t : Turn). getD (rowOf t) k 0) (turns-at s (turnOf s i) i h)
 
-  pub table-rows : (i : ℕ) → i < turnCount s → RowIs (tableOf s) i (turnOf s i)
-  table-rows i h =
-      record {
-        slope = ap (λ (j : ℕ). getD (tableOf s) j 0) (sym (add-zero (i * 5))) ∙ table-at i 0 h (omega arith);
-        groomer = table-at i 1 h (omega arith);
-        start = table-at i 2 h (omega arith);
-        length = table-at i 3 h (omega arith);
-        worth = table-at i 4 h (omega arith);
-      }
+  pub table-row : (i : ℕ) → i < turnCount s → rowTurn (tableOf s) i ≡ turnOf s i
+  table-row i h =
+      let slope = ap (λ (j : ℕ). getD (tableOf s) j 0) (sym (add-zero (i * 5))) ∙ table-at i 0 h (omega arith) in
+      λ j. record { slope = slope j; groomer = table-at i 1 h (omega arith) j; start = table-at i 2 h (omega arith) j; length = table-at i 3 h (omega arith) j; worth = table-at i 4 h (omega arith) j }
 
   -- so each of the five numbers is in its range
   pub table-in-range : Accepted s → (i : ℕ) → i < turnCount s → InRange (countsIn s) (rowTurn (tableOf s) i)
-  table-in-range a i h =
-      let r = table-rows i h in
-      let e : rowTurn (tableOf s) i ≡ turnOf s i = λ j. record { slope = r .slope j; groomer = r .groomer j; start = r .start j; length = r .length j; worth = r .worth j } in
-      rw e (accepted-in-range s a i h)
+  table-in-range a i h = rw (table-row i h) (accepted-in-range s a i h)

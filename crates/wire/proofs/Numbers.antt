@@ -66,8 +66,8 @@ pub bytesAt-below : {s : List ℕ} → Bytes s → (at k : ℕ) → Bytes (bytes
 bytesAt-below h at zero = none
 bytesAt-below h at (suc k) = more (byte-below h at) (bytesAt-below h (at + 1) k)
 
-pub bytes-valueAt : {s : List ℕ} → Bytes s → (at k : ℕ) → bytesOf k (valueAt s at k) ≡ bytesAt s at k
-bytes-valueAt {s} h at k = ap (λ (n : ℕ). bytesOf n (valueAt s at k)) (sym (bytesAt-length s at k)) ∙ bytes-value (bytesAt-below h at k)
+pub bytes-valueAt : (s : List ℕ) (at k : ℕ) → Bytes (bytesAt s at k) → bytesOf k (valueAt s at k) ≡ bytesAt s at k
+bytes-valueAt s at k h = ap (λ (n : ℕ). bytesOf n (valueAt s at k)) (sym (bytesAt-length s at k)) ∙ bytes-value h
 
 pub bytesAt-part : (s : List ℕ) (at k : ℕ) → at + k ≤ length s → bytesAt s at k ≡ take k (drop at s)
 bytesAt-part s at zero h = refl
@@ -78,15 +78,17 @@ bytesAt-part s at (suc k) h =
 
 -- so bytes from a place on are the number that is read there, as bytes, and then the rest
 pub bytes-rest : {s : List ℕ} → Bytes s → (at k : ℕ) → at + k ≤ length s → drop at s ≡ bytesOf k (valueAt s at k) ++ drop (at + k) s
-bytes-rest {s} b at k h = sym (take-append-drop k (drop at s)) ∙ ap₂ _++_ (sym (bytes-valueAt b at k ∙ bytesAt-part s at k h)) (drop-drop k at s)
+bytes-rest {s} b at k h = sym (take-append-drop k (drop at s)) ∙ ap₂ _++_ (sym (bytes-valueAt s at k (bytesAt-below b at k) ∙ bytesAt-part s at k h)) (drop-drop k at s)
 
--- bytes that stand at a place are what is read there
+-- what stands at a place is what is read there: one byte, some bytes, a number
+pub byte-front : (s : List ℕ) (at b : ℕ) (rest : List ℕ) → drop at s ≡ b ∷ rest → getD s at 0 ≡ b
+byte-front s at b rest e = ap (λ (i : ℕ). getD s i 0) (sym (add-zero at)) ∙ sym (getD-drop at s 0 0) ∙ ap (λ (l : List ℕ). getD l 0 0) e
+
 pub bytesAt-front : (bs s : List ℕ) (at : ℕ) (rest : List ℕ) → drop at s ≡ bs ++ rest → bytesAt s at (length bs) ≡ bs
 bytesAt-front [] s at rest e = refl
 bytesAt-front (b ∷ bs) s at rest e =
-    let h : getD s at 0 ≡ b = ap (λ (i : ℕ). getD s i 0) (sym (add-zero at)) ∙ sym (getD-drop at s 0 0) ∙ ap (λ (l : List ℕ). getD l 0 0) e in
     let t : drop (at + 1) s ≡ bs ++ rest = sym (drop-drop 1 at s) ∙ ap (drop 1) e in
-    ap₂ _∷_ h (bytesAt-front bs s (at + 1) rest t)
+    ap₂ _∷_ (byte-front s at b (bs ++ rest) e) (bytesAt-front bs s (at + 1) rest t)
 
 pub value-front : (k x : ℕ) (s : List ℕ) (at : ℕ) (rest : List ℕ) → x < 256 ^ k → drop at s ≡ bytesOf k x ++ rest → valueAt s at k ≡ x
 value-front k x s at rest h e =
