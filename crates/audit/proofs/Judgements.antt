@@ -142,9 +142,13 @@ module _ (b : List ℕ) {r : ℕ} (e : r ≡ openOf b) where
   unfolding openOf
   opened z = opened-cases (malformed b) e z
 
+  pub shut : (r ≡ 0 → ⊥) → malformed b ≡ true
+  unfolding openOf
+  shut z = closed-cases (malformed b) e z
+
   pub board-malformed : (T : Turns) → (r ≡ 0 → ⊥) → malformedBoard ≡ firstOf (boardCauses T b)
-  unfolding openOf boardCauses firstOf
-  board-malformed T z = rw (closed-cases (malformed b) e z)
+  unfolding boardCauses firstOf
+  board-malformed T z = rw (shut z)
 
   module _ (n : ℕ) (table : List ℕ) {k : ℕ} (z : r ≡ 0) (p : k ≡ valueAt b 3 2) where
     pub board-other : (k ≡ n → ⊥) → malformedBoard ≡ firstOf (boardCauses (turnsIn n table) b)

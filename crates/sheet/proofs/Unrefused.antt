@@ -5,7 +5,6 @@ use mathlib.Core.Logic.{_⊎_, inl, inr}
 use mathlib.Core.List.{List}
 use native.Mathlib.Omega.{arith}
 use native.Mathlib.Decide.{decLt, ℕ-discrete}
-use lib.ListN.{getD}
 use Rattle.refusal.specs.Cause.{firstOf}
 use Rattle.refusal.proofs.Order.{none-given}
 use Rattle.turns.specs.declared.Turn.{Turn}
@@ -14,7 +13,7 @@ use Rattle.sheet.specs.Read.{countsIn, turnCount, tableOf, sheetCauses, 
 use Rattle.sheet.specs.Accepted.{SheetCause, turn-count, slope, groomer, time, worth, turnOf, Outside}
 use Rattle.sheet.proofs.Causes.{cause-there}
 use Rattle.sheet.proofs.Readings.{sheet-numbered}
-use Rattle.sheet.proofs.Tables.{rowTurn, table-rows}
+use Rattle.sheet.proofs.Tables.{rowTurn, table-row}
 
 inside : (x top : ℕ) → (Outside x top → ⊥) → (1 ≤ x) × (x ≤ top)
 inside x top n = go (ℕ-discrete x 0) (decLt top x)
@@ -49,7 +48,4 @@ module _ (s : List ℕ) (e : firstOf (sheetCauses s) ≡ 0) where
       timely (no z) (no l) = (omega arith, omega arith)
 
   pub row-in-range : (i : ℕ) → i < turnCount s → InRange (countsIn s) (rowTurn (tableOf s) i)
-  row-in-range i h =
-      let r = table-rows s i h in
-      let e : rowTurn (tableOf s) i ≡ turnOf s i = λ j. record { slope = r .slope j; groomer = r .groomer j; start = r .start j; length = r .length j; worth = r .worth j } in
-      rw e (turn-in-range i h)
+  row-in-range i h = rw (table-row s i h) (turn-in-range i h)

@@ -1,8 +1,21 @@
 // The C ABI: each exported function has the contract of the entry behind it.
 ghost use mathlib.Core.Path.{_≡_};
+ghost use lib.ListN.{take, drop};
 ghost use Rattle.sheet.specs.Read.{readOf, outcome};
-ghost use Rattle.board.specs.Open.{openOf};
+ghost use Rattle.sheet.specs.Write.{countsOf, writeOf, written};
+ghost use Rattle.board.specs.Open.{openOf, stepsPart};
+ghost use Rattle.audit.specs.Check.{checkOf};
+ghost use Rattle.slopeboard.specs.Part.{stepsPartAt};
+use audit::CheckAnswer;
 use sheet::ReadAnswer;
+use sheet::WriteAnswer;
+
+// A part of the caller's own bytes: where it starts, and its length.
+#[repr(C)]
+pub struct Part {
+    pub start: usize,
+    pub length: usize,
+}
 
 #[no_mangle]
 pub extern "C" fn slopeboard_read(sheet: &[u8], table: &mut [u16]) -> ReadAnswer
@@ -12,8 +25,48 @@ pub extern "C" fn slopeboard_read(sheet: &[u8], table: &mut [u16]) -> ReadAnswer
 }
 
 #[no_mangle]
+pub extern "C" fn slopeboard_write(
+    groomers: u32,
+    slopes: u32,
+    table: &[u16],
+    bytes: &mut [u8],
+) -> WriteAnswer
+    ensures { λ r. ⌜ written r (now (bytes .exit)) ≡ writeOf (countsOf groomers slopes) (now (table .entry)) (now (bytes .entry)) ⌝ }
+{
+    sheet::write(groomers, slopes, table, &mut *bytes)
+}
+
+#[no_mangle]
 pub extern "C" fn slopeboard_open(board: &[u8]) -> u8
     ensures { λ r. ⌜ r ≡ openOf (now (board .entry)) ⌝ }
 {
     board::open(board)
+}
+
+// The part of the board that `board::steps` returns, by place and length.
+#[no_mangle]
+pub extern "C" fn slopeboard_steps(board: &[u8]) -> Part
+    ensures { λ r. ⌜ r ≡ stepsPartAt (now (board .entry)) ⌝ }
+    ensures { λ r. ⌜ take (r .length) (drop (r .start) (now (board .entry))) ≡ stepsPart (now (board .entry)) ⌝ }
+{
+    if board::open(board) != 0 {
+        return Part {
+            start: 0,
+            length: 0,
+        };
+    }
+    let n = wire::word_at(board, 3);
+    let m = wire::word_at(board, 5);
+    let start = board::steps_place(n);
+    Part {
+        start: start,
+        length: 4 * (m as usize),
+    }
+}
+
+#[no_mangle]
+pub extern "C" fn slopeboard_check(sheet: &[u8], board: &[u8]) -> CheckAnswer
+    ensures { λ r. ⌜ r ≡ checkOf (now (sheet .entry)) (now (board .entry)) ⌝ }
+{
+    audit::check(sheet, board)
 }
