@@ -25,6 +25,11 @@ pub fn shift(rng: &mut Rng, shape: u32, turns: usize) -> Shift {
     }
 }
 
+/// A shift like those of a usual night, with more of the same for more turns.
+pub fn usual(rng: &mut Rng, turns: usize) -> Shift {
+    drawn(rng, turns, [12, 80], [LAST_END, 90], 500)
+}
+
 /// Turns drawn evenly. The counts are those of groomers and slopes, the times
 /// the last end and the longest length.
 fn drawn(rng: &mut Rng, turns: usize, counts: [u32; 2], times: [u32; 2], worth: u32) -> Shift {
