@@ -26,6 +26,46 @@ pub fn fetch(buffer: &mut [u8], count: usize) -> bool {
     io::read_full(STDIN_FILENO, &mut buffer[..count]) == count
 }
 
+// A sheet's two counts as the writer takes them.
+pub struct Counts {
+    pub groomers: u32,
+    pub slopes: u32,
+}
+
+// A number of four bytes, from its two halves.
+fn long(high: u16, low: u16) -> u32 {
+    high as u32 * 65536 + low as u32
+}
+
+// The number in the two bytes from a place on, 0 where they are not there.
+fn number_at(bytes: &[u8], at: usize) -> u16 {
+    if bytes.len() < 2 {
+        return 0;
+    }
+    if bytes.len() - 2 < at {
+        return 0;
+    }
+    let next = at + 1;
+    word(bytes[at], bytes[next])
+}
+
+// The two counts that stand in eight bytes.
+pub fn counts_in(bytes: &[u8]) -> Counts {
+    Counts {
+        groomers: long(number_at(bytes, 0), number_at(bytes, 2)),
+        slopes: long(number_at(bytes, 4), number_at(bytes, 6)),
+    }
+}
+
+// Fills the table with the numbers that stand in the bytes.
+pub fn unpack(bytes: &[u8], table: &mut [u16]) {
+    let mut i = 0;
+    while i < table.len() {
+        table[i] = number_at(bytes, 2 * i);
+        i += 1;
+    }
+}
+
 pub fn fill_numbers(table: &mut [u16]) {
     let mut i = 0;
     while i < table.len() {

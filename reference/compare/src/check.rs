@@ -148,6 +148,11 @@ impl Run {
                     self.case(&sheet, &board);
                 }
             }
+            for excess in [1, 4, 8, 0x1_0000] {
+                let mut board = board.clone();
+                board.resize(board.len() + excess, 0);
+                self.case(&sheet, &board);
+            }
             for len in 0..board.len() {
                 let (cut, behind) = board.split_at(len);
                 self.sheet.put(&mut self.rng, &sheet);

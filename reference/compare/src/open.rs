@@ -20,6 +20,7 @@ pub fn run() -> bool {
     run.changed_bytes();
     run.lengths();
     run.large_boards();
+    run.far_too_long();
     run.report.finish([12])
 }
 
@@ -118,6 +119,18 @@ impl Run {
                 board[place] = self.rng.pick(&[0x40, 0x80, 0xFF]);
                 self.case(&board);
                 board.pop();
+                self.case(&board);
+            }
+        }
+    }
+
+    /// Boards too long by so much that the excess vanishes from a length of
+    /// two bytes.
+    fn far_too_long(&mut self) {
+        for turns in 0..30 {
+            for excess in [0xFFFF, 0x1_0000, 0x2_0000] {
+                let mut board = bare(turns, turns / 2);
+                board.resize(board.len() + excess, 0);
                 self.case(&board);
             }
         }
