@@ -6,11 +6,13 @@
 //! no buffer has been changed.
 
 pub mod board;
+pub mod boards;
 pub mod check;
 pub mod gen;
 pub mod listing;
 pub mod plan;
 pub mod refusal;
+pub mod shapes;
 pub mod sheet;
 pub mod turns;
 

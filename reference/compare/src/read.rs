@@ -4,7 +4,7 @@ use slopeboard_reference as reference;
 use slopeboard_reference::gen::{self, Encoded, Rng};
 
 use crate::foreign::{self, ReadAnswer};
-use crate::report::Report;
+use crate::report::{show, Report};
 
 /// Places before and after the lent table that must stay as they are.
 const GUARD: usize = 16;
@@ -281,16 +281,4 @@ fn note_properties(report: &mut Report, table: &[u16]) {
     report.property("accepted with equal records", equal);
     let touching = pairs().any(|(a, b)| a[1] == b[1] && a[2] + a[3] == b[2]);
     report.property("accepted with an end that touches a start", touching);
-}
-
-/// The input in a form that can be typed in again.
-fn show(sheet: &[u8], places: usize) -> String {
-    let mut text = format!("{places} places, {} bytes:", sheet.len());
-    for byte in sheet.iter().take(60) {
-        text.push_str(&format!(" {byte:02X}"));
-    }
-    if sheet.len() > 60 {
-        text.push_str(" ...");
-    }
-    text
 }

@@ -1,7 +1,5 @@
 //! Counts what happened to an entry's inputs and judges the whole run.
 
-use std::ops::RangeInclusive;
-
 /// Highest refusal number.
 const LAST_REFUSAL: usize = 18;
 
@@ -10,6 +8,9 @@ const LEAST_IN_BIN: u64 = 200;
 
 /// How many inputs an entry's run must have at the least.
 const LEAST_INPUTS: u64 = 100_000;
+
+/// How many of a hundred inputs must be accepted ones.
+const LEAST_ACCEPTED: u64 = 45;
 
 /// How many differences are printed in full.
 const SHOWN: u64 = 5;
@@ -54,8 +55,9 @@ impl Report {
         }
     }
 
-    /// Prints the counts and says whether the run was good.
-    pub fn finish(self, refusals: RangeInclusive<u8>) -> bool {
+    /// Prints the counts and says whether the run was good. Each of the
+    /// refusals must have been seen often enough.
+    pub fn finish(self, refusals: impl IntoIterator<Item = u8>) -> bool {
         let entry = self.entry;
         for (number, count) in self.bins.iter().enumerate() {
             if number == 0 || *count > 0 {
@@ -80,7 +82,7 @@ impl Report {
         self.bins.iter().sum()
     }
 
-    fn faults(&self, refusals: RangeInclusive<u8>) -> Vec<String> {
+    fn faults(&self, refusals: impl IntoIterator<Item = u8>) -> Vec<String> {
         let mut faults = Vec::new();
         if self.differences > 0 {
             faults.push(format!("{} differences", self.differences));
@@ -100,9 +102,21 @@ impl Report {
         if inputs < LEAST_INPUTS {
             faults.push(format!("only {inputs} inputs"));
         }
-        if accepted * 2 < inputs {
+        if accepted * 100 < inputs * LEAST_ACCEPTED {
             faults.push(format!("only {accepted} of {inputs} inputs accepted"));
         }
         faults
     }
+}
+
+/// An input in a form that can be typed in again.
+pub fn show(input: &[u8], places: usize) -> String {
+    let mut text = format!("{places} places, {} bytes:", input.len());
+    for byte in input.iter().take(60) {
+        text.push_str(&format!(" {byte:02X}"));
+    }
+    if input.len() > 60 {
+        text.push_str(" ...");
+    }
+    text
 }

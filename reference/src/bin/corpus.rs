@@ -1,18 +1,86 @@
-//! Writes the files `stdin` and `stdout` into the folder named by the first
-//! argument: cases for a test program, and the lines it must print.
+//! Writes the files `stdin` and `stdout` into a folder: cases for a small
+//! test program without a heap, and the lines it must print.
 //!
-//! Each entry of the library has a module of its own, with its own number at
-//! the head of its cases.
+//! ```text
+//! corpus FOLDER ENTRY..     the cases of the named entries (all if none is named)
+//! ```
+//!
+//! The stored files of the crate `corpus` are made at the top of the
+//! repository, with the entries that the crate runs:
+//!
+//! ```text
+//! cargo run --release --manifest-path reference/Cargo.toml --bin corpus -- crates/corpus read open
+//! ```
+//!
+//! A case is five bytes and an input. Byte 0 is the entry's number, bytes 1
+//! and 2 are the first, bytes 3 and 4 the second of two numbers, high byte
+//! first:
+//!
+//! | entry | first | second | input |
+//! |---|---|---|---|
+//! | 1 read | numbers lent | bytes of the sheet | the sheet |
+//! | 2 write | bytes lent | numbers of the table | groomers and slopes, four bytes each, then the numbers, two bytes each |
+//! | 3 plan | bytes lent | bytes of the sheet | the sheet |
+//! | 4 open | 0 | bytes of the board | the board |
+//! | 5 check | bytes of the sheet | bytes of the board | the sheet, then the board |
+//! | 6 list | bytes lent | bytes of the sheet | the sheet |
+//!
+//! Before the call each lent number is A5A5 and each lent byte A5. The line
+//! has the entry's name, the refusal, the values returned (0 on a refusal) and
+//! a checksum of all that was lent, as it is after the call: from 1, for each
+//! place, times 31 plus what it holds, modulo 65,521. For `open` the values
+//! are the length of the steps handed back, and the checksum is theirs;
+//! `check` has none.
 
 use std::path::Path;
 use std::process::ExitCode;
 use std::{env, fs, io};
 
+use slopeboard_reference::plan;
+
+#[path = "corpus/check.rs"]
+mod check;
+#[path = "corpus/list.rs"]
+mod list;
+#[path = "corpus/open.rs"]
+mod open;
+#[path = "corpus/planning.rs"]
+mod planning;
 #[path = "corpus/read.rs"]
 mod read;
+#[path = "corpus/write.rs"]
+mod write;
 
 /// Most bytes that the test program is meant to take.
-const MOST_INPUT: usize = 200_000;
+const MOST_INPUT: usize = 400_000;
+
+/// The worked example: two groomers, three slopes, four turns.
+const EXAMPLE: [u8; 39] = [
+    0x47, 0x52, 0x4D, 0x02, 0x03, 0x00, 0x04, 0x1F, 0x01, 0x01, 0x00, 0x00, 0x00, 0x3C, 0x00, 0x64,
+    0x15, 0x02, 0x00, 0x1E, 0x00, 0x96, 0x1F, 0x01, 0x02, 0x00, 0x00, 0x00, 0x78, 0x00, 0x50, 0x1D,
+    0x03, 0x00, 0x78, 0x00, 0x3C, 0x00, 0x5A,
+];
+
+/// The board of the example.
+const EXAMPLE_BOARD: [u8; 28] = [
+    0x47, 0x52, 0x42, 0x00, 0x04, 0x00, 0x03, 0x00, 0x00, 0x00, 0xF0, 0x00, 0x00, 0x01, 0x40, 0x0E,
+    0x00, 0x00, 0x00, 0x64, 0x00, 0x01, 0x00, 0x32, 0x00, 0x03, 0x00, 0x5A,
+];
+
+/// What every lent byte holds before a call.
+const FILL: u8 = 0xA5;
+
+/// An entry's name and what adds its cases.
+type Entry = (&'static str, fn(&mut Corpus));
+
+const ENTRIES: [Entry; 6] = [
+    ("read", read::add),
+    ("write", write::add),
+    ("plan", planning::add),
+    ("open", open::add),
+    ("check", check::add),
+    ("list", list::add),
+];
 
 /// The two files as they grow.
 #[derive(Default)]
@@ -23,15 +91,20 @@ pub struct Corpus {
 }
 
 impl Corpus {
-    /// Adds a case: the entry's number, the places lent, the sheet, and the
-    /// line to be printed for it.
-    pub fn push(&mut self, entry: u8, places: usize, sheet: &[u8], line: &str) {
-        let places = u16::try_from(places).expect("places fit two bytes");
-        let len = u16::try_from(sheet.len()).expect("the sheet's length fits two bytes");
+    /// Adds a case whose second number is the length of its input.
+    pub fn push(&mut self, entry: u8, first: usize, input: &[u8], line: &str) {
+        self.push_with(entry, first, input.len(), input, line);
+    }
+
+    /// Adds a case: the entry's number, the two numbers of its head, its
+    /// input, and the line to be printed for it.
+    pub fn push_with(&mut self, entry: u8, first: usize, second: usize, input: &[u8], line: &str) {
         self.input.push(entry);
-        self.input.extend(places.to_be_bytes());
-        self.input.extend(len.to_be_bytes());
-        self.input.extend(sheet);
+        for number in [first, second] {
+            let number = u16::try_from(number).expect("the number fits two bytes");
+            self.input.extend(number.to_be_bytes());
+        }
+        self.input.extend(input);
         self.lines.push_str(line);
         self.lines.push('\n');
         self.cases += 1;
@@ -44,25 +117,57 @@ impl Corpus {
     }
 }
 
+/// Sums up bytes, so that a change of any one shows.
+pub fn byte_sum(bytes: &[u8]) -> u32 {
+    bytes
+        .iter()
+        .fold(1, |sum, &value| (sum * 31 + u32::from(value)) % 65_521)
+}
+
+/// The reference's board of an accepted sheet.
+pub fn planned(sheet: &[u8]) -> Vec<u8> {
+    let mut board = vec![0; 1665];
+    let len = plan(sheet, &mut board).expect("the sheet is accepted");
+    board.truncate(len);
+    board
+}
+
+/// The cases of the named entries, or the name that is none.
+fn collect(names: &[String]) -> Result<Corpus, String> {
+    let unknown = |name: &&String| !ENTRIES.iter().any(|(known, _)| known == name);
+    if let Some(name) = names.iter().find(unknown) {
+        return Err(format!("no entry {name}"));
+    }
+    let mut corpus = Corpus::default();
+    for (name, add) in ENTRIES {
+        if names.is_empty() || names.iter().any(|wanted| wanted == name) {
+            let (cases, bytes) = (corpus.cases, corpus.input.len());
+            add(&mut corpus);
+            let (cases, bytes) = (corpus.cases - cases, corpus.input.len() - bytes);
+            println!("corpus: {name} {cases} cases, {bytes} bytes");
+        }
+    }
+    match corpus.input.len() {
+        0..=MOST_INPUT => Ok(corpus),
+        len => Err(format!("{len} bytes are too many")),
+    }
+}
+
 fn main() -> ExitCode {
-    let Some(folder) = env::args_os().nth(1) else {
-        eprintln!("usage: corpus FOLDER");
+    let arguments: Vec<String> = env::args().skip(1).collect();
+    let Some((folder, names)) = arguments.split_first() else {
+        eprintln!("usage: corpus FOLDER ENTRY..");
         return ExitCode::FAILURE;
     };
-    let mut corpus = Corpus::default();
-    read::add(&mut corpus);
-    if corpus.input.len() > MOST_INPUT {
-        eprintln!("corpus: {} bytes are too many", corpus.input.len());
-        return ExitCode::FAILURE;
+    let saved = collect(names).and_then(|corpus| {
+        let saved = corpus.save(Path::new(folder));
+        saved.map_err(|error| error.to_string())
+    });
+    match saved {
+        Ok(()) => ExitCode::SUCCESS,
+        Err(text) => {
+            eprintln!("corpus: {text}");
+            ExitCode::FAILURE
+        }
     }
-    if let Err(error) = corpus.save(Path::new(&folder)) {
-        eprintln!("corpus: {error}");
-        return ExitCode::FAILURE;
-    }
-    println!(
-        "corpus: {} cases, {} bytes",
-        corpus.cases,
-        corpus.input.len()
-    );
-    ExitCode::SUCCESS
 }

@@ -3,7 +3,7 @@
 use slopeboard_reference::gen::{self, Rng};
 use slopeboard_reference::read;
 
-use crate::Corpus;
+use crate::{Corpus, EXAMPLE};
 
 const ENTRY: u8 = 1;
 const MOST_PLACES: usize = 2004;
@@ -11,13 +11,6 @@ const LONGEST_SHEET: usize = 4000;
 
 /// What every place holds before the call.
 const FILL: u16 = 0xA5A5;
-
-/// The worked example: two groomers, three slopes, four turns.
-const EXAMPLE: [u8; 39] = [
-    0x47, 0x52, 0x4D, 0x02, 0x03, 0x00, 0x04, 0x1F, 0x01, 0x01, 0x00, 0x00, 0x00, 0x3C, 0x00, 0x64,
-    0x15, 0x02, 0x00, 0x1E, 0x00, 0x96, 0x1F, 0x01, 0x02, 0x00, 0x00, 0x00, 0x78, 0x00, 0x50, 0x1D,
-    0x03, 0x00, 0x78, 0x00, 0x3C, 0x00, 0x5A,
-];
 
 /// Where the last record of the example has its map.
 const EXAMPLE_LAST_MAP: usize = 31;
@@ -114,7 +107,7 @@ fn seeded_cases(corpus: &mut Corpus) {
 }
 
 /// A sheet that went wrong in one of five ways. Some are still accepted.
-fn faulty(rng: &mut Rng, turns: usize, kind: u32) -> Vec<u8> {
+pub fn faulty(rng: &mut Rng, turns: usize, kind: u32) -> Vec<u8> {
     let shift = gen::shift(rng, turns);
     let mut sheet = gen::encode(rng, &shift, 20).bytes;
     match kind {

@@ -1,0 +1,67 @@
+/* Takes a small shift through the whole library: writes its sheet from a turn table, reads the sheet
+ * back, plans it, opens and checks the board, and prints the drivers' listing.
+ *
+ * With the library in target/staticlib (rt staticlib slopeboard), at the top of the repository:
+ *
+ *     gcc -std=c99 -Wall -Wextra -Iinclude examples/shift.c target/staticlib/libslopeboard.a -o shift
+ */
+#include <stdio.h>
+#include <string.h>
+
+#include "slopeboard.h"
+
+#define GROOMERS 2
+#define SLOPES 3
+#define TURNS 4
+#define NUMBERS (SLOPEBOARD_NUMBERS_PER_TURN * TURNS)
+
+/* Slope, groomer, start, length, worth. */
+static const uint16_t turns[NUMBERS] = {
+    1, 1, 0,   60,  100, /* turn 0 */
+    2, 1, 30,  60,  150, /* turn 1 */
+    1, 2, 0,   120, 80,  /* turn 2 */
+    3, 2, 120, 60,  90,  /* turn 3 */
+};
+
+/* Says on standard error where things went wrong; gives the program's exit status. */
+static int refused(const char *what, unsigned number) {
+    fprintf(stderr, "%s refused %u\n", what, number);
+    return 1;
+}
+
+/* Prints the steps that stand in a board of ours. */
+static void print_steps(const uint8_t *board, slopeboard_part steps) {
+    for (size_t place = 0; place + 4 <= steps.length; place += 4) {
+        const uint8_t *step = board + steps.start + place;
+        fprintf(stderr, "turn %u for %u\n", step[0] << 8 | step[1], step[2] << 8 | step[3]);
+    }
+}
+
+int main(void) {
+    uint8_t sheet[SLOPEBOARD_MOST_SHEET_BYTES];
+    slopeboard_write_answer written = slopeboard_write(GROOMERS, SLOPES, turns, NUMBERS, sheet, sizeof sheet);
+    if (written.refusal != 0) return refused("write", written.refusal);
+
+    uint16_t table[NUMBERS];
+    slopeboard_read_answer read = slopeboard_read(sheet, written.bytes, table, NUMBERS);
+    if (read.refusal != 0) return refused("read", read.refusal);
+    if (read.turns != TURNS || memcmp(table, turns, sizeof turns) != 0) return refused("comparing", 0);
+
+    uint8_t board[SLOPEBOARD_BOARD_BYTES(TURNS)];
+    slopeboard_plan_answer planned = slopeboard_plan(sheet, written.bytes, board, sizeof board);
+    if (planned.refusal != 0) return refused("plan", planned.refusal);
+
+    uint8_t opened = slopeboard_open(board, planned.bytes);
+    if (opened != 0) return refused("open", opened);
+    print_steps(board, slopeboard_steps(board, planned.bytes));
+
+    slopeboard_check_answer checked = slopeboard_check(sheet, written.bytes, board, planned.bytes);
+    if (checked.refusal != 0) return refused("check", checked.refusal);
+    fprintf(stderr, "checked: tally %u, worth %u\n", (unsigned)checked.tally, (unsigned)checked.worth);
+
+    uint8_t text[SLOPEBOARD_MOST_TEXT_BYTES];
+    slopeboard_list_answer listed = slopeboard_list(sheet, written.bytes, text, sizeof text);
+    if (listed.refusal != 0) return refused("list", listed.refusal);
+    fwrite(text, 1, listed.bytes, stdout);
+    return 0;
+}

@@ -1,0 +1,144 @@
+/* Slope board: reads and writes shift sheets, plans boards, opens and checks them, and makes the
+ * drivers' listing. Link libslopeboard.a; nothing else is needed.
+ *
+ * What holds for every function:
+ *
+ * - A slice is a pointer and a length, the length counted in elements. Where the length is 0, the
+ *   pointer may be any value, also NULL. Otherwise it points to so many elements that stay readable
+ *   (and, for a lent buffer, writable) during the call.
+ * - A lent buffer, which is one without 'const', overlaps no other slice of the same call. Two slices
+ *   that are only read may overlap.
+ * - A table of 16-bit numbers is aligned as uint16_t.
+ * - No pointer is kept. There is no heap, no lock, no global state and no input or output, so
+ *   calls in several threads do not disturb each other as long as their lent buffers differ.
+ * - Any bytes are taken: no content of a slice leads to anything but an answer.
+ * - An answer's 'refusal' is 0, or one of the numbers below. On a refusal every other field of the
+ *   answer is 0 and every lent buffer holds what it held before. Where several numbers would fit,
+ *   the order under each function says which is given.
+ * - On success, the places of a lent buffer past the last one written hold what they held before.
+ *
+ * Numbers in sheets and boards of two or four bytes stand high byte first. Turns are numbered from 0
+ * in the order of the sheet, slopes and groomers from 1.
+ */
+#ifndef SLOPEBOARD_H
+#define SLOPEBOARD_H
+
+#include <stddef.h>
+#include <stdint.h>
+
+#ifdef __cplusplus
+extern "C" {
+#endif
+
+/* The refusals. */
+enum {
+    SLOPEBOARD_TRUNCATED = 1,         /* the sheet ends inside its header, or before a record is whole */
+    SLOPEBOARD_BAD_MAGIC = 2,         /* the sheet does not open with GRM */
+    SLOPEBOARD_BAD_COUNTS = 3,        /* groomers outside 1 to 16, or slopes outside 1 to 120 */
+    SLOPEBOARD_TOO_MANY_TURNS = 4,    /* more than 400 turns */
+    SLOPEBOARD_BAD_MAP = 5,           /* a record's map has bit 5, 6 or 7, or the first one is not 1F */
+    SLOPEBOARD_BAD_SLOPE = 6,         /* a turn's slope is 0 or above the count */
+    SLOPEBOARD_BAD_GROOMER = 7,       /* a turn's groomer is 0 or above the count */
+    SLOPEBOARD_BAD_TIME = 8,          /* a turn has length 0 or ends after minute 960 */
+    SLOPEBOARD_BAD_WORTH = 9,         /* a turn's worth is 0 or above 60,000 */
+    SLOPEBOARD_TRAILING_BYTES = 10,   /* the sheet goes on after its last record */
+    SLOPEBOARD_BUFFER_TOO_SMALL = 11, /* a lent buffer is shorter than the function asks */
+    SLOPEBOARD_MALFORMED_BOARD = 12,  /* the bytes are not those of a board (for this sheet) */
+    SLOPEBOARD_CONFLICT = 13,         /* two chosen turns exclude each other */
+    SLOPEBOARD_NOT_MAXIMAL = 14,      /* a turn could be chosen in addition */
+    SLOPEBOARD_WRONG_STEP = 15,       /* a step is not right at its place */
+    SLOPEBOARD_TURN_LEFT_OPEN = 16,   /* a turn is open after the last step */
+    SLOPEBOARD_WRONG_SUMS = 17,       /* tally or worth is not its sum, or the worth is below the tally */
+    SLOPEBOARD_PARTIAL_TURN = 18      /* a turn table's length is no multiple of five */
+};
+
+/* The limits, and what buffers can need at most. */
+#define SLOPEBOARD_MOST_GROOMERS 16
+#define SLOPEBOARD_MOST_SLOPES 120
+#define SLOPEBOARD_MOST_TURNS 400
+#define SLOPEBOARD_NUMBERS_PER_TURN 5
+#define SLOPEBOARD_MOST_NUMBERS (SLOPEBOARD_NUMBERS_PER_TURN * SLOPEBOARD_MOST_TURNS)
+/* A header of 7 bytes and records of at most 9. */
+#define SLOPEBOARD_MOST_SHEET_BYTES (7 + 9 * SLOPEBOARD_MOST_TURNS)
+/* What slopeboard_plan asks for, for a sheet of so many turns. */
+#define SLOPEBOARD_BOARD_BYTES(turns) (15 + ((turns) + 7) / 8 + 4 * (turns))
+#define SLOPEBOARD_MOST_BOARD_BYTES SLOPEBOARD_BOARD_BYTES(SLOPEBOARD_MOST_TURNS)
+/* A line for each groomer, a line for each chosen turn (at most one a slope), and a last line. */
+#define SLOPEBOARD_MOST_TEXT_BYTES 4096
+
+typedef struct {
+    uint8_t refusal;
+    uint16_t groomers;
+    uint16_t slopes;
+    uint16_t turns;
+} slopeboard_read_answer;
+
+typedef struct {
+    uint8_t refusal;
+    uint32_t bytes; /* how many bytes were written, from the buffer's start */
+} slopeboard_write_answer;
+
+typedef slopeboard_write_answer slopeboard_plan_answer;
+typedef slopeboard_write_answer slopeboard_list_answer;
+
+typedef struct {
+    size_t start;
+    size_t length;
+} slopeboard_part;
+
+typedef struct {
+    uint8_t refusal;
+    uint32_t tally;
+    uint32_t worth;
+} slopeboard_check_answer;
+
+/* Reads a sheet into a turn table: five numbers a turn, which are slope, groomer, start, length and
+ * worth. The answer has the counts of the sheet's header.
+ *
+ * Refusals, in this order: 1 for fewer than 7 bytes, 2, 3, 4; then, record by record, 1 for a missing
+ * map, 5, 1 for missing fields, 6, 7, 8, 9; then 10; then 11 if table_len is below five times the
+ * turns. */
+slopeboard_read_answer slopeboard_read(const uint8_t *sheet, size_t sheet_len, uint16_t *table, size_t table_len);
+
+/* Writes the shortest sheet that has these counts and the turns of the table, in the table's order.
+ *
+ * Refusals, in this order: 18, 3, 4; then, turn by turn, 6, 7, 8, 9; then 11 if the sheet is longer than
+ * bytes_len. */
+slopeboard_write_answer slopeboard_write(uint32_t groomers, uint32_t slopes, const uint16_t *table, size_t table_len,
+                                         uint8_t *bytes, size_t bytes_len);
+
+/* Plans the turns of a sheet and writes the board, which may come out shorter than the room asked for.
+ *
+ * Refusals: those of slopeboard_read up to 10, in their order; then 11 if board_len is below
+ * SLOPEBOARD_BOARD_BYTES of the sheet's turns. */
+slopeboard_plan_answer slopeboard_plan(const uint8_t *sheet, size_t sheet_len, uint8_t *board, size_t board_len);
+
+/* Gives 0 if the bytes have the shape of a board, else 12: the mark GRB, no more steps than turns,
+ * exactly the length that both counts demand, and no bit past the last turn. What the board says is
+ * not judged, and it may have more turns than any sheet. */
+uint8_t slopeboard_open(const uint8_t *board, size_t board_len);
+
+/* Where the steps of a board stand in its own bytes: the place of the first one's first byte, and the
+ * length of all, four bytes a step. Both are 0 if the board does not open. */
+slopeboard_part slopeboard_steps(const uint8_t *board, size_t board_len);
+
+/* Checks a board, whoever made it, against a sheet. The answer has the board's tally and worth. If
+ * nothing is refused, no set of the sheet's turns without a conflict is worth more than twice that tally.
+ *
+ * Refusals: those of slopeboard_read up to 10, in their order; then 12 if the board does not open or is
+ * not for as many turns as the sheet has; then 13, 14, 15, 16, 17. */
+slopeboard_check_answer slopeboard_check(const uint8_t *sheet, size_t sheet_len, const uint8_t *board, size_t board_len);
+
+/* Writes the drivers' listing of the planner's board of a sheet, in ASCII and without a 0 at its end:
+ * a line for each groomer, below it a line for each of its chosen turns by start, and a last line with
+ * worth and tally.
+ *
+ * Refusals: those of slopeboard_read up to 10, in their order; then 11 if the listing is longer than
+ * text_len. */
+slopeboard_list_answer slopeboard_list(const uint8_t *sheet, size_t sheet_len, uint8_t *text, size_t text_len);
+
+#ifdef __cplusplus
+}
+#endif
+
+#endif

@@ -1,0 +1,192 @@
+//! Times this library and the reference version side by side and prints a
+//! table. It judges nothing: what differs is for the comparison to find.
+//!
+//! ```text
+//! SLOPEBOARD_LIB_DIR=$PWD/target/staticlib cargo run --release --manifest-path reference/bench/Cargo.toml
+//! ```
+//!
+//! The two versions are timed by turns, so that whatever slows the machine
+//! down for a while meets both. The median is of all rounds, the best is the fastest
+//! one; the ratio is library to reference by the medians, the growth is the
+//! library's median against that of half as many turns.
+
+use std::hint::black_box;
+use std::time::{Duration, Instant};
+
+use slopeboard_reference as reference;
+use slopeboard_reference::gen::{self, Rng, Shift};
+use slopeboard_reference::shapes;
+
+/// How many times each version is timed on a sheet.
+const ROUNDS: usize = 301;
+
+/// A timed stretch has enough calls to take about so long.
+const STRETCH: Duration = Duration::from_micros(200);
+
+/// How many sheets of a size are drawn; the table has their mean.
+const SHEETS: u32 = 5;
+
+/// A sheet, the planner's board for it, and room for any answer.
+struct Job {
+    sheet: Vec<u8>,
+    board: Vec<u8>,
+    numbers: Vec<u16>,
+    bytes: Vec<u8>,
+}
+
+impl Job {
+    fn new(rng: &mut Rng, shift: &Shift) -> Job {
+        let sheet = gen::encode(rng, shift, 0).bytes;
+        let mut board = vec![0; slopeboard::board_bytes(shift.turns.len())];
+        let len = reference::plan(&sheet, &mut board).expect("the sheet is accepted");
+        board.truncate(len);
+        Job {
+            sheet,
+            board,
+            numbers: vec![0; 5 * shift.turns.len()],
+            bytes: vec![0; slopeboard::MOST_TEXT_BYTES],
+        }
+    }
+
+    fn steps(&self) -> usize {
+        reference::steps(&self.board).len() / 4
+    }
+}
+
+/// One entry, called in both versions. A call says whether it was accepted.
+struct Entry {
+    name: &'static str,
+    library: fn(&mut Job) -> bool,
+    reference: fn(&mut Job) -> bool,
+}
+
+const ENTRIES: [Entry; 4] = [
+    Entry {
+        name: "read",
+        library: |job| slopeboard::read(&job.sheet, &mut job.numbers).is_ok(),
+        reference: |job| reference::read(&job.sheet, &mut job.numbers).is_ok(),
+    },
+    Entry {
+        name: "plan",
+        library: |job| slopeboard::plan(&job.sheet, &mut job.bytes).is_ok(),
+        reference: |job| reference::plan(&job.sheet, &mut job.bytes).is_ok(),
+    },
+    Entry {
+        name: "check",
+        library: |job| slopeboard::check(&job.sheet, &job.board).is_ok(),
+        reference: |job| reference::check(&job.sheet, &job.board).is_ok(),
+    },
+    Entry {
+        name: "list",
+        library: |job| slopeboard::list(&job.sheet, &mut job.bytes).is_ok(),
+        reference: |job| reference::listing(&job.sheet, &mut job.bytes).is_ok(),
+    },
+];
+
+/// Best and median time of one call, in nanoseconds.
+#[derive(Clone, Copy, Default)]
+struct Times {
+    best: f64,
+    median: f64,
+}
+
+impl Times {
+    fn of(mut samples: Vec<f64>) -> Times {
+        samples.sort_by(f64::total_cmp);
+        Times {
+            best: samples[0],
+            median: samples[samples.len() / 2],
+        }
+    }
+
+    fn add(&mut self, other: Times, share: f64) {
+        self.best += other.best * share;
+        self.median += other.median * share;
+    }
+}
+
+/// Time of one call, as the mean of so many, in nanoseconds.
+fn stretch(call: fn(&mut Job) -> bool, job: &mut Job, calls: u32) -> f64 {
+    let start = Instant::now();
+    for _ in 0..calls {
+        assert!(call(black_box(job)), "an accepted sheet was refused");
+    }
+    start.elapsed().as_nanos() as f64 / f64::from(calls)
+}
+
+/// How many calls make up a stretch.
+fn calls_for(call: fn(&mut Job) -> bool, job: &mut Job) -> u32 {
+    let one = stretch(call, job, 3).max(1.0);
+    (STRETCH.as_nanos() as f64 / one).clamp(1.0, 10_000.0) as u32
+}
+
+/// Times both versions by turns: the library's times and the reference's.
+fn measure(entry: &Entry, job: &mut Job) -> [Times; 2] {
+    let versions = [entry.library, entry.reference];
+    let calls = versions.map(|call| calls_for(call, job));
+    let mut samples = [Vec::new(), Vec::new()];
+    for round in 0..ROUNDS {
+        for place in 0..2 {
+            // Neither is always the first of a round.
+            let version = (round + place) % 2;
+            let time = stretch(versions[version], job, calls[version]);
+            samples[version].push(time);
+        }
+    }
+    samples.map(Times::of)
+}
+
+fn measure_all(entry: &Entry, jobs: &mut [Job]) -> [Times; 2] {
+    let share = 1.0 / jobs.len() as f64;
+    let mut sum = [Times::default(); 2];
+    for job in jobs {
+        let times = measure(entry, job);
+        sum[0].add(times[0], share);
+        sum[1].add(times[1], share);
+    }
+    sum
+}
+
+fn print_row(name: &str, label: &str, [library, reference]: [Times; 2], growth: Option<f64>) {
+    let micros = |time: f64| format!("{:.2}", time / 1000.0);
+    let growth = growth.map_or(String::new(), |growth| format!("{growth:.2}"));
+    println!(
+        "{name:6}{label:14}{:>10}{:>10}{:>12}{:>10}{:>8.2}{growth:>8}",
+        micros(library.best),
+        micros(library.median),
+        micros(reference.best),
+        micros(reference.median),
+        library.median / reference.median,
+    );
+}
+
+fn main() {
+    let mut rng = Rng::new(7);
+    let sizes = [50, 100, 200, 400];
+    let mut usual = sizes.map(|turns| {
+        let jobs = (0..SHEETS).map(|_| {
+            let shift = shapes::usual(&mut rng, turns);
+            Job::new(&mut rng, &shift)
+        });
+        jobs.collect::<Vec<Job>>()
+    });
+    let shift = shapes::shift(&mut rng, shapes::A_STEP_A_TURN, 400);
+    let mut most_steps = [Job::new(&mut rng, &shift)];
+    assert_eq!(most_steps[0].steps(), 400);
+
+    println!("times of one call in microseconds; m is the number of steps, n of turns");
+    println!("                     library             reference");
+    println!("entry sheet               best    median        best    median   ratio  growth");
+    for entry in &ENTRIES {
+        let mut before: Option<f64> = None;
+        for (turns, jobs) in sizes.into_iter().zip(&mut usual) {
+            let steps = jobs.iter().map(Job::steps).sum::<usize>() / jobs.len();
+            let times = measure_all(entry, jobs);
+            let growth = before.map(|before| times[0].median / before);
+            print_row(entry.name, &format!("n={turns} m={steps}"), times, growth);
+            before = Some(times[0].median);
+        }
+        let times = measure_all(entry, &mut most_steps);
+        print_row(entry.name, "n=400 m=400", times, None);
+    }
+}

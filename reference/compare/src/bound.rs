@@ -1,0 +1,115 @@
+//! What a board that passes promises: on small sheets, no choice of turns
+//! without a conflict is worth more than twice its tally. Tried out on every
+//! choice; the reference's check and planner have no part in it.
+
+use slopeboard_reference::boards;
+use slopeboard_reference::gen::{self, Rng, Shift};
+
+use crate::foreign;
+use crate::report::{show, Report};
+
+const SHEETS: u32 = 6000;
+
+/// Tries the promise on many boards, right ones and others.
+pub fn run() -> bool {
+    let mut run = Run {
+        rng: Rng::new(2030),
+        report: Report::new("bound"),
+    };
+    for _ in 0..SHEETS {
+        run.sheet();
+    }
+    run.report.finish([])
+}
+
+struct Run {
+    rng: Rng,
+    report: Report,
+}
+
+/// Few slopes, groomers and minutes, so that conflicts of both kinds, touching
+/// turns and equal ends abound.
+fn small_shift(rng: &mut Rng) -> Shift {
+    let (groomers, slopes) = (rng.between(1, 3), rng.between(1, 6));
+    let worth = rng.pick(&[3, 20, 60_000]);
+    let turns = (0..rng.below(11)).map(|_| {
+        [
+            rng.between(1, slopes) as u16,
+            rng.between(1, groomers) as u16,
+            rng.below(12) as u16,
+            rng.between(1, 8) as u16,
+            rng.between(1, worth) as u16,
+        ]
+    });
+    let turns = turns.collect();
+    Shift {
+        groomers: groomers as u8,
+        slopes: slopes as u8,
+        turns,
+    }
+}
+
+impl Run {
+    fn sheet(&mut self) {
+        let shift = small_shift(&mut self.rng);
+        let turns = &shift.turns;
+        let sheet = gen::encode(&mut self.rng, &shift, 20).bytes;
+        let best = boards::best_worth(turns);
+        for round in 0..10 {
+            let board = if round % 2 == 0 {
+                boards::right(&mut self.rng, turns)
+            } else {
+                boards::full(&mut self.rng, turns)
+            };
+            let passes = self.board(&sheet, &board.bytes(), best);
+            // Right boards always pass, full ones if they are worth enough.
+            let right = board.worth >= board.tally;
+            if passes != right {
+                let text = || format!("a right board is refused: {}", show(&sheet, 0));
+                self.report.differs(text);
+            }
+            let kind = self.rng.below(boards::FAULTS);
+            let bytes = boards::with_fault(&mut self.rng, turns, &board, kind);
+            self.board(&sheet, &bytes, best);
+        }
+        #[cfg(feature = "plan")]
+        self.plan(&sheet, best);
+    }
+
+    /// The library's own board of the sheet must pass.
+    #[cfg(feature = "plan")]
+    fn plan(&mut self, sheet: &[u8], best: u32) {
+        let mut board = [0; 64];
+        let answer = foreign::plan(sheet, &mut board);
+        let passes = self.board(sheet, &board[..answer.bytes as usize], best);
+        self.report.property("planned boards that pass", passes);
+        if !passes {
+            let text = || format!("the planner's board is refused: {}", show(sheet, 0));
+            self.report.differs(text);
+        }
+    }
+
+    /// Holds a board that passes to the promise, by its own bytes.
+    fn board(&mut self, sheet: &[u8], board: &[u8], best: u32) -> bool {
+        let answer = foreign::check(sheet, board);
+        self.report.count(answer.refusal);
+        if answer.refusal != 0 {
+            return false;
+        }
+        let sum = |place: usize| {
+            board[place..place + 4]
+                .iter()
+                .fold(0, |sum, &byte| sum << 8 | u32::from(byte))
+        };
+        let (tally, worth) = (sum(7), sum(11));
+        let same = (answer.tally, answer.worth) == (tally, worth);
+        let holds = tally <= worth && worth <= best && best <= 2 * tally;
+        self.report
+            .property("best worth above the tally", best > tally);
+        if !same || !holds {
+            let text = || format!("{answer:?}, best {best}: {}", show(sheet, 0));
+            self.report.differs(text);
+        }
+        true
+    }
+}

@@ -1,0 +1,250 @@
+//! Checking a board against a sheet.
+
+use slopeboard_reference as reference;
+use slopeboard_reference::boards::{self, Draft, Order};
+use slopeboard_reference::gen::{self, Rng, Shift};
+use slopeboard_reference::shapes;
+
+use crate::foreign::{self, CheckAnswer};
+use crate::placed::Placed;
+use crate::report::{show, Report};
+
+/// Compares the two checks on all pairs of sheet and board.
+pub fn run() -> bool {
+    let mut run = Run {
+        rng: Rng::new(2029),
+        report: Report::new("check"),
+        sheet: Placed::default(),
+        board: Placed::default(),
+    };
+    run.planned_boards();
+    run.other_right_boards();
+    run.example();
+    run.faults();
+    run.changed_bytes();
+    run.orders_and_choices();
+    run.refused_sheets();
+    run.boards_of_other_sheets();
+    run.report.finish((1..=10).chain(12..=17))
+}
+
+struct Run {
+    rng: Rng,
+    report: Report,
+    sheet: Placed,
+    board: Placed,
+}
+
+/// The reference's board of an accepted sheet.
+fn planned(sheet: &[u8]) -> Vec<u8> {
+    let mut board = vec![0; 1665];
+    let len = reference::plan(sheet, &mut board).expect("the sheet is accepted");
+    board.truncate(len);
+    board
+}
+
+impl Run {
+    fn sheet_of(&mut self, shape: u32, turns: usize) -> (Shift, Vec<u8>) {
+        let shift = shapes::shift(&mut self.rng, shape, turns);
+        let sheet = gen::encode(&mut self.rng, &shift, 10).bytes;
+        (shift, sheet)
+    }
+
+    /// A number of turns: mostly few, seldom many.
+    fn turn_count(&mut self) -> usize {
+        match self.rng.below(200) {
+            0 => self.rng.between(100, 400) as usize,
+            1..=9 => self.rng.between(20, 100) as usize,
+            _ => self.rng.below(20) as usize,
+        }
+    }
+
+    fn planned_boards(&mut self) {
+        for round in 0..30_000 {
+            let turns = self.turn_count();
+            let (_, sheet) = self.sheet_of(round % shapes::SHAPES, turns);
+            let board = planned(&sheet);
+            self.case(&sheet, &board);
+        }
+        for round in 0..40 {
+            let (_, sheet) = self.sheet_of(round % shapes::SHAPES, 400);
+            let board = planned(&sheet);
+            self.case(&sheet, &board);
+        }
+    }
+
+    /// Boards that the planner would not make and that keep the rules.
+    fn other_right_boards(&mut self) {
+        for round in 0..25_000 {
+            let turns = self.turn_count();
+            let (shift, sheet) = self.sheet_of(round % shapes::SHAPES, turns);
+            let board = boards::right(&mut self.rng, &shift.turns).bytes();
+            let passes = self.case(&sheet, &board) == 0;
+            self.report.property("right boards that pass", passes);
+            let other = passes && turns > 0 && board != planned(&sheet);
+            self.report
+                .property("right boards not the planner's", other);
+            let full = boards::full(&mut self.rng, &shift.turns).bytes();
+            let passes = self.case(&sheet, &full) == 0;
+            self.report.property("full choices that pass", passes);
+            self.report.property("full choices too small", !passes);
+        }
+    }
+
+    /// The worked example under every choice and every list of steps with
+    /// right amounts that is short enough.
+    fn example(&mut self) {
+        let turns = [
+            [1, 1, 0, 60, 100],
+            [2, 1, 30, 60, 150],
+            [1, 2, 0, 120, 80],
+            [3, 2, 120, 60, 90],
+        ];
+        let shift = Shift {
+            groomers: 2,
+            slopes: 3,
+            turns: turns.to_vec(),
+        };
+        let sheet = gen::encode(&mut self.rng, &shift, 0).bytes;
+        let named = [(2, 80), (0, 20), (1, 130), (3, 90)];
+        let chosen = vec![false, true, true, true];
+        let board = Draft::new(&turns, chosen, named.to_vec());
+        let passes = self.case(&sheet, &board.bytes()) == 0;
+        if !passes || (board.tally, board.worth) != (320, 320) {
+            let text = || "the example's other order must pass".to_string();
+            self.report.differs(text);
+        }
+        for round in 0..640 {
+            let order = [Order::Planned, Order::Allowed, Order::Free][round % 3];
+            let steps = boards::steps(&mut self.rng, &turns, order);
+            let chosen = (0..4).map(|turn| round >> turn & 1 != 0).collect();
+            let board = Draft::new(&turns, chosen, steps);
+            self.case(&sheet, &board.bytes());
+        }
+    }
+
+    /// Every kind of fault on right boards.
+    fn faults(&mut self) {
+        for round in 0..32_400 {
+            let turns = self.turn_count();
+            let shape = self.rng.below(shapes::SHAPES);
+            let (shift, sheet) = self.sheet_of(shape, turns);
+            let board = boards::right(&mut self.rng, &shift.turns);
+            let kind = round % boards::FAULTS;
+            let bytes = boards::with_fault(&mut self.rng, &shift.turns, &board, kind);
+            self.case(&sheet, &bytes);
+        }
+    }
+
+    /// Every byte of several boards, changed in several ways; every length.
+    fn changed_bytes(&mut self) {
+        for (shape, turns) in [(0, 0), (0, 1), (1, 4), (8, 8), (5, 9), (2, 16)] {
+            let (_, sheet) = self.sheet_of(shape, turns);
+            let board = planned(&sheet);
+            for place in 0..board.len() {
+                for change in [1, 2, 3, 4, 8, 16, 32, 64, 128, 255] {
+                    let mut board = board.clone();
+                    board[place] ^= change;
+                    self.case(&sheet, &board);
+                }
+            }
+            for excess in [1, 4, 8, 0x1_0000] {
+                let mut board = board.clone();
+                board.resize(board.len() + excess, 0);
+                self.case(&sheet, &board);
+            }
+            for len in 0..board.len() {
+                let (cut, behind) = board.split_at(len);
+                self.sheet.put(&mut self.rng, &sheet);
+                self.board.put_before(&mut self.rng, cut, behind);
+                self.compare();
+            }
+        }
+    }
+
+    /// Steps with right amounts in any order, under any choice that fits.
+    fn orders_and_choices(&mut self) {
+        for round in 0..5000 {
+            let turns = self.rng.between(1, 10) as usize;
+            let (shift, sheet) = self.sheet_of(round % shapes::SHAPES, turns);
+            let mut board = boards::right(&mut self.rng, &shift.turns);
+            board.steps = boards::steps(&mut self.rng, &shift.turns, Order::Free);
+            board.add_up(&shift.turns);
+            self.case(&sheet, &board.bytes());
+            let some = boards::shuffled(&mut self.rng, turns);
+            let some = some.into_iter().take(turns / 2);
+            board.chosen = boards::choose(&shift.turns, some);
+            board.add_up(&shift.turns);
+            self.case(&sheet, &board.bytes());
+        }
+    }
+
+    /// The sheet is judged first, and by all of its own order.
+    fn refused_sheets(&mut self) {
+        for _ in 0..3000 {
+            let turns = self.rng.between(1, 8) as usize;
+            let (shift, sheet) = self.sheet_of(0, turns);
+            let board = planned(&sheet);
+            let board = &board[..board.len() - self.rng.pick(&[0, 0, 1])];
+            let cut = self.rng.below(sheet.len() as u32) as usize;
+            for sheet in [
+                gen::damaged(&mut self.rng, &sheet),
+                gen::with_bound(&mut self.rng, &shift),
+                gen::with_faults(&mut self.rng, &shift, 1),
+                gen::trailing(&mut self.rng, &sheet),
+                sheet[..cut].to_vec(),
+            ] {
+                self.case(&sheet, board);
+            }
+            let marks = gen::wrong_marks(&sheet);
+            let mark = self.rng.below(marks.len() as u32) as usize;
+            self.case(&marks[mark], board);
+        }
+    }
+
+    /// Right boards, but for other sheets: with as many turns, or one more.
+    fn boards_of_other_sheets(&mut self) {
+        for round in 0..2500 {
+            let turns = self.rng.between(1, 20) as usize;
+            let shape = round % shapes::SHAPES;
+            let (_, sheet) = self.sheet_of(shape, turns);
+            for other in [turns, turns + 1, turns - 1] {
+                let (_, other) = self.sheet_of(shape, other);
+                self.case(&sheet, &planned(&other));
+            }
+        }
+    }
+
+    fn case(&mut self, sheet: &[u8], board: &[u8]) -> u8 {
+        self.sheet.put(&mut self.rng, sheet);
+        self.board.put(&mut self.rng, board);
+        self.compare()
+    }
+
+    /// Compares the two checks on what has been placed and gives the
+    /// reference's refusal.
+    fn compare(&mut self) -> u8 {
+        let (sheet, board) = (self.sheet.input(), self.board.input());
+        let ours = answer(reference::check(sheet, board));
+        let theirs = foreign::check(sheet, board);
+        self.report.count(ours.refusal);
+        if ours != theirs {
+            let text = || {
+                let (sheet, board) = (show(sheet, 0), show(board, 0));
+                format!("{ours:?} but {theirs:?}: {sheet}\n  board: {board}")
+            };
+            self.report.differs(text);
+        }
+        ours.refusal
+    }
+}
+
+/// The reference's result in the form that the library gives.
+fn answer(result: Result<(u32, u32), u8>) -> CheckAnswer {
+    let (refusal, (tally, worth)) = result.map_or_else(|number| (number, (0, 0)), |sums| (0, sums));
+    CheckAnswer {
+        refusal,
+        tally,
+        worth,
+    }
+}

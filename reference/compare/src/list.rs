@@ -1,0 +1,74 @@
+//! The drivers' listing.
+
+use slopeboard_reference as reference;
+use slopeboard_reference::gen::Rng;
+
+use crate::bytes::{answer, Lent};
+use crate::foreign;
+use crate::placed::Placed;
+use crate::report::Report;
+use crate::sheets;
+
+/// No listing is longer: sixteen headings, 120 turns and a last line.
+const LONGEST: usize = 4000;
+
+/// Compares the two listings on all sheets.
+pub fn run() -> bool {
+    let mut rng = Rng::new(2028);
+    let mut run = Run {
+        report: Report::new("list"),
+        lent: Lent::default(),
+        placed: Placed::default(),
+    };
+    sheets::each(&mut rng, |rng, sheet| run.rooms(rng, sheet));
+    run.report.finish(1..=11)
+}
+
+struct Run {
+    report: Report,
+    lent: Lent,
+    placed: Placed,
+}
+
+impl Run {
+    /// The sheet with room for any listing, and if it is accepted also with
+    /// the room that its listing needs, one byte less or one byte more.
+    fn rooms(&mut self, rng: &mut Rng, sheet: &[u8]) {
+        if let Some(len) = self.case(rng, sheet, LONGEST) {
+            let room = rng.pick(&[len - 1, len, len, len + 1]);
+            self.case(rng, sheet, room);
+        }
+    }
+
+    fn case(&mut self, rng: &mut Rng, sheet: &[u8], room: usize) -> Option<usize> {
+        self.placed.put(rng, sheet);
+        let sheet = self.placed.input();
+        let ours = |out: &mut [u8]| answer(reference::listing(sheet, out));
+        let theirs = |out: &mut [u8]| foreign::list(sheet, out);
+        let (report, calls) = (&mut self.report, [&ours as _, &theirs as _]);
+        let answer = self.lent.compare(rng, report, calls, room, sheet);
+        let len = answer.bytes as usize;
+        if answer.refusal == 0 {
+            note_properties(report, self.lent.written(len), len == room);
+        }
+        (answer.refusal == 0).then_some(len)
+    }
+}
+
+/// Notes which of the shapes that must occur this listing has.
+fn note_properties(report: &mut Report, text: &[u8], exact: bool) {
+    let text = std::str::from_utf8(text).expect("the listing is plain text");
+    let mut lines = text.lines().peekable();
+    let (mut empty, mut busy) = (false, 0);
+    let mut most = 0;
+    while let Some(line) = lines.next() {
+        let heading = line.starts_with("groomer");
+        let next_heading = lines.peek().is_some_and(|next| !next.contains('-'));
+        empty |= heading && next_heading;
+        busy = if line.contains('-') { busy + 1 } else { 0 };
+        most = most.max(busy);
+    }
+    report.property("listed with a groomer that has no turn", empty);
+    report.property("listed with over 5 turns of a groomer", most > 5);
+    report.property("listed into exact room", exact);
+}

@@ -1,0 +1,66 @@
+//! Planning a board.
+
+use slopeboard_reference as reference;
+use slopeboard_reference::gen::{self, Rng};
+
+use crate::bytes::{answer, Lent};
+use crate::foreign;
+use crate::placed::Placed;
+use crate::report::Report;
+use crate::sheets;
+
+/// Compares the two planners on all sheets.
+pub fn run() -> bool {
+    let mut rng = Rng::new(2027);
+    let mut run = Run {
+        report: Report::new("plan"),
+        lent: Lent::default(),
+        placed: Placed::default(),
+    };
+    sheets::each(&mut rng, |rng, sheet| run.rooms(rng, sheet));
+    run.report.finish(1..=11)
+}
+
+struct Run {
+    report: Report,
+    lent: Lent,
+    placed: Placed,
+}
+
+impl Run {
+    /// The sheet with the room that is asked for, and if it is accepted also
+    /// with one byte less or more.
+    fn rooms(&mut self, rng: &mut Rng, sheet: &[u8]) {
+        let turns = gen::places_wanted(sheet) / 5;
+        let wanted = 15 + turns.div_ceil(8) + 4 * turns;
+        if self.case(rng, sheet, wanted) {
+            let other = rng.pick(&[wanted - 1, wanted + 1, wanted + 1, wanted + 9]);
+            self.case(rng, sheet, other);
+        }
+    }
+
+    fn case(&mut self, rng: &mut Rng, sheet: &[u8], room: usize) -> bool {
+        self.placed.put(rng, sheet);
+        let sheet = self.placed.input();
+        let ours = |out: &mut [u8]| answer(reference::plan(sheet, out));
+        let theirs = |out: &mut [u8]| foreign::plan(sheet, out);
+        let (report, calls) = (&mut self.report, [&ours as _, &theirs as _]);
+        let answer = self.lent.compare(rng, report, calls, room, sheet);
+        if answer.refusal == 0 {
+            note_properties(report, self.lent.written(answer.bytes as usize));
+        }
+        answer.refusal == 0
+    }
+}
+
+/// Notes which of the shapes that must occur this board has.
+fn note_properties(report: &mut Report, board: &[u8]) {
+    let number = |place: usize| usize::from(u16::from_be_bytes([board[place], board[place + 1]]));
+    let (turns, steps) = (number(3), number(5));
+    report.property("planned with 0 turns", turns == 0);
+    report.property("planned with a step a turn", turns > 0 && steps == turns);
+    report.property("planned with fewer steps than turns", steps < turns);
+    report.property("planned with over 100 turns", turns > 100);
+    let sum = |place: usize| &board[place..place + 4];
+    report.property("planned with worth above tally", sum(7) < sum(11));
+}

@@ -1,0 +1,77 @@
+//! The sheets on which planning and listing are compared.
+
+use slopeboard_reference::gen::{self, Rng};
+use slopeboard_reference::shapes;
+
+/// Hands every sheet to the function: about half of them accepted ones.
+pub fn each(rng: &mut Rng, mut run: impl FnMut(&mut Rng, &[u8])) {
+    shaped(rng, &mut run);
+    refused(rng, &mut run);
+    edges(rng, &mut run);
+}
+
+/// Sheets of every shape: mostly few turns, at times many.
+fn shaped(rng: &mut Rng, run: &mut impl FnMut(&mut Rng, &[u8])) {
+    for round in 0..33_000 {
+        let turns = match round % 100 {
+            0 => rng.between(100, 400),
+            1..=9 => rng.between(20, 100),
+            _ => rng.below(20),
+        };
+        let shift = shapes::shift(rng, round / 3 % shapes::SHAPES, turns as usize);
+        let sheet = gen::encode(rng, &shift, 10).bytes;
+        run(rng, &sheet);
+    }
+    for round in 0..40 {
+        let shift = shapes::shift(rng, round % shapes::SHAPES, 400);
+        let sheet = gen::encode(rng, &shift, 0).bytes;
+        run(rng, &sheet);
+    }
+}
+
+/// Sheets with one fault or several. Some are accepted all the same.
+fn refused(rng: &mut Rng, run: &mut impl FnMut(&mut Rng, &[u8])) {
+    for _ in 0..9000 {
+        let turns = rng.between(1, 12) as usize;
+        let shift = gen::shift(rng, turns);
+        let sheet = gen::encode(rng, &shift, 10).bytes;
+        let faults = rng.between(1, 2);
+        for sheet in [
+            gen::damaged(rng, &sheet),
+            gen::with_bound(rng, &shift),
+            gen::with_faults(rng, &shift, faults),
+        ] {
+            run(rng, &sheet);
+        }
+    }
+}
+
+/// Sheets without turns, headers at their bounds, marks, tails, and every
+/// length of some sheets.
+fn edges(rng: &mut Rng, run: &mut impl FnMut(&mut Rng, &[u8])) {
+    for groomers in 0..=17 {
+        for slopes in [0, 1, 2, 119, 120, 121, 255] {
+            for turns in [0, 1] {
+                run(rng, &[b'G', b'R', b'M', groomers, slopes, 0, turns]);
+                run(rng, &[b'G', b'R', b'M', groomers, slopes, 1, 0x90 + turns]);
+            }
+        }
+    }
+    for sheet in gen::single_bounds() {
+        run(rng, &sheet);
+    }
+    for _ in 0..60 {
+        let turns = rng.between(1, 10) as usize;
+        let sheet = gen::typical(rng, turns).bytes;
+        for sheet in gen::wrong_marks(&sheet) {
+            run(rng, &sheet);
+        }
+        for _ in 0..5 {
+            let sheet = gen::trailing(rng, &sheet);
+            run(rng, &sheet);
+        }
+        for len in 0..sheet.len() {
+            run(rng, &sheet[..len]);
+        }
+    }
+}

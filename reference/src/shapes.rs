@@ -1,0 +1,125 @@
+//! Seeded shifts of named shapes, all of which a reader must take.
+
+use crate::gen::{self, Rng, Shift};
+use crate::turns::{FIELDS, LAST_END, MAX_GROOMERS, MAX_SLOPES, MAX_TURNS, MAX_WORTH};
+
+/// How many shapes there are.
+pub const SHAPES: u32 = 10;
+
+/// The widest shape of all: a step for every turn.
+pub const A_STEP_A_TURN: u32 = 6;
+
+/// A shift of this shape with so many turns.
+pub fn shift(rng: &mut Rng, shape: u32, turns: usize) -> Shift {
+    match shape {
+        1 => drawn(rng, turns, [2, 12], [LAST_END, 400], 300),
+        2 => drawn(rng, turns, [1, MAX_SLOPES], [LAST_END, 90], 500),
+        3 => drawn(rng, turns, [MAX_GROOMERS, 1], [LAST_END, 90], 500),
+        4 => all_equal(rng, turns),
+        5 => end_to_start(rng, turns),
+        A_STEP_A_TURN => a_step_a_turn(rng, turns),
+        7 => equal_ends(rng, turns),
+        8 => drawn(rng, turns, [3, 8], [12, 8], 3),
+        9 => drawn(rng, turns, [2, 30], [200, 60], u32::from(MAX_WORTH)),
+        _ => gen::shift(rng, turns),
+    }
+}
+
+/// A shift like those of a usual night, with more of the same for more turns.
+pub fn usual(rng: &mut Rng, turns: usize) -> Shift {
+    drawn(rng, turns, [12, 80], [LAST_END, 90], 500)
+}
+
+/// Turns drawn evenly. The counts are those of groomers and slopes, the times
+/// the last end and the longest length.
+fn drawn(rng: &mut Rng, turns: usize, counts: [u32; 2], times: [u32; 2], worth: u32) -> Shift {
+    let [groomers, slopes] = counts;
+    let [last_end, longest] = times;
+    let turn = |rng: &mut Rng| {
+        let length = rng.between(1, longest);
+        [
+            rng.between(1, slopes) as u16,
+            rng.between(1, groomers) as u16,
+            rng.below(last_end - length + 1) as u16,
+            length as u16,
+            rng.between(1, worth) as u16,
+        ]
+    };
+    Shift {
+        groomers: groomers as u8,
+        slopes: slopes as u8,
+        turns: (0..turns).map(|_| turn(rng)).collect(),
+    }
+}
+
+fn all_equal(rng: &mut Rng, turns: usize) -> Shift {
+    let one = drawn(rng, 1, [4, 9], [LAST_END, 120], u32::from(MAX_WORTH));
+    Shift {
+        turns: one.turns.repeat(turns),
+        ..one
+    }
+}
+
+/// Each groomer's turns follow each other without a gap and without an
+/// overlap, as far as the shift goes; then they start over.
+fn end_to_start(rng: &mut Rng, turns: usize) -> Shift {
+    let groomers = rng.between(1, MAX_GROOMERS);
+    let slopes = rng.between(1, MAX_SLOPES);
+    let mut next = [0; MAX_GROOMERS as usize + 1];
+    let turn = |number: u32| -> [u16; FIELDS] {
+        let groomer = number % groomers + 1;
+        let start = &mut next[groomer as usize];
+        let length = rng.between(1, 60);
+        if *start + length > LAST_END {
+            *start = 0;
+        }
+        let from = *start;
+        *start += length;
+        [
+            rng.between(1, slopes) as u16,
+            groomer as u16,
+            from as u16,
+            length as u16,
+            rng.between(1, 900) as u16,
+        ]
+    };
+    Shift {
+        groomers: groomers as u8,
+        slopes: slopes as u8,
+        turns: (0..turns as u32).map(turn).collect(),
+    }
+}
+
+/// No groomer has an overlap, and on each slope the worths rise with the
+/// ends: so every turn is still open when its end is the earliest.
+fn a_step_a_turn(rng: &mut Rng, turns: usize) -> Shift {
+    let each = turns.max(1).div_ceil(MAX_GROOMERS as usize) as u32;
+    let length = LAST_END / each;
+    let slopes = (turns as u32 / 4).clamp(1, MAX_SLOPES);
+    let worth = rng.between(1, 1000);
+    let turn = |number: u32| {
+        [
+            (number % slopes + 1) as u16,
+            (number % MAX_GROOMERS + 1) as u16,
+            (number / MAX_GROOMERS * length) as u16,
+            length as u16,
+            (worth + number) as u16,
+        ]
+    };
+    assert!(turns <= MAX_TURNS);
+    Shift {
+        groomers: MAX_GROOMERS as u8,
+        slopes: slopes as u8,
+        turns: (0..turns as u32).map(turn).collect(),
+    }
+}
+
+/// Few ends and many starts: turn numbers decide.
+fn equal_ends(rng: &mut Rng, turns: usize) -> Shift {
+    let mut shift = drawn(rng, turns, [4, 40], [LAST_END, 120], 400);
+    for turn in &mut shift.turns {
+        let end = rng.pick(&[300, 300, 301, LAST_END]);
+        turn[2] = (end - u32::from(turn[3])) as u16;
+    }
+    shift
+}

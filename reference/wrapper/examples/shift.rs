@@ -1,0 +1,41 @@
+//! Takes a small shift through the whole library and prints its listing.
+
+use std::io::{self, Write};
+
+/// Slope, groomer, start, length, worth of each turn.
+const TURNS: [[u16; slopeboard::NUMBERS_PER_TURN]; 4] = [
+    [1, 1, 0, 60, 100],
+    [2, 1, 30, 60, 150],
+    [1, 2, 0, 120, 80],
+    [3, 2, 120, 60, 90],
+];
+
+fn main() -> Result<(), Box<dyn std::error::Error>> {
+    let mut sheet = [0; slopeboard::MOST_SHEET_BYTES];
+    let len = slopeboard::write(2, 3, TURNS.as_flattened(), &mut sheet)?;
+    let sheet = &sheet[..len];
+
+    let mut table = [0; 5 * TURNS.len()];
+    let counts = slopeboard::read(sheet, &mut table)?;
+    assert_eq!(usize::from(counts.turns), TURNS.len());
+    assert_eq!(table, TURNS.as_flattened());
+
+    let mut board = [0; slopeboard::board_bytes(TURNS.len())];
+    let len = slopeboard::plan(sheet, &mut board)?;
+    let board = &board[..len];
+
+    slopeboard::open(board)?;
+    for step in slopeboard::steps(board).chunks_exact(4) {
+        let turn = u16::from_be_bytes([step[0], step[1]]);
+        let amount = u16::from_be_bytes([step[2], step[3]]);
+        eprintln!("turn {turn} for {amount}");
+    }
+
+    let sums = slopeboard::check(sheet, board)?;
+    eprintln!("checked: tally {}, worth {}", sums.tally, sums.worth);
+
+    let mut text = [0; slopeboard::MOST_TEXT_BYTES];
+    let len = slopeboard::list(sheet, &mut text)?;
+    io::stdout().write_all(&text[..len])?;
+    Ok(())
+}

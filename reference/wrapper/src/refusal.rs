@@ -1,0 +1,96 @@
+//! The refusals and their numbers.
+
+use std::error::Error;
+use std::fmt;
+
+/// Why the library refused. The number of each is fixed.
+#[derive(Clone, Copy, Debug, PartialEq, Eq)]
+#[repr(u8)]
+pub enum Refusal {
+    /// The sheet ends inside its header, or before a record is whole.
+    Truncated = 1,
+    /// The sheet does not open with GRM.
+    BadMagic = 2,
+    /// Groomers outside 1 to 16, or slopes outside 1 to 120.
+    BadCounts = 3,
+    /// More than 400 turns.
+    TooManyTurns = 4,
+    /// A record's map has an unknown bit, or the first lacks a field.
+    BadMap = 5,
+    /// A turn's slope is 0 or above the count.
+    BadSlope = 6,
+    /// A turn's groomer is 0 or above the count.
+    BadGroomer = 7,
+    /// A turn has length 0 or ends after minute 960.
+    BadTime = 8,
+    /// A turn's worth is 0 or above 60,000.
+    BadWorth = 9,
+    /// The sheet goes on after its last record.
+    TrailingBytes = 10,
+    /// A buffer is shorter than the function asks.
+    BufferTooSmall = 11,
+    /// The bytes are not those of a board (for this sheet).
+    MalformedBoard = 12,
+    /// Two chosen turns exclude each other.
+    Conflict = 13,
+    /// A turn could be chosen in addition.
+    NotMaximal = 14,
+    /// A step is not right at its place.
+    WrongStep = 15,
+    /// A turn is open after the last step.
+    TurnLeftOpen = 16,
+    /// Tally or worth is not its sum, or the worth is below the tally.
+    WrongSums = 17,
+    /// A turn table's length is no multiple of five.
+    PartialTurn = 18,
+}
+
+/// By number, from 1.
+const ALL: [Refusal; 18] = [
+    Refusal::Truncated,
+    Refusal::BadMagic,
+    Refusal::BadCounts,
+    Refusal::TooManyTurns,
+    Refusal::BadMap,
+    Refusal::BadSlope,
+    Refusal::BadGroomer,
+    Refusal::BadTime,
+    Refusal::BadWorth,
+    Refusal::TrailingBytes,
+    Refusal::BufferTooSmall,
+    Refusal::MalformedBoard,
+    Refusal::Conflict,
+    Refusal::NotMaximal,
+    Refusal::WrongStep,
+    Refusal::TurnLeftOpen,
+    Refusal::WrongSums,
+    Refusal::PartialTurn,
+];
+
+impl Refusal {
+    pub fn number(self) -> u8 {
+        self as u8
+    }
+
+    /// The refusal with this number; none for 0 and for numbers above 18.
+    pub fn from_number(number: u8) -> Option<Refusal> {
+        let place = usize::from(number).checked_sub(1)?;
+        ALL.get(place).copied()
+    }
+}
+
+/// A number of the library as a result.
+pub(crate) fn none(number: u8) -> Result<(), Refusal> {
+    if number == 0 {
+        return Ok(());
+    }
+    Err(Refusal::from_number(number).expect("the library gives the numbers 0 to 18 only"))
+}
+
+impl fmt::Display for Refusal {
+    fn fmt(&self, out: &mut fmt::Formatter) -> fmt::Result {
+        write!(out, "refused {} ({self:?})", self.number())
+    }
+}
+
+impl Error for Refusal {}
