@@ -1,16 +1,18 @@
 -- The check: any bytes as a sheet, any bytes as a board. Assumes nothing.
-use Prim.Native.Nat.{ℕ}
+use Prim.Native.Nat.{ℕ, _+_, _<_}
 use mathlib.Core.Path.{_≡_}
 use mathlib.Core.List.{List, [], _∷_, _++_}
-use mathlib.Core.Bool.{Bool, not, cond, _||_}
+use mathlib.Core.Bool.{Bool, true, false, not, cond, _||_}
+use mathlib.Core.Logic.{_≢_, _⊎_}
 use lib.Dec.{eqb}
 use Rattle.refusal.specs.Number.{malformedBoard, conflict, notMaximal, wrongStep, turnLeftOpen, wrongSums}
 use Rattle.refusal.specs.Cause.{Cause, _when_, firstOf}
-use Rattle.model.specs.Turns.{Turns, turnsIn}
-use Rattle.model.specs.Steps.{Step, initial, afterSteps}
-use Rattle.model.specs.Rules.{independent, maximal, allRight, noneOpen, sums, KeepsRules}
+use Rattle.model.specs.Turns.{Turns, turnsIn, Conflict}
+use Rattle.model.specs.Steps.{Step, isOpen, initial, afterStep, afterSteps, tally}
+use Rattle.model.specs.Choice.{has, chosen}
+use Rattle.model.specs.Rules.{independent, maximal, allRight, noneOpen, sums, Right, Each, KeepsRules}
 use Rattle.sheet.specs.Read.{turnCount, tableOf, sheetCauses}
-use Rattle.sheet.specs.Accepted.{Accepted}
+use Rattle.sheet.specs.Accepted.{SheetCause, placeOf, FirstAmong}
 use Rattle.audit.specs.declared.judge.CheckAnswer.{CheckAnswer}
 use Rattle.board.specs.Board.{boardTurns, boardSteps, boardTally, boardWorth, boardChoice, writtenSteps}
 use Rattle.board.specs.Open.{malformed, WellFormed}
@@ -60,3 +62,21 @@ Passes s b = checkOf s b .refusal ≡ 0
 pub record BoardKeeps (s b : List ℕ) : Type 0 where
   pub form : WellFormed b (turnCount s) (boardSteps b)
   pub rules : KeepsRules (sheetTurns s) (boardChoice b) (writtenSteps b) (boardTally b) (boardWorth b)
+
+-- a cause to refuse b as a board for these turns is there: its number, and its place in the order
+pub data BoardCause (T : Turns) (b : List ℕ) : ℕ → ℕ → Type 0 where
+  form : (WellFormed b (T .count) (boardSteps b) → ⊥) → BoardCause T b malformedBoard 0
+  two-conflict : (x y : ℕ) → x < T .count → y < T .count → x ≢ y → has (boardChoice b) x ≡ true → has (boardChoice b) y ≡ true → Conflict T x y → BoardCause T b conflict 1
+  room-left : (t : ℕ) → t < T .count → has (boardChoice b) t ≡ false → ((u : ℕ) → u < T .count → has (boardChoice b) u ≡ true → Conflict T u t → ⊥) → BoardCause T b notMaximal 2
+  step-wrong : (Each (afterStep T) (Right T) (initial T) (writtenSteps b) → ⊥) → BoardCause T b wrongStep 3
+  turn-open : (t : ℕ) → t < T .count → isOpen (afterSteps T (initial T) (writtenSteps b)) t ≡ true → BoardCause T b turnLeftOpen 4
+  sums-differ : (boardTally b ≢ tally (writtenSteps b)) ⊎ (boardWorth b ≢ chosen (T .count) (boardChoice b) (T .worth)) ⊎ (boardWorth b < boardTally b) → BoardCause T b wrongSums 5
+
+-- a cause to refuse s or b: the sheet's come first; the board's places count from behind the sheet's last
+pub data CheckCause (s b : List ℕ) : ℕ → ℕ → Type 0 where
+  of-sheet : {k r : ℕ} → SheetCause s k r → CheckCause s b k r
+  of-board : {k r : ℕ} → BoardCause (sheetTurns s) b k r → CheckCause s b k (placeOf (turnCount s) 1 + r)
+
+-- cause k is there and none comes earlier
+abbrev pub FirstCheckCause : List ℕ → List ℕ → ℕ → Type 0
+FirstCheckCause s b k = FirstAmong (CheckCause s b) k
