@@ -2,3 +2,4 @@ pub mod Replays
 pub mod Judgements
 pub mod Checks
 pub mod Passing
+pub mod CheckCauses

@@ -82,3 +82,92 @@ module _ (b : List ℕ) where
   unfolding malformed badSizes
   board-formed w =
       rw (w .turns, w .steps, le-ltb (length b) boardHeader (w .header), board-mark-iff b .1 (w .mark), le-ltb _ _ (w .steps-fit), eq-eqb _ _ (w .exact), bits-clear _ (boardMap b) (w .clear))
+
+-- ---- a board without a cause
+
+-- the tests of a board, all passed
+pub record Clear (T : Turns) (b : List ℕ) : Type 0 where
+  pub formed : malformed b ≡ false
+  pub counted : boardTurns b ≡ T .count
+  pub apart : independent T (boardChoice b) ≡ true
+  pub full : maximal T (boardChoice b) ≡ true
+  pub steps-right : allRight T (initial T) (writtenSteps b) ≡ true
+  pub closed : noneOpen T (afterSteps T (initial T) (writtenSteps b)) ≡ true
+  pub summed : sums T (boardChoice b) (writtenSteps b) (boardTally b) (boardWorth b) ≡ true
+
+either-0 : (x y : Bool) → (x || y) ≡ false → x ≡ false
+either-0 true y e = e
+either-0 false y e = refl
+
+either-1 : (x y : Bool) → (x || y) ≡ false → y ≡ false
+either-1 true y e = absurd (true≢false e)
+either-1 false y e = e
+
+module _ (T : Turns) (b : List ℕ) where
+  pub board-clear : firstOf (boardCauses T b) ≡ 0 → Clear T b
+  unfolding boardCauses ruleCauses choiceCauses stepCauses sumCauses
+  board-clear e =
+      let c₁ = clear-cons _ _ (λ z. omega arith) e in
+      let c₂ = clear-cons _ _ (λ z. omega arith) (c₁ .1) in
+      let c₃ = clear-cons _ _ (λ z. omega arith) (c₂ .1) in
+      let c₄ = clear-cons _ _ (λ z. omega arith) (c₃ .1) in
+      let c₅ = clear-cons _ _ (λ z. omega arith) (c₄ .1) in
+      let c₆ = clear-cons _ _ (λ z. omega arith) (c₅ .1) in
+      record {
+        formed = either-0 (malformed b) (not (eqb (boardTurns b) (T .count))) (c₁ .0);
+        counted = eqb-true (boardTurns b) (T .count) (not-false (eqb (boardTurns b) (T .count)) (either-1 (malformed b) (not (eqb (boardTurns b) (T .count))) (c₁ .0)));
+        apart = not-false (independent T (boardChoice b)) (c₂ .0);
+        full = not-false (maximal T (boardChoice b)) (c₃ .0);
+        steps-right = not-false (allRight T (initial T) (writtenSteps b)) (c₄ .0);
+        closed = not-false (noneOpen T (afterSteps T (initial T) (writtenSteps b))) (c₅ .0);
+        summed = not-false (sums T (boardChoice b) (writtenSteps b) (boardTally b) (boardWorth b)) (c₆ .0);
+      }
+
+  pub clear-board : Clear T b → firstOf (boardCauses T b) ≡ 0
+  unfolding boardCauses ruleCauses choiceCauses stepCauses sumCauses firstOf
+  clear-board c = rw (c .formed, eq-eqb (boardTurns b) (T .count) (c .counted), c .apart, c .full, c .steps-right, c .closed, c .summed)
+
+-- ---- the check passes
+
+module _ (s b : List ℕ) where
+  check-parts : firstOf (checkCauses s b) ≡ 0 → (firstOf (sheetCauses s) ≡ 0) × (firstOf (boardCauses (sheetTurns s) b) ≡ 0)
+  unfolding checkCauses
+  check-parts e = clear-append (sheetCauses s) (boardCauses (sheetTurns s) b) (sheet-numbered s) e
+
+  parts-check : firstOf (sheetCauses s) ≡ 0 → firstOf (boardCauses (sheetTurns s) b) ≡ 0 → firstOf (checkCauses s b) ≡ 0
+  unfolding checkCauses
+  parts-check e f = first-goes (sheetCauses s) (boardCauses (sheetTurns s) b) (sheet-numbered s) e ∙ f
+
+  turns-count : sheetTurns s .count ≡ turnCount s
+  unfolding turnsIn
+  turns-count = refl
+
+  -- for every list of numbers: nothing is refused exactly where the sheet gives no cause and the board keeps the rules
+  pub passes-parts : Passes s b → (firstOf (sheetCauses s) ≡ 0) × BoardKeeps s b
+  passes-parts p =
+      let q = check-parts (sym (check-number s b) ∙ p) in
+      let c = board-clear (sheetTurns s) b (q .1) in
+      let k = keeps-is (sheetTurns s) (boardChoice b) (writtenSteps b) (boardTally b) (boardWorth b) (sheet-lengths s (q .0)) .0 (c .apart, c .full, c .steps-right, c .closed, c .summed) in
+      (q .0, record { form = rw (c .counted ∙ turns-count) at (formed-board b (c .formed)); rules = k })
+
+  pub parts-pass : firstOf (sheetCauses s) ≡ 0 → BoardKeeps s b → Passes s b
+  parts-pass e k =
+      let t = keeps-is (sheetTurns s) (boardChoice b) (writtenSteps b) (boardTally b) (boardWorth b) (sheet-lengths s e) .1 (k .rules) in
+      let c : Clear (sheetTurns s) b = record { formed = board-formed b (k .form); counted = k .form .turns ∙ sym turns-count; apart = t .0; full = t .1; steps-right = t .2; closed = t .3; summed = t .4 } in
+      check-number s b ∙ parts-check e (clear-board (sheetTurns s) b c)
+
+  -- exactly: of bytes, the check passes a board if and only if the sheet is accepted and the board keeps the rules
+  pub passes-iff : Bytes s → Passes s b ↔ (Accepted s × BoardKeeps s b)
+  passes-iff y = (
+    λ p. let q = passes-parts p in (accepted-iff y .0 (q .0), q .1),
+    λ q. parts-pass (accepted-iff y .1 (q .0)) (q .1),
+  )
+
+  -- the answer of a check that passes is the board's own tally and worth
+  pub passes-answer : Passes s b → checkOf s b ≡ checked 0 (boardTally b) (boardWorth b)
+  unfolding checkOf
+  passes-answer p = let e : firstOf (checkCauses s b) ≡ 0 = sym (check-number s b) ∙ p in rw e
+
+  -- whoever made the board, and for every list of numbers: what passes binds every feasible set
+  pub passes-promises : Passes s b → Promises (sheetTurns s) (boardChoice b) (boardTally b) (boardWorth b)
+  passes-promises p = let q = passes-parts p in keeps-promises (sheetTurns s) (sheet-lengths s (q .0)) (q .1 .rules)

@@ -1,0 +1,201 @@
+-- The check gives a number if and only if its cause is there and none comes earlier. Assumes nothing.
+use Prim.Native.Nat.{ℕ, zero, suc, _+_, _*_, _<_, _≤_}
+use mathlib.Core.Path.{_≡_, refl, sym, _∙_, ap}
+use mathlib.Core.Logic.{_↔_, _⊎_, inl, inr, _≢_}
+use mathlib.Core.List.{List, [], _∷_, _++_}
+use mathlib.Core.Bool.{Bool, true, false, not, cond, _&&_, _||_}
+use native.Mathlib.Omega.{arith}
+use native.Mathlib.Decide.{ℕ-discrete, decLt}
+use lib.Dec.{eqb, leb}
+use lib.ListN.{length}
+use borrow.Author.Tests.{eqb-true, eqb-false, eq-eqb, ne-eqb, not-true, not-false, lt-leb, leb-false}
+use Rattle.refusal.specs.Cause.{Cause, firstOf, There, here, later}
+use Rattle.refusal.proofs.Order.{first-stops, first-goes, none-given}
+use Rattle.model.specs.Turns.{Turns, turnsIn, conflict, Conflict, PositiveLengths}
+use Rattle.model.specs.Steps.{isOpen, initial, afterStep, afterSteps, tally}
+use Rattle.model.specs.Lists.{every}
+use Rattle.model.specs.Choice.{has, chosen, fits}
+use Rattle.model.specs.Rules.{independent, maximal, allRight, noneOpen, sums, Right, Each}
+use Rattle.model.proofs.Bools.{and-1, and-2, and-of, or-cases, not-both, fails, every-not}
+use Rattle.model.proofs.Minutes.{conflict-is}
+use Rattle.model.proofs.Filled.{fits-apart}
+use Rattle.model.proofs.Readings.{independent-is, maximal-is, allRight-is, noneOpen-is, sums-is}
+use Rattle.sheet.specs.Read.{turnCount, sheetCauses}
+use Rattle.sheet.specs.Accepted
+use Rattle.sheet.specs.Accepted.{SheetCause, placeOf, FirstAmong}
+use Rattle.sheet.proofs.Causes.{refused-iff, first-same, cause-there}
+use Rattle.sheet.proofs.Readings.{sheet-numbered}
+use Rattle.board.specs.Board.{boardTurns, boardSteps, boardTally, boardWorth, boardChoice, writtenSteps}
+use Rattle.board.specs.Open.{malformed, WellFormed}
+use Rattle.audit.specs.Check.{sheetTurns, choiceCauses, stepCauses, ruleCauses, sumCauses, boardCauses, checkCauses, checkOf, BoardCause, form, two-conflict, room-left, step-wrong, turn-open, sums-differ, CheckCause, of-sheet, of-board, FirstCheckCause}
+use Rattle.audit.proofs.Passing.{check-number, sheet-lengths, formed-board, board-formed}
+
+neither-0 : (x y : Bool) → (x || y) ≡ false → x ≡ false
+neither-0 true y e = e
+neither-0 false y e = refl
+
+neither-1 : (x y : Bool) → (x || y) ≡ false → y ≡ false
+neither-1 true y e = absurd (not-both refl e)
+neither-1 false y e = e
+
+module _ (T : Turns) (lengths : PositiveLengths T) (b : List ℕ) where
+  -- ---- each test that fails, in words
+
+  form-cause : (malformed b || not (eqb (boardTurns b) (T .count))) ≡ true → WellFormed b (T .count) (boardSteps b) → ⊥
+  form-cause e w = go (or-cases (malformed b) (not (eqb (boardTurns b) (T .count))) e)
+    where
+      go : (malformed b ≡ true) ⊎ (not (eqb (boardTurns b) (T .count)) ≡ true) → ⊥
+      go (inl m) = not-both m (board-formed b w)
+      go (inr n) = eqb-false (boardTurns b) (T .count) (not-true (eqb (boardTurns b) (T .count)) n) (w .turns)
+
+  cause-form : (WellFormed b (T .count) (boardSteps b) → ⊥) → (malformed b || not (eqb (boardTurns b) (T .count))) ≡ true
+  cause-form n = go (malformed b) refl (ℕ-discrete (boardTurns b) (T .count))
+    where
+      go : (m : Bool) → malformed b ≡ m → Dec (boardTurns b ≡ T .count) → (m || not (eqb (boardTurns b) (T .count))) ≡ true
+      go true e d = refl
+      go false e (yes q) = absurd (n (rw q at (formed-board b e)))
+      go false e (no q) = rw (ne-eqb (boardTurns b) (T .count) q)
+
+  conflict-cause : not (independent T (boardChoice b)) ≡ true → BoardCause T b 13 1
+  unfolding independent
+  conflict-cause e = outer (every-not _ (T .count) (not-true (independent T (boardChoice b)) e))
+    where
+      S : List Bool
+      S = boardChoice b
+
+      inner : (x : ℕ) → x < T .count → (y : ℕ) → y < x → not (has S x && has S y && conflict T x y) ≡ false → BoardCause T b 13 1
+      inner x l y m f =
+          let g : (has S x && has S y && conflict T x y) ≡ true = not-false (has S x && has S y && conflict T x y) f in
+          let h : (has S x && has S y) ≡ true = and-1 (has S x && has S y) (conflict T x y) g in
+          two-conflict x y l (omega arith) (λ q. omega arith) (and-1 (has S x) (has S y) h) (and-2 (has S x) (has S y) h) (conflict-is T lengths x y l (omega arith) .0 (and-2 (has S x && has S y) (conflict T x y) g))
+
+      outer : (x : ℕ) × (x < T .count) × (every (λ y. not (has S x && has S y && conflict T x y)) x ≡ false) → BoardCause T b 13 1
+      outer (x, l, f) = let q = every-not (λ y. not (has S x && has S y && conflict T x y)) x f in inner x l (q .0) (q .1) (q .2)
+
+  room-cause : not (maximal T (boardChoice b)) ≡ true → BoardCause T b 14 2
+  unfolding maximal
+  room-cause e = outer (every-not _ (T .count) (not-true (maximal T (boardChoice b)) e))
+    where
+      S : List Bool
+      S = boardChoice b
+
+      outer : (t : ℕ) × (t < T .count) × ((has S t || not (fits T S t)) ≡ false) → BoardCause T b 14 2
+      outer (t, l, f) =
+          let g : fits T S t ≡ true = not-false (fits T S t) (neither-1 (has S t) (not (fits T S t)) f) in
+          room-left t l (neither-0 (has S t) (not (fits T S t)) f) (λ u m h c. not-both (conflict-is T lengths u t m l .1 c) (fits-apart T S t g u m h))
+
+  open-cause : not (noneOpen T (afterSteps T (initial T) (writtenSteps b))) ≡ true → BoardCause T b 16 4
+  unfolding noneOpen
+  open-cause e = outer (every-not _ (T .count) (not-true (noneOpen T (afterSteps T (initial T) (writtenSteps b))) e))
+    where
+      outer : (t : ℕ) × (t < T .count) × (not (isOpen (afterSteps T (initial T) (writtenSteps b)) t) ≡ false) → BoardCause T b 16 4
+      outer (t, l, f) = turn-open t l (not-false (isOpen (afterSteps T (initial T) (writtenSteps b)) t) f)
+
+  sums-cause : not (sums T (boardChoice b) (writtenSteps b) (boardTally b) (boardWorth b)) ≡ true → BoardCause T b 17 5
+  sums-cause e = go (ℕ-discrete (boardTally b) (tally (writtenSteps b))) (ℕ-discrete (boardWorth b) (chosen (T .count) (boardChoice b) (T .worth))) (decLt (boardWorth b) (boardTally b))
+    where
+      go : Dec (boardTally b ≡ tally (writtenSteps b)) → Dec (boardWorth b ≡ chosen (T .count) (boardChoice b) (T .worth)) → Dec (boardWorth b < boardTally b) → BoardCause T b 17 5
+      go (no p) q r = sums-differ (inl p)
+      go (yes p) (no q) r = sums-differ (inr (inl q))
+      go (yes p) (yes q) (yes r) = sums-differ (inr (inr r))
+      go (yes p) (yes q) (no r) = absurd (not-both (sums-is T (boardChoice b) (writtenSteps b) (boardTally b) (boardWorth b) .1 (p, q, omega arith)) (not-true _ e))
+
+  -- ---- the causes are those of the list
+
+  refuted : (t : Bool) → (t ≡ true → ⊥) → not t ≡ true
+  refuted true h = absurd (h refl)
+  refuted false h = refl
+
+  pub board-cause : {k r : ℕ} → There (boardCauses T b) k r → BoardCause T b k r
+  unfolding boardCauses ruleCauses choiceCauses stepCauses sumCauses
+  board-cause (here e) = form (form-cause e)
+  board-cause (later (here e)) = conflict-cause e
+  board-cause (later (later (here e))) = room-cause e
+  board-cause (later (later (later (here e)))) = step-wrong (λ r. not-both (allRight-is T (initial T) (writtenSteps b) .1 r) (not-true _ e))
+  board-cause (later (later (later (later (here e))))) = open-cause e
+  board-cause (later (later (later (later (later (here e)))))) = sums-cause e
+
+  pub cause-board : {k r : ℕ} → BoardCause T b k r → There (boardCauses T b) k r
+  unfolding boardCauses ruleCauses choiceCauses stepCauses sumCauses
+  cause-board (form n) = here (cause-form n)
+  cause-board (two-conflict x y l m d p q c) = later (here (refuted _ (λ e. independent-is T (boardChoice b) lengths .0 e x y l m d p q c)))
+  cause-board (room-left t l h n) = later (later (here (refuted _ (λ e. let w = maximal-is T (boardChoice b) lengths .0 e t l h in n (w .0) (w .1) (w .2) (w .3)))))
+  cause-board (step-wrong n) = later (later (later (here (refuted _ (λ e. n (allRight-is T (initial T) (writtenSteps b) .0 e))))))
+  cause-board (turn-open t l o) = later (later (later (later (here (refuted _ (λ e. not-both o (noneOpen-is T (afterSteps T (initial T) (writtenSteps b)) .0 e t l)))))))
+  cause-board (sums-differ d) = later (later (later (later (later (here (refuted _ (λ e. differ d (sums-is T (boardChoice b) (writtenSteps b) (boardTally b) (boardWorth b) .0 e))))))))
+    where
+      differ : (boardTally b ≢ tally (writtenSteps b)) ⊎ (boardWorth b ≢ chosen (T .count) (boardChoice b) (T .worth)) ⊎ (boardWorth b < boardTally b)
+          → (boardTally b ≡ tally (writtenSteps b)) × (boardWorth b ≡ chosen (T .count) (boardChoice b) (T .worth)) × (boardTally b ≤ boardWorth b) → ⊥
+      differ (inl p) s = p (s .0)
+      differ (inr (inl q)) s = q (s .1)
+      differ (inr (inr r)) s = omega (arith, s .2)
+
+-- ---- the check's number
+
+-- a sheet's cause stands no later than behind its last record
+sheet-place : (s : List ℕ) {k r : ℕ} → SheetCause s k r → r < placeOf (turnCount s) 1
+sheet-place s (Accepted.short-header h) = omega arith
+sheet-place s (Accepted.other-mark h) = omega arith
+sheet-place s (Accepted.groomer-count h) = omega arith
+sheet-place s (Accepted.slope-count h) = omega arith
+sheet-place s (Accepted.turn-count h) = omega arith
+sheet-place s (Accepted.no-map i l h) = omega arith
+sheet-place s (Accepted.wrong-map i l h) = omega arith
+sheet-place s (Accepted.short-fields i l h) = omega arith
+sheet-place s (Accepted.slope i l h) = omega arith
+sheet-place s (Accepted.groomer i l h) = omega arith
+sheet-place s (Accepted.time i l h) = omega arith
+sheet-place s (Accepted.worth i l h) = omega arith
+sheet-place s (Accepted.bytes-behind h) = omega arith
+
+module _ (s b : List ℕ) where
+  -- a cause of the sheet is the check's
+  sheet-first : (k : ℕ) → FirstAmong (SheetCause s) k → FirstCheckCause s b k
+  sheet-first k f = record { place = f .place; cause = of-sheet (f .cause); none-before = λ j r l c. before j r l c }
+    where
+      before : (j r : ℕ) → r < f .place → CheckCause s b j r → ⊥
+      before j r l (of-sheet c) = f .none-before j r l c
+      before j r l (of-board c) = omega (arith, sheet-place s (f .cause))
+
+  module _ (e : firstOf (sheetCauses s) ≡ 0) where
+    none : {k r : ℕ} → SheetCause s k r → ⊥
+    none {k} {r} c = none-given (sheetCauses s) e (sheet-numbered s) k r (cause-there s c)
+
+    board-first : (k : ℕ) → FirstAmong (BoardCause (sheetTurns s) b) k → FirstCheckCause s b k
+    board-first k f = record { place = placeOf (turnCount s) 1 + f .place; cause = of-board (f .cause); none-before = λ j r l c. before j r l c }
+      where
+        before : (j r : ℕ) → r < placeOf (turnCount s) 1 + f .place → CheckCause s b j r → ⊥
+        before j r l (of-sheet c) = none c
+        before j r l (of-board {r = q} c) = f .none-before j q (omega arith) c
+
+    board-number : (k : ℕ) → (k ≡ 0 → ⊥) → (firstOf (boardCauses (sheetTurns s) b) ≡ k) ↔ FirstAmong (BoardCause (sheetTurns s) b) k
+    board-number k z = first-same (boardCauses (sheetTurns s) b) (BoardCause (sheetTurns s) b) (λ j r. (cause-board (sheetTurns s) (sheet-lengths s e) b, board-cause (sheetTurns s) (sheet-lengths s e) b)) k z
+
+    after-sheet : firstOf (checkCauses s b) ≡ firstOf (boardCauses (sheetTurns s) b)
+    unfolding checkCauses
+    after-sheet = first-goes (sheetCauses s) (boardCauses (sheetTurns s) b) (sheet-numbered s) e
+
+  sheet-stops : (f : ℕ) → firstOf (sheetCauses s) ≡ f → (f ≡ 0 → ⊥) → firstOf (checkCauses s b) ≡ f
+  unfolding checkCauses
+  sheet-stops f e z = first-stops (sheetCauses s) (boardCauses (sheetTurns s) b) f e z
+
+  given : (k : ℕ) → (k ≡ 0 → ⊥) → firstOf (checkCauses s b) ≡ k → FirstCheckCause s b k
+  given k z g = go (ℕ-discrete (firstOf (sheetCauses s)) 0)
+    where
+      go : Dec (firstOf (sheetCauses s) ≡ 0) → FirstCheckCause s b k
+      go (yes e) = board-first e k (board-number e k z .0 (sym (after-sheet e) ∙ g))
+      go (no n) = sheet-first k (refused-iff s k z .0 (sym (sheet-stops (firstOf (sheetCauses s)) refl n) ∙ g))
+
+  found : (k : ℕ) → (k ≡ 0 → ⊥) → FirstCheckCause s b k → firstOf (checkCauses s b) ≡ k
+  found k z f = go (f .place) (f .cause) (f .none-before) (ℕ-discrete (firstOf (sheetCauses s)) 0)
+    where
+      go : (p : ℕ) → CheckCause s b k p → ((j r : ℕ) → r < p → CheckCause s b j r → ⊥) → Dec (firstOf (sheetCauses s) ≡ 0) → firstOf (checkCauses s b) ≡ k
+      go p (of-sheet c) n d = sheet-stops k (refused-iff s k z .1 (record { place = p; cause = c; none-before = λ j r l h. n j r l (of-sheet h) })) z
+      go p (of-board {r = q} c) n (yes e) = after-sheet e ∙ board-number e k z .1 (record { place = q; cause = c; none-before = λ j r l h. n j (placeOf (turnCount s) 1 + r) (omega arith) (of-board h) })
+      go p (of-board {r = q} c) n (no m) =
+          let w = refused-iff s (firstOf (sheetCauses s)) m .0 refl in
+          absurd (n (firstOf (sheetCauses s)) (w .place) (omega (arith, sheet-place s (w .cause))) (of-sheet (w .cause)))
+
+  -- the number is k if and only if cause k is there and none comes earlier
+  pub check-refused-iff : (k : ℕ) → (k ≡ 0 → ⊥) → (checkOf s b .refusal ≡ k) ↔ FirstCheckCause s b k
+  check-refused-iff k z = (λ e. given k z (sym (check-number s b) ∙ e), λ f. check-number s b ∙ found k z f)
