@@ -12,6 +12,17 @@ pub fn read(sheet: &[u8], table: &mut [u16]) {
     tools::put_last(tools::number_sum(table));
 }
 
+// Writing the turns that stand in the input into the lent bytes, by way of the table.
+pub fn write(counts: &[u8], turns: &[u8], table: &mut [u16], bytes: &mut [u8]) {
+    let c = tools::counts_in(counts);
+    tools::unpack(turns, &mut *table);
+    let answer = sheet::write(c.groomers, c.slopes, table, &mut *bytes);
+    tools::put_name(b"write");
+    tools::put(answer.refusal as u64);
+    tools::put(answer.bytes as u64);
+    tools::put_last(tools::byte_sum(bytes));
+}
+
 // Opening a board, and its steps: their length, and the checksum of their bytes.
 pub fn open(board: &[u8]) {
     let steps = board::steps(board);
@@ -19,4 +30,13 @@ pub fn open(board: &[u8]) {
     tools::put(board::open(board) as u64);
     tools::put(steps.len() as u64);
     tools::put_last(tools::byte_sum(steps));
+}
+
+// Checking a board against a sheet: nothing is lent, and the worth ends the line.
+pub fn check(sheet: &[u8], board: &[u8]) {
+    let answer = audit::check(sheet, board);
+    tools::put_name(b"check");
+    tools::put(answer.refusal as u64);
+    tools::put(answer.tally as u64);
+    tools::put_last(answer.worth);
 }

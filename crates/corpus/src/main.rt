@@ -57,7 +57,9 @@ fn run_entry(entry: u8, front: &[u8], rest: &[u8], numbers: &mut [u16], bytes: &
     tools::fill_bytes(bytes);
     match entry {
         1 => entries::read(front, numbers),
+        2 => entries::write(front, rest, numbers, bytes),
         4 => entries::open(front),
+        5 => entries::check(front, rest),
         _ => {
             return false;
         }

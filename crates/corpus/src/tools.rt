@@ -118,8 +118,8 @@ pub fn put(value: u64) {
     io::print_decimal(STDOUT_FILENO, value);
 }
 
-// The checksum, which ends the line.
-pub fn put_last(sum: u32) {
-    put(sum as u64);
+// The last value, often a checksum, which ends the line.
+pub fn put_last(value: u32) {
+    put(value as u64);
     io::write_all(STDOUT_FILENO, b"\n");
 }

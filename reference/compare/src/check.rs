@@ -187,7 +187,11 @@ impl Run {
             let board = planned(&sheet);
             let board = &board[..board.len() - self.rng.pick(&[0, 0, 1])];
             let cut = self.rng.below(sheet.len() as u32) as usize;
+            let mut overfull = sheet.clone();
+            let count: u16 = self.rng.pick(&[401, 401, 402, 657, 65_535]);
+            overfull[5..7].copy_from_slice(&count.to_be_bytes());
             for sheet in [
+                overfull,
                 gen::damaged(&mut self.rng, &sheet),
                 gen::with_bound(&mut self.rng, &shift),
                 gen::with_faults(&mut self.rng, &shift, 1),
