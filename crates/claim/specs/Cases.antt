@@ -1,0 +1,51 @@
+-- The worked cases, through the definitions that the entries' contracts cite: one table. Assumes nothing.
+use Prim.Native.Nat.{ℕ}
+use mathlib.Core.Path.{_≡_}
+use mathlib.Core.List.{List, [], _∷_, _++_}
+use lib.ListN.{replicate}
+use Rattle.turns.specs.declared.Counts.{Counts}
+use Rattle.sheet.specs.Read.{readOf, outcome, refusedWith}
+use Rattle.sheet.specs.Write.{writeOf}
+use Rattle.board.specs.Open.{openOf, stepsPart}
+use Rattle.audit.specs.Check.{checkOf, checked}
+use Rattle.planner.specs.Plan.{planOf}
+use Rattle.claim.specs.Shift.{shift, shiftTable, shiftBoard, shiftSteps, wrongWorth, leavesRoom, header, emptyBoard, lateTurn}
+
+-- lent places hold 9 before
+abbrev pub lent : ℕ → List ℕ
+lent n = replicate n 9
+
+abbrev pub shiftCounts : Counts
+shiftCounts = record { groomers = 2; slopes = 3 }
+
+pub record WorkedCases : Type 0 where
+  -- the shift, through every entry
+  pub shift-read : readOf shift (lent 22) ≡ outcome (record { refusal = 0; groomers = 2; slopes = 3; turns = 4 }) (shiftTable ++ lent 2)
+  pub shift-written : writeOf shiftCounts shiftTable (lent 40) ≡ record { refusal = 0; bytes = 39; lent = shift ++ lent 1 }
+  pub shift-planned : planOf shift (lent 33) ≡ record { refusal = 0; bytes = 28; lent = shiftBoard ++ lent 5 }
+  pub shift-opened : openOf shiftBoard ≡ 0
+  pub shift-steps : stepsPart shiftBoard ≡ shiftSteps
+  pub shift-checked : checkOf shift shiftBoard ≡ checked 0 240 320
+  -- no bytes
+  pub nothing-read : readOf [] (lent 3) ≡ outcome (refusedWith 1) (lent 3)
+  pub nothing-planned : planOf [] (lent 3) ≡ record { refusal = 1; bytes = 0; lent = lent 3 }
+  pub nothing-checked : checkOf [] shiftBoard ≡ checked 1 0 0
+  -- no turns
+  pub empty-read : readOf (header 0 0) [] ≡ outcome (record { refusal = 0; groomers = 2; slopes = 3; turns = 0 }) []
+  pub empty-planned : planOf (header 0 0) (lent 16) ≡ record { refusal = 0; bytes = 15; lent = emptyBoard ++ lent 1 }
+  pub empty-checked : checkOf (header 0 0) emptyBoard ≡ checked 0 0 0
+  -- a header of 400 turns and no record, and one of 401
+  pub most-read : readOf (header 1 0x90) [] ≡ outcome (refusedWith 1) []
+  pub most-planned : planOf (header 1 0x90) [] ≡ record { refusal = 1; bytes = 0; lent = [] }
+  pub most-checked : checkOf (header 1 0x90) emptyBoard ≡ checked 1 0 0
+  pub many-read : readOf (header 1 0x91) [] ≡ outcome (refusedWith 4) []
+  pub many-planned : planOf (header 1 0x91) [] ≡ record { refusal = 4; bytes = 0; lent = [] }
+  pub many-checked : checkOf (header 1 0x91) emptyBoard ≡ checked 4 0 0
+  -- an end at minute 960, and one minute later; worth 60,000, and one more
+  pub end-read : readOf (lateTurn 60 0 1) (lent 5) ≡ outcome (record { refusal = 0; groomers = 1; slopes = 1; turns = 1 }) (1 ∷ 1 ∷ 900 ∷ 60 ∷ 1 ∷ [])
+  pub late-read : readOf (lateTurn 61 0 1) (lent 5) ≡ outcome (refusedWith 8) (lent 5)
+  pub worth-read : readOf (lateTurn 60 0xEA 0x60) (lent 5) ≡ outcome (record { refusal = 0; groomers = 1; slopes = 1; turns = 1 }) (1 ∷ 1 ∷ 900 ∷ 60 ∷ 60000 ∷ [])
+  pub dear-read : readOf (lateTurn 60 0xEA 0x61) (lent 5) ≡ outcome (refusedWith 9) (lent 5)
+  -- other choices with the shift's steps
+  pub wrong-worth : checkOf shift wrongWorth ≡ checked 17 0 0
+  pub leaves-room : checkOf shift leavesRoom ≡ checked 14 0 0

@@ -1,0 +1,1 @@
+// The worked cases and the claim: definitions and theorems only.
