@@ -34,7 +34,7 @@ get-front s at b rest e = ap (λ (i : ℕ). getD s i 0) (sym (add-zero at)) ∙ 
 
 -- ---- a field, at every width
 
-field-length : (bit width v : ℕ) → bit < 2 → length (fieldBytes bit width v) ≡ width * bit
+pub field-length : (bit width v : ℕ) → bit < 2 → length (fieldBytes bit width v) ≡ width * bit
 field-length zero width v h = sym (mul-zero width)
 field-length (suc zero) width v h = length-bytes width v ∙ sym (mul-one width)
 field-length (suc (suc bit)) width v h = absurd (omega arith)

@@ -9,3 +9,10 @@ pub mod Causes
 pub mod ReadCauses
 pub mod Tables
 pub mod Unrefused
+pub mod WriteRecords
+pub mod Measures
+pub mod Writings
+pub mod WriteMaps
+pub mod Shortest
+pub mod RoundTrip
+pub mod WriteCauses

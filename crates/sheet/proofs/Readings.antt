@@ -1,38 +1,28 @@
 -- The reader's answer by its cases, each premise in the form in which the code's calls and tests leave it. Assumes nothing.
-use Prim.Native.Nat.{ℕ, zero, suc, _+_, _*_, _<_, _≤_}
+use Prim.Native.Nat.{ℕ, zero, suc, _*_, _<_, _≤_}
 use mathlib.Core.Path.{_≡_, refl, sym, _∙_, ap}
 use mathlib.Core.Bool.{Bool, true, false, cond}
-use mathlib.Core.List.{List, [], _∷_, _++_}
+use mathlib.Core.List.{List, [], _∷_}
 use native.Mathlib.Omega.{arith}
-use native.Mathlib.Numerals.{add-one}
-use native.Mathlib.Nat.{zero-add}
-use lib.ListN.{length, set, drop, length-append}
-use lib.Seq.{sets, sets-eq}
+use lib.ListN.{length}
 use lib.Dec.{eqb}
-use borrow.Author.Tests.{eq-eqb, ne-eqb, lt-ltb, le-ltb, eqb-true, eqb-false}
+use borrow.Author.Tests.{ne-eqb, lt-ltb, le-ltb, eqb-true, eqb-false}
 use Rattle.refusal.specs.Number.{bufferTooSmall}
-use Rattle.refusal.specs.Cause.{Cause, _when_, firstOf}
+use Rattle.refusal.specs.Cause.{_when_, firstOf}
 use Rattle.refusal.proofs.Order.{numbered, numbered-append, first-stops, first-goes}
+use Rattle.wire.specs.Number.{puts}
+use Rattle.wire.proofs.Puts.{puts-front}
 use Rattle.turns.specs.declared.Turn.{Turn}
 use Rattle.turns.specs.declared.Counts.{Counts}
-use Rattle.turns.specs.Turn.{rowOf}
 use Rattle.sheet.specs.declared.record.Cursor.{Cursor}
 use Rattle.sheet.specs.declared.reader.Header.{Header}
 use Rattle.sheet.specs.declared.reader.Header.the-variants.{Found, Refused}
 use Rattle.sheet.specs.declared.reader.ReadAnswer.{ReadAnswer}
 use Rattle.sheet.specs.Record.{recordCauses, cursorAfter, firstCursor}
-use Rattle.sheet.specs.Read.{countsIn, turnCount, countCauses, headerCauses, headerOf, recordsCauses, turnsFrom, rows, puts, sheetCauses, turnsOf, tableOf, readCauses, Outcome, outcome, refusedWith, readAnswer, readOf}
+use Rattle.sheet.specs.Read.{countsIn, turnCount, countCauses, headerCauses, headerOf, recordsCauses, turnsFrom, rows, sheetCauses, turnsOf, tableOf, readCauses, outcome, refusedWith, readOf}
 use Rattle.sheet.proofs.Scans.{record-numbered}
 
--- ---- lists put in at the front
-
-puts-sets : (vs l : List ℕ) (i : ℕ) → puts l i vs ≡ sets l i vs
-puts-sets [] l i = refl
-puts-sets (a ∷ vs) l i = rw add-one (puts-sets vs (set l i a) (suc i))
-
--- what was put, and the rest as it was
-pub puts-front : (vs l : List ℕ) → length vs ≤ length l → puts l 0 vs ≡ vs ++ drop (length vs) l
-puts-front vs l h = puts-sets vs l 0 ∙ sets-eq vs l 0 (omega arith) ∙ rw zero-add
+-- ---- lengths
 
 pub rows-length : (ts : List Turn) → length (rows ts) ≡ 5 * length ts
 unfolding rows

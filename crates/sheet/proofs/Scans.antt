@@ -1,16 +1,17 @@
 -- Records one after another: what the loops keep as they go on. Assumes nothing.
-use Prim.Native.Nat.{ℕ, zero, suc, _+_, _-_, _*_, _<_, _≤_}
+use Prim.Native.Nat.{ℕ, zero, suc, _+_, _-_, _<_, _≤_}
 use mathlib.Core.Path.{_≡_, refl, sym, _∙_, ap}
 use mathlib.Core.Bool.{Bool, true, false, cond}
-use mathlib.Core.List.{List, [], _∷_, _++_}
+use mathlib.Core.List.{List, _∷_, _++_}
 use native.Mathlib.Omega.{arith}
 use native.Mathlib.Numerals.{sub-one}
-use lib.ListN.{length, set}
+use lib.ListN.{length}
 use lib.Dec.{eqb}
 use borrow.Author.Tests.{lt-ltb, le-ltb, eqb-true, eqb-false}
 use Rattle.refusal.specs.Number.{trailingBytes}
-use Rattle.refusal.specs.Cause.{Cause, firstOf}
+use Rattle.refusal.specs.Cause.{firstOf}
 use Rattle.refusal.proofs.Order.{numbered, first-stops, first-goes}
+use Rattle.wire.specs.Number.{puts}
 use Rattle.turns.specs.declared.Turn.{Turn}
 use Rattle.turns.specs.declared.Counts.{Counts}
 use Rattle.turns.specs.Turn.{rowOf, turnCauses}
@@ -18,7 +19,7 @@ use Rattle.sheet.specs.declared.record.Cursor.{Cursor}
 use Rattle.sheet.specs.declared.record.Next.{Next}
 use Rattle.sheet.specs.declared.record.Next.the-variants.{Read, Refused}
 use Rattle.sheet.specs.Record.{turnAt, cursorAfter, recordCauses, nextOf}
-use Rattle.sheet.specs.Read.{recordsCauses, turnsFrom, rows, puts}
+use Rattle.sheet.specs.Read.{recordsCauses, turnsFrom, rows}
 
 -- ---- what an answer of the reader's says
 

@@ -1,8 +1,8 @@
 -- A whole sheet, read. Assumes nothing.
-use Prim.Native.Nat.{ℕ, zero, suc, _+_, _*_}
+use Prim.Native.Nat.{ℕ, zero, suc, _*_}
 use mathlib.Core.List.{List, [], _∷_, _++_}
-use mathlib.Core.Bool.{Bool, true, false, not, cond}
-use lib.ListN.{length, getD, drop, set}
+use mathlib.Core.Bool.{not, cond}
+use lib.ListN.{length, drop}
 use lib.Dec.{ltb, eqb}
 use Rattle.refusal.specs.Number.{truncated, badMagic, badCounts, tooManyTurns, trailingBytes, bufferTooSmall}
 use Rattle.refusal.specs.Cause.{Cause, _when_, firstOf}
@@ -75,11 +75,6 @@ turnsFrom (suc k) s c = turnAt s c ∷ turnsFrom k s (cursorAfter s c)
 unfoldable pub rows : List Turn → List ℕ
 rows [] = []
 rows (t ∷ ts) = rowOf t ++ rows ts
-
--- a list with values put into it from a place on
-abbrev pub puts : List ℕ → ℕ → List ℕ → List ℕ
-puts l i [] = l
-puts l i (a ∷ vs) = puts (set l i a) (i + 1) vs
 
 -- ---- a sheet: what may be wrong with it, its turns, its table
 

@@ -11,6 +11,7 @@ use Rattle.wire.specs.Mark.{sheetMark}
 use Rattle.turns.specs.declared.Turn.{Turn}
 use Rattle.turns.specs.declared.Counts.{Counts}
 use Rattle.turns.specs.Turn.{turnCauses}
+use Rattle.sheet.specs.declared.writer.WriteAnswer.{WriteAnswer}
 use Rattle.sheet.specs.Record.{fullMap, firstCursor}
 use Rattle.sheet.specs.Read.{countCauses}
 
@@ -20,15 +21,18 @@ use Rattle.sheet.specs.Read.{countCauses}
 abbrev pub fieldBytes : ℕ → ℕ → ℕ → List ℕ
 fieldBytes bit width v = cond (eqb bit 0) [] (bytesOf width v)
 
--- a record: its map, then the fields whose bits stand, in the order slope, groomer, start, length, worth
-unfoldable pub recordOf : ℕ → Turn → List ℕ
-recordOf m t =
-    m
-    ∷ (fieldBytes (m % 2) 1 (t .slope)
+-- the fields whose bits stand, in the order slope, groomer, start, length, worth
+abbrev pub fieldsOf : ℕ → Turn → List ℕ
+fieldsOf m t =
+    fieldBytes (m % 2) 1 (t .slope)
     ++ (fieldBytes (m / 2 % 2) 1 (t .groomer)
     ++ (fieldBytes (m / 4 % 2) 2 (t .start)
     ++ (fieldBytes (m / 8 % 2) 2 (t .length)
-    ++ fieldBytes (m / 16 % 2) 2 (t .worth)))))
+    ++ fieldBytes (m / 16 % 2) 2 (t .worth))))
+
+-- a record: its map, then its fields
+unfoldable pub recordOf : ℕ → Turn → List ℕ
+recordOf m t = m ∷ fieldsOf m t
 
 -- 1 where two values differ
 abbrev pub differs : ℕ → ℕ → ℕ
@@ -96,6 +100,14 @@ pub record Written : Type 0 where
   pub refusal : ℕ
   pub bytes : ℕ
   pub lent : List ℕ
+
+-- the numbers that the writer is handed, as counts
+abbrev pub countsOf : ℕ → ℕ → Counts
+countsOf groomers slopes = record { groomers = groomers; slopes = slopes }
+
+-- what is returned, with what the lent bytes hold then
+abbrev pub written : WriteAnswer → List ℕ → Written
+written answer lent = record { refusal = answer .refusal; bytes = answer .bytes; lent = lent }
 
 -- on success the sheet, then what was there; on a refusal all as before
 unfoldable pub writeOf : Counts → List ℕ → List ℕ → Written

@@ -4,7 +4,8 @@ ghost use Prim.Native.Nat.{_+_, _*_, _≤_, _<_};
 ghost use lib.ListN.{length};
 ghost use Rattle.refusal.specs.Cause.{firstOf};
 ghost use Rattle.sheet.specs.Record.{firstCursor};
-ghost use Rattle.sheet.specs.Read.{headerBytes, countsHeader, headerOf, recordsCauses, turnsFrom, rows, puts, refusedWith, readOf, outcome};
+ghost use Rattle.sheet.specs.Read.{headerBytes, countsHeader, headerOf, recordsCauses, turnsFrom, rows, refusedWith, readOf, outcome};
+ghost use Rattle.wire.specs.Number.{puts};
 ghost use Rattle.turns.specs.Turn.{rowOf};
 use super::record::Cursor;
 use super::record::Next;
@@ -13,11 +14,11 @@ use turns::Turn;
 
 const HEADER_BYTES: usize = 7;
 
-const MOST_GROOMERS: u16 = 16;
+pub const MOST_GROOMERS: u16 = 16;
 
-const MOST_SLOPES: u16 = 120;
+pub const MOST_SLOPES: u16 = 120;
 
-const MOST_TURNS: u16 = 400;
+pub const MOST_TURNS: u16 = 400;
 
 pub enum Header {
     Found(Counts, u16),
@@ -73,7 +74,7 @@ fn read_counts(s: &[u8]) -> Header
 }
 
 // The cursor before the first record.
-fn first_cursor() -> Cursor
+pub fn first_cursor() -> Cursor
     ensures { λ r. ⌜ r ≡ firstCursor ⌝ }
 {
     let none = Turn {

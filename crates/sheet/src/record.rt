@@ -7,7 +7,7 @@ use turns::Counts;
 use turns::Turn;
 
 // A map with every field, as the first record has it.
-const FULL_MAP: u8 = 31;
+pub const FULL_MAP: u8 = 31;
 
 // Where the next record starts, and the turn before it.
 pub struct Cursor {
@@ -22,7 +22,7 @@ pub enum Next {
 }
 
 // How many bytes the fields of a map take.
-fn width(m: u8) -> usize
+pub fn width(m: u8) -> usize
     ensures { λ r. ⌜ r ≡ widthOf m ⌝ }
 {
     let w = m % 2 + m / 2 % 2 + 2 * (m / 4 % 2) + 2 * (m / 8 % 2) + 2 * (m / 16 % 2);

@@ -1,7 +1,7 @@
 -- Numbers of one, two or four bytes, high byte first, and lists of bytes. Assumes nothing.
 use Prim.Native.Nat.{ℕ, zero, suc, _+_, _*_, _/_, _%_, _^_, _<_}
 use mathlib.Core.List.{List, [], _∷_}
-use lib.ListN.{getD}
+use lib.ListN.{getD, set}
 
 -- x as so many bytes, high byte first
 abbrev pub bytesOf : ℕ → ℕ → List ℕ
@@ -24,6 +24,11 @@ bytesAt s at (suc k) = getD s at 0 ∷ bytesAt s (at + 1) k
 -- the number in the k bytes from a place on
 abbrev pub valueAt : List ℕ → ℕ → ℕ → ℕ
 valueAt s at k = valueOf (bytesAt s at k)
+
+-- a list with values put into it from a place on
+abbrev pub puts : List ℕ → ℕ → List ℕ → List ℕ
+puts l i [] = l
+puts l i (a ∷ vs) = puts (set l i a) (i + 1) vs
 
 -- a list of bytes: each number is below 256
 pub data Bytes : List ℕ → Type 0 where

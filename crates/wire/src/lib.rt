@@ -2,7 +2,7 @@
 ghost use mathlib.Core.Path.{_≡_};
 ghost use Prim.Native.Nat.{_+_, _≤_, _<_};
 ghost use lib.ListN.{length};
-ghost use Rattle.wire.specs.Number.{valueAt};
+ghost use Rattle.wire.specs.Number.{valueAt, bytesOf, bytesAt, puts};
 ghost use Rattle.wire.specs.Mark.{opensWith};
 
 // A sheet's mark and a board's, compared on reading and written on output.
@@ -64,4 +64,32 @@ pub fn quad_at(s: &[u8], at: usize) -> u32
     let a2 = a1 + 1;
     let a3 = a2 + 1;
     ((wider(s[at]) * 256 + wider(s[a1])) * 256 + wider(s[a2])) * 256 + wider(s[a3])
+}
+
+// The mark at the front of lent bytes.
+pub fn put_mark(out: &mut [u8], mark: [u8; 3])
+    requires { ⌜ 3 ≤ length (now out) ⌝ }
+    ensures { λ _. ⌜ now (out .exit) ≡ puts (now (out .entry)) 0 (bytesAt mark 0 3) ⌝ }
+{
+    out[0] = mark[0];
+    out[1] = mark[1];
+    out[2] = mark[2];
+}
+
+// A number's low byte at a place.
+pub fn put_byte(out: &mut [u8], at: usize, x: u16)
+    requires { ⌜ at + 1 ≤ length (now out) ⌝ }
+    ensures { λ _. ⌜ now (out .exit) ≡ puts (now (out .entry)) at (bytesOf 1 x) ⌝ }
+{
+    out[at] = (x % 256) as u8;
+}
+
+// A number as two bytes from a place on.
+pub fn put_word(out: &mut [u8], at: usize, x: u16)
+    requires { ⌜ at + 2 ≤ length (now out) ⌝ }
+    ensures { λ _. ⌜ now (out .exit) ≡ puts (now (out .entry)) at (bytesOf 2 x) ⌝ }
+{
+    let next = at + 1;
+    out[at] = (x / 256) as u8;
+    out[next] = (x % 256) as u8;
 }

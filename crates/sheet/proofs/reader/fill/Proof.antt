@@ -1,5 +1,6 @@
 use Rattle.sheet.proofs.Scans.{fill-cases}
-use Rattle.sheet.specs.Read.{recordsCauses, turnsFrom, rows, puts}
+use Rattle.sheet.specs.Read.{recordsCauses, turnsFrom, rows}
+use Rattle.wire.specs.Number.{puts}
 use Rattle.refusal.specs.Cause.{firstOf}
 use lib.ListN.{length}
 use Prim.Native.Nat.{_+_, _*_, _≤_}
