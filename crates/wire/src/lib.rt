@@ -93,3 +93,26 @@ pub fn put_word(out: &mut [u8], at: usize, x: u16)
     out[at] = (x / 256) as u8;
     out[next] = (x % 256) as u8;
 }
+
+// A number as four bytes from a place on.
+pub fn put_quad(out: &mut [u8], at: usize, x: u32)
+    requires { ⌜ at + 4 ≤ length (now out) ⌝ }
+    ensures { λ _. ⌜ now (out .exit) ≡ puts (now (out .entry)) at (bytesOf 4 x) ⌝ }
+{
+    let next = at + 2;
+    put_word(&mut *out, at, (x / 65536) as u16);
+    put_word(&mut *out, next, (x % 65536) as u16);
+}
+
+// Bytes copied to a place.
+pub fn put_bytes(out: &mut [u8], at: usize, bytes: &[u8])
+    requires { ⌜ at + length (now bytes) ≤ length (now out) ⌝ }
+    ensures { λ _. ⌜ now (out .exit) ≡ puts (now (out .entry)) at (now (bytes .entry)) ⌝ }
+{
+    let mut i = 0;
+    while i < bytes.len() {
+        let to = at + i;
+        out[to] = bytes[i];
+        i += 1;
+    }
+}
