@@ -2,13 +2,17 @@
 use Prim.Native.Nat.{ℕ, zero, suc, _+_, _*_, _/_, _%_, _^_, _<_, _≤_}
 use mathlib.Core.Path.{_≡_, refl, sym, _∙_, ap, subst}
 use mathlib.Core.Bool.{Bool, true, false, not, cond, _&&_}
+use mathlib.Core.List.{List, [], _∷_}
 use mathlib.Core.Logic.{⊎-elim}
 use native.Mathlib.Omega.{arith}
 use native.Mathlib.Nat.{eq-or-lt-of-le, le-of-suc-le-suc, not-suc-le-zero}
 use lib.Dec.{T, eqb, leb, ltb, eqb→eq, leb→le}
 use lib.Bits.{bitOr}
+use lib.ListN.{length, getD}
 use lib.Count as count
-use Rattle.model.specs.Lists.{sum, below}
+use Rattle.model.specs.Lists.{sum, below, tab}
+use Rattle.model.proofs.Sums.{tab-length}
+use Rattle.model.proofs.Residuals.{tab-at}
 use Rattle.board.specs.Choice.{bitOf, withBit, onesOf}
 
 -- f at every number below n
@@ -68,3 +72,37 @@ with-bit-bits x k j h l m =
 pub bits-byte : (x : ℕ) → x < 256 → sum (λ i. cond (bitOf x i) (2 ^ i) 0) (below 8) ≡ x
 unfolding allBelow bitOf
 bits-byte x h = eqb→eq _ _ (at 256 (λ x. eqb (sum (λ i. cond (bitOf x i) (2 ^ i) 0) (below 8)) x) tt x h)
+
+-- ---- a byte made of eight bits: one test over all lists of eight
+
+allLists : ℕ → (List Bool → Bool) → Bool
+allLists zero p = p []
+allLists (suc n) p = cond (allLists n (λ l. p (true ∷ l))) (allLists n (λ l. p (false ∷ l))) false
+
+of-list : (n : ℕ) (p : List Bool → Bool) → T (allLists n p) → (l : List Bool) → length l ≡ n → T (p l)
+unfolding allLists
+of-list zero p t [] e = t
+of-list zero p t (b ∷ l) e = absurd (omega arith)
+of-list (suc n) p t [] e = absurd (omega arith)
+of-list (suc n) p t (true ∷ l) e = of-list n (λ l. p (true ∷ l)) (first (allLists n (λ l. p (true ∷ l))) (allLists n (λ l. p (false ∷ l))) t) l (omega arith)
+of-list (suc n) p t (false ∷ l) e = of-list n (λ l. p (false ∷ l)) (second (allLists n (λ l. p (true ∷ l))) (allLists n (λ l. p (false ∷ l))) t) l (omega arith)
+
+-- the sum of the powers of its bits
+abbrev pub byteFrom : (ℕ → Bool) → ℕ
+byteFrom f = sum (λ i. cond (f i) (2 ^ i) 0) (below 8)
+
+listed : (l : List Bool) → length l ≡ 8 → (j : ℕ) → j < 8 → bitOf (byteFrom (λ i. getD l i false)) j ≡ getD l j false
+unfolding allLists allBelow bitOf same
+listed l e j h = same→eq _ _ (at 8 (λ j. same (bitOf (byteFrom (λ i. getD l i false)) j) (getD l j false)) (of-list 8 (λ l. allBelow 8 (λ j. same (bitOf (byteFrom (λ i. getD l i false)) j) (getD l j false))) tt l e) j h)
+
+listed-below : (l : List Bool) → length l ≡ 8 → byteFrom (λ i. getD l i false) ≤ 255
+unfolding allLists
+listed-below l e = leb→le _ _ (of-list 8 (λ l. leb (byteFrom (λ i. getD l i false)) 255) tt l e)
+
+pub byte-bits : (f : ℕ → Bool) (j : ℕ) → j < 8 → bitOf (byteFrom f) j ≡ f j
+unfolding tab
+byte-bits f j h = listed (tab 8 f) (tab-length 8 f) j h ∙ tab-at 8 f false j h
+
+pub byte-below : (f : ℕ → Bool) → byteFrom f ≤ 255
+unfolding tab
+byte-below f = listed-below (tab 8 f) (tab-length 8 f)

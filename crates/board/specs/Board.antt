@@ -53,6 +53,13 @@ unfoldable pub stepBytes : List Step → List ℕ
 stepBytes [] = []
 stepBytes (x ∷ xs) = (bytesOf 2 (x .turn) ++ bytesOf 2 (x .amount)) ++ stepBytes xs
 
+-- what stands before the map: mark, turns and steps, then the two sums
+unfoldable pub countBytes : ℕ → ℕ → List ℕ
+countBytes n m = boardMark ++ (bytesOf 2 n ++ bytesOf 2 m)
+
+unfoldable pub headBytes : ℕ → ℕ → ℕ → ℕ → List ℕ
+headBytes n m tally worth = countBytes n m ++ (bytesOf 4 tally ++ bytesOf 4 worth)
+
 -- the board of a choice of n turns, steps and two sums
 unfoldable pub boardOf : List Bool → List Step → ℕ → ℕ → List ℕ
 boardOf S xs tally worth =

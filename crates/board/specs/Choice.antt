@@ -1,9 +1,11 @@
 -- The choice map: which turns are chosen, one bit a turn. Assumes nothing.
 use Prim.Native.Nat.{ℕ, zero, suc, _+_, _-_, _*_, _/_, _%_, _^_}
+use mathlib.Core.Path.{_≡_}
 use mathlib.Core.List.{List, [], _∷_}
 use mathlib.Core.Bool.{Bool, true, false, not, cond}
 use lib.ListN.{length, getD, set}
 use lib.Dec.{eqb}
+use Rattle.wire.specs.Number.{Bytes}
 use Rattle.model.specs.Lists.{every, tab, sum, below}
 use Rattle.model.specs.Choice.{has}
 
@@ -48,3 +50,9 @@ byteOf S k = sum (λ i. cond (has S (8 * k + i)) (2 ^ i) 0) (below 8)
 
 unfoldable pub mapOf : List Bool → List ℕ
 mapOf S = tab (mapBytes (length S)) (byteOf S)
+
+-- a map of n turns as a board holds it: its length, bytes only, no bit past the last turn
+pub record Clean (n : ℕ) (map : List ℕ) : Type 0 where
+  pub size : length map ≡ mapBytes n
+  pub bytes : Bytes map
+  pub clear : clearPast n map ≡ true

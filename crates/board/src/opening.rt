@@ -6,7 +6,7 @@ ghost use Rattle.board.specs.Board.{boardHeader, stepsPlace};
 ghost use Rattle.board.specs.Open.{badSizes, malformed, openOf, stepsPart};
 use super::choice::clear_past;
 
-const HEADER_BYTES: usize = 15;
+pub const HEADER_BYTES: usize = 15;
 
 // Where the steps start in a board of n turns.
 pub fn steps_place(n: u16) -> usize

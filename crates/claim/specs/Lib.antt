@@ -1,2 +1,3 @@
 pub mod Shift
 pub mod Cases
+pub mod Claim

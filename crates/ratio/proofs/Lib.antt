@@ -3,3 +3,5 @@ pub mod Signed
 pub mod Steps
 pub mod Chosen
 pub mod Order
+pub mod Planning
+pub mod Fitting

@@ -2,13 +2,6 @@ pub mod Records
 pub mod Headers
 pub mod Scans
 pub mod Readings
-pub mod WriteRecords
-pub mod Measures
-pub mod Writings
-pub mod WriteMaps
-pub mod Shortest
-pub mod RoundTrip
-pub mod WriteCauses
 pub mod Maps
 pub mod Fields
 pub mod Accepting
@@ -16,4 +9,11 @@ pub mod Causes
 pub mod ReadCauses
 pub mod Tables
 pub mod Unrefused
+pub mod WriteRecords
+pub mod Measures
+pub mod Writings
+pub mod WriteMaps
+pub mod Shortest
+pub mod RoundTrip
+pub mod WriteCauses
 pub mod Whole

@@ -26,34 +26,6 @@ pub fn opens_with(s: &[u8], mark: [u8; 3]) -> bool
     }
 }
 
-// The mark at the front of lent bytes.
-pub fn put_mark(out: &mut [u8], mark: [u8; 3])
-    requires { ⌜ 3 ≤ length (now out) ⌝ }
-    ensures { λ _. ⌜ now (out .exit) ≡ puts (now (out .entry)) 0 (bytesAt mark 0 3) ⌝ }
-{
-    out[0] = mark[0];
-    out[1] = mark[1];
-    out[2] = mark[2];
-}
-
-// A number's low byte at a place.
-pub fn put_byte(out: &mut [u8], at: usize, x: u16)
-    requires { ⌜ at + 1 ≤ length (now out) ⌝ }
-    ensures { λ _. ⌜ now (out .exit) ≡ puts (now (out .entry)) at (bytesOf 1 x) ⌝ }
-{
-    out[at] = (x % 256) as u8;
-}
-
-// A number as two bytes from a place on.
-pub fn put_word(out: &mut [u8], at: usize, x: u16)
-    requires { ⌜ at + 2 ≤ length (now out) ⌝ }
-    ensures { λ _. ⌜ now (out .exit) ≡ puts (now (out .entry)) at (bytesOf 2 x) ⌝ }
-{
-    let next = at + 1;
-    out[at] = (x / 256) as u8;
-    out[next] = (x % 256) as u8;
-}
-
 fn wide(x: u8) -> u16
     ensures { λ r. ⌜ (r ≡ x) × (r < 256) ⌝ }
 {
@@ -92,4 +64,55 @@ pub fn quad_at(s: &[u8], at: usize) -> u32
     let a2 = a1 + 1;
     let a3 = a2 + 1;
     ((wider(s[at]) * 256 + wider(s[a1])) * 256 + wider(s[a2])) * 256 + wider(s[a3])
+}
+
+// The mark at the front of lent bytes.
+pub fn put_mark(out: &mut [u8], mark: [u8; 3])
+    requires { ⌜ 3 ≤ length (now out) ⌝ }
+    ensures { λ _. ⌜ now (out .exit) ≡ puts (now (out .entry)) 0 (bytesAt mark 0 3) ⌝ }
+{
+    out[0] = mark[0];
+    out[1] = mark[1];
+    out[2] = mark[2];
+}
+
+// A number's low byte at a place.
+pub fn put_byte(out: &mut [u8], at: usize, x: u16)
+    requires { ⌜ at + 1 ≤ length (now out) ⌝ }
+    ensures { λ _. ⌜ now (out .exit) ≡ puts (now (out .entry)) at (bytesOf 1 x) ⌝ }
+{
+    out[at] = (x % 256) as u8;
+}
+
+// A number as two bytes from a place on.
+pub fn put_word(out: &mut [u8], at: usize, x: u16)
+    requires { ⌜ at + 2 ≤ length (now out) ⌝ }
+    ensures { λ _. ⌜ now (out .exit) ≡ puts (now (out .entry)) at (bytesOf 2 x) ⌝ }
+{
+    let next = at + 1;
+    out[at] = (x / 256) as u8;
+    out[next] = (x % 256) as u8;
+}
+
+// A number as four bytes from a place on.
+pub fn put_quad(out: &mut [u8], at: usize, x: u32)
+    requires { ⌜ at + 4 ≤ length (now out) ⌝ }
+    ensures { λ _. ⌜ now (out .exit) ≡ puts (now (out .entry)) at (bytesOf 4 x) ⌝ }
+{
+    let next = at + 2;
+    put_word(&mut *out, at, (x / 65536) as u16);
+    put_word(&mut *out, next, (x % 65536) as u16);
+}
+
+// Bytes copied to a place.
+pub fn put_bytes(out: &mut [u8], at: usize, bytes: &[u8])
+    requires { ⌜ at + length (now bytes) ≤ length (now out) ⌝ }
+    ensures { λ _. ⌜ now (out .exit) ≡ puts (now (out .entry)) at (now (bytes .entry)) ⌝ }
+{
+    let mut i = 0;
+    while i < bytes.len() {
+        let to = at + i;
+        out[to] = bytes[i];
+        i += 1;
+    }
 }
