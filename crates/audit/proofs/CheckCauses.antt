@@ -1,4 +1,4 @@
--- The check gives a number if and only if its cause is there and none comes earlier. Assumes nothing.
+-- The check gives exactly the number of the first cause in its order. Assumes nothing.
 use Prim.Native.Nat.{ℕ, zero, suc, _+_, _*_, _<_, _≤_}
 use mathlib.Core.Path.{_≡_, refl, sym, _∙_, ap}
 use mathlib.Core.Logic.{_↔_, _⊎_, inl, inr, _≢_}
@@ -196,6 +196,6 @@ module _ (s b : List ℕ) where
           let w = refused-iff s (firstOf (sheetCauses s)) m .0 refl in
           absurd (n (firstOf (sheetCauses s)) (w .place) (omega (arith, sheet-place s (w .cause))) (of-sheet (w .cause)))
 
-  -- the number is k if and only if cause k is there and none comes earlier
+  -- the check gives k exactly where the first cause has number k
   pub check-refused-iff : (k : ℕ) → (k ≡ 0 → ⊥) → (checkOf s b .refusal ≡ k) ↔ FirstCheckCause s b k
   check-refused-iff k z = (λ e. given k z (sym (check-number s b) ∙ e), λ f. check-number s b ∙ found k z f)

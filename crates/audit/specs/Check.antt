@@ -25,6 +25,7 @@ sheetTurns s = turnsIn (turnCount s) (tableOf s)
 unfoldable pub choiceCauses : Turns → List Bool → List Cause
 choiceCauses T S = conflict when not (independent T S) ∷ notMaximal when not (maximal T S) ∷ []
 
+-- the residuals after the last step are asked only where every step is right, since a wrong step is given before
 unfoldable pub stepCauses : Turns → List Step → List Cause
 stepCauses T xs = wrongStep when not (allRight T (initial T) xs) ∷ turnLeftOpen when not (noneOpen T (afterSteps T (initial T) xs)) ∷ []
 
@@ -52,13 +53,13 @@ checkOf s b =
     let f = firstOf (checkCauses s b) in
     cond (eqb f 0) (checked 0 (boardTally b) (boardWorth b)) (checked f 0 0)
 
--- ---- the same in words that no program runs
-
 -- the board passes: the check refuses nothing
 abbrev pub Passes : List ℕ → List ℕ → Type 0
 Passes s b = checkOf s b .refusal ≡ 0
 
--- a board keeps the rules for a sheet: it is a board of that many turns, and its choice, steps and sums keep the model's rules
+-- ---- as statements
+
+-- b keeps the rules for s: it is a board of as many turns, and its choice, steps and sums keep the model's rules
 pub record BoardKeeps (s b : List ℕ) : Type 0 where
   pub form : WellFormed b (turnCount s) (boardSteps b)
   pub rules : KeepsRules (sheetTurns s) (boardChoice b) (writtenSteps b) (boardTally b) (boardWorth b)
@@ -77,6 +78,6 @@ pub data CheckCause (s b : List ℕ) : ℕ → ℕ → Type 0 where
   of-sheet : {k r : ℕ} → SheetCause s k r → CheckCause s b k r
   of-board : {k r : ℕ} → BoardCause (sheetTurns s) b k r → CheckCause s b k (placeOf (turnCount s) 1 + r)
 
--- cause k is there and none comes earlier
+-- the first cause to refuse s or b has number k
 abbrev pub FirstCheckCause : List ℕ → List ℕ → ℕ → Type 0
 FirstCheckCause s b k = FirstAmong (CheckCause s b) k

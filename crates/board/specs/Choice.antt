@@ -17,7 +17,7 @@ bitOf x k = eqb (x / 2 ^ k % 2) 1
 abbrev pub mapBytes : ℕ → ℕ
 mapBytes n = (n + 7) / 8
 
--- turn t is bit t % 8 of byte t / 8
+-- byte t / 8 of the map has turn t, at its bit t % 8
 unfoldable pub chosenIn : List ℕ → ℕ → Bool
 chosenIn map t = bitOf (getD map (t / 8) 0) (t % 8)
 
@@ -32,7 +32,7 @@ withBit x k = cond (bitOf x k) x (x + 2 ^ k)
 unfoldable pub withTurn : List ℕ → ℕ → List ℕ
 withTurn map t = set map (t / 8) (withBit (getD map (t / 8) 0) (t % 8))
 
--- the count of ones in a byte; the number of chosen turns is their sum over the map's bytes
+-- how many bits of a byte are 1; over all bytes of a map, how many turns it chooses
 unfoldable pub onesOf : ℕ → ℕ
 onesOf x = sum (λ k. cond (bitOf x k) 1 0) (below 8)
 

@@ -11,7 +11,7 @@ use Rattle.wire.specs.Mark.{boardMark, opensWith}
 use Rattle.board.specs.Choice.{mapBytes, chosenIn, clearPast}
 use Rattle.board.specs.Board.{boardHeader, boardTurns, boardSteps, stepsPlace, boardLength, boardMap}
 
--- more steps than turns, any length but the exact one, or a bit past the last turn
+-- more steps than turns, a length that is not the one these two numbers give, or a map bit set behind that of the last turn
 unfoldable pub badSizes : List ℕ → Bool
 badSizes b =
     ltb (boardTurns b) (boardSteps b)
@@ -29,7 +29,7 @@ openOf b = firstOf (malformedBoard when malformed b ∷ [])
 unfoldable pub stepsPart : List ℕ → List ℕ
 stepsPart b = cond (malformed b) [] (take (4 * boardSteps b) (drop (stepsPlace (boardTurns b)) b))
 
--- ---- the same in words that no program runs
+-- ---- as statements
 
 -- these bytes are a board, of n turns and m steps
 pub record WellFormed (b : List ℕ) (n m : ℕ) : Type 0 where

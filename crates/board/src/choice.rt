@@ -1,4 +1,4 @@
-// The choice map: turn t is bit t % 8 of byte t / 8.
+// The choice map: byte t / 8 has turn t, at its bit t % 8.
 ghost use mathlib.Core.Path.{_≡_};
 ghost use Prim.Native.Nat.{_+_, _*_, _≤_, _<_};
 ghost use lib.ListN.{length};

@@ -31,7 +31,7 @@ turnsIn n table =
 unfoldable pub gap : ℕ
 gap = 0
 
--- two turns share a minute: each starts before the other has ended, so that turns that touch end to start share none
+-- two turns overlap: each starts before the other's end plus the gap. With a gap of 0, turns of a minute or more overlap just if they share a minute; to touch is not enough
 unfoldable pub overlap : Turns → ℕ → ℕ → Bool
 overlap T x y = ltb (T .start x) (T .end y + gap) && ltb (T .start y) (T .end x + gap)
 
@@ -45,9 +45,9 @@ byGroomer T x y = eqb (T .groomer x) (T .groomer y) && overlap T x y
 unfoldable pub conflict : Turns → ℕ → ℕ → Bool
 conflict T x y = bySlope T x y || byGroomer T x y
 
--- ---- the same in words that no program runs
+-- ---- as statements
 
--- turn x holds a minute: from its start up to, but not including, its end
+-- turn x holds a minute: the minute of its start or a later one, before its end
 pub record Holds (T : Turns) (x minute : ℕ) : Type 0 where
   pub begun : T .start x ≤ minute
   pub not-over : minute < T .end x

@@ -1,4 +1,4 @@
--- A number is given if and only if its cause is there and none comes earlier: once, for every list of causes. Assumes nothing.
+-- Exactly the first cause in the order gives the number: shown once, for every list of causes. Assumes nothing.
 use mathlib.Core.Path.{_≡_, refl, sym, ap, _∙_}
 use mathlib.Core.Bool.{Bool, true, false, cond, _&&_, true≢false}
 use mathlib.Core.List.{List, [], _∷_, _++_}
@@ -102,7 +102,7 @@ given-none (c ∷ cs) n = go (c .there) refl (given-none cs (λ k r h. n k (suc 
     go true q ih = absurd (n (c .number) 0 (here q))
     go false q ih = ih
 
--- the number given is that of a cause that is there, and none comes earlier
+-- the number that is given is that of the first cause
 pub given-first : (cs : List Cause) (k : ℕ) → firstOf cs ≡ k → (k ≡ 0 → ⊥) → First cs k
 unfolding firstOf
 given-first [] k e z = absurd (z (sym e))

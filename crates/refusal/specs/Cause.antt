@@ -18,14 +18,14 @@ unfoldable pub firstOf : List Cause → ℕ
 firstOf [] = 0
 firstOf (c ∷ cs) = let rest = firstOf cs in cond (c .there) (c .number) rest
 
--- ---- the same in words that no program runs
+-- ---- as statements
 
 -- at place r of the order, a cause with number k is there
 pub data There : List Cause → ℕ → ℕ → Type 0 where
   here : {c : Cause} {cs : List Cause} → c .there ≡ true → There (c ∷ cs) (c .number) zero
   later : {c : Cause} {cs : List Cause} {k r : ℕ} → There cs k r → There (c ∷ cs) k (suc r)
 
--- cause k is there and none comes earlier
+-- the first cause that is there has number k
 pub record First (cs : List Cause) (k : ℕ) : Type 0 where
   pub place : ℕ
   pub cause : There cs k place

@@ -140,6 +140,6 @@ module _ (cs : List Cause) (Causes : ℕ → ℕ → Type 0) (same : (k r : ℕ)
       from : FirstAmong Causes k → First cs k
       from f = record { place = f .place; cause = same k (f .place) .0 (f .cause); none-before = λ j r l h. f .none-before j r l (same j r .1 h) }
 
--- a sheet is refused with a number if and only if its cause is there and none comes earlier
+-- a sheet is refused with k exactly where its first cause has number k
 pub refused-iff : (s : List ℕ) (k : ℕ) → (k ≡ 0 → ⊥) → (firstOf (sheetCauses s) ≡ k) ↔ FirstCause s k
 refused-iff s k z = first-same (sheetCauses s) (SheetCause s) (causes-iff s) k z

@@ -61,7 +61,7 @@ module _ (s : List ℕ) (places : ℕ) where
   pub read-causes-iff : (k r : ℕ) → ReadCause s places k r ↔ There (readCauses s places) k r
   read-causes-iff k r = (cause-read, read-cause)
 
--- the reader gives a number if and only if its cause is there and none comes earlier
+-- the reader gives k exactly where the first cause has number k
 pub read-refused-iff : (s lent : List ℕ) (k : ℕ) → (k ≡ 0 → ⊥) → (readOf s lent .answer .refusal ≡ k) ↔ FirstReadCause s (length lent) k
 read-refused-iff s lent k z =
     let same = first-same (readCauses s (length lent)) (ReadCause s (length lent)) (read-causes-iff s (length lent)) k z in

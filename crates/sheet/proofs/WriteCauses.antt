@@ -144,13 +144,13 @@ module _ (counts : Counts) (table : List ℕ) (places : ℕ) where
   pub write-causes-iff : (k r : ℕ) → WriteCause counts table places k r ↔ There (writeCauses counts table places) k r
   write-causes-iff k r = (cause-there, there-cause)
 
--- the writer gives a number if and only if its cause is there and none comes earlier
+-- the writer gives k exactly where the first cause has number k
 pub write-refused-iff : (counts : Counts) (table out : List ℕ) (k : ℕ) → (k ≡ 0 → ⊥) → (writeOf counts table out .refusal ≡ k) ↔ FirstWriteCause counts table (length out) k
 write-refused-iff counts table out k z =
     let same = first-same (writeCauses counts table (length out)) (WriteCause counts table (length out)) (write-causes-iff counts table (length out)) k z in
     (λ e. same .0 (sym (write-number counts table out) ∙ e), λ f. write-number counts table out ∙ same .1 f)
 
--- and none if and only if no cause is there
+-- and 0 exactly where no cause is there
 pub write-accepted-iff : (counts : Counts) (table out : List ℕ) → (writeOf counts table out .refusal ≡ 0) ↔ ((k r : ℕ) → WriteCause counts table (length out) k r → ⊥)
 unfolding writeCauses
 write-accepted-iff counts table out =

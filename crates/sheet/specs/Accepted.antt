@@ -1,4 +1,4 @@
--- When a sheet is accepted, and where each cause to refuse one stands, in words that no program runs. Assumes nothing.
+-- When a sheet is accepted, and where each cause to refuse one stands, as statements. Assumes nothing.
 use Prim.Native.Nat.{ℕ, zero, suc, _+_, _*_, _/_, _%_, _<_, _≤_}
 use mathlib.Core.Path.{_≡_}
 use mathlib.Core.Logic.{_≢_, _⊎_}
@@ -22,7 +22,7 @@ pub record GoodMap (first : Bool) (m : ℕ) : Type 0 where
   pub below : m ≤ fullMap
   pub full : first ≡ true → m ≡ fullMap
 
--- a field whose bit is clear has the value of the turn before
+-- a field that the map leaves out is as in the turn before
 pub record Carried (m : ℕ) (p t : Turn) : Type 0 where
   pub slope : m % 2 ≡ 0 → p .slope ≡ t .slope
   pub groomer : m / 2 % 2 ≡ 0 → p .groomer ≡ t .groomer
@@ -95,7 +95,7 @@ pub data ReadCause (s : List ℕ) (places : ℕ) : ℕ → ℕ → Type 0 where
   of-sheet : {k r : ℕ} → SheetCause s k r → ReadCause s places k r
   small-table : places < 5 * turnCount s → ReadCause s places bufferTooSmall (placeOf (turnCount s) 1)
 
--- of causes at their places, cause k is there and none comes earlier
+-- of causes at their places, the first has number k
 pub record FirstAmong (Causes : ℕ → ℕ → Type 0) (k : ℕ) : Type 0 where
   pub place : ℕ
   pub cause : Causes k place

@@ -29,7 +29,7 @@ mostSlopes = 120
 abbrev pub mostTurns : ℕ
 mostTurns = 400
 
--- byte 3: groomers; byte 4: slopes; bytes 5 and 6: turns
+-- a header's counts: groomers in byte 3, slopes in byte 4, turns in bytes 5 and 6
 abbrev pub countsIn : List ℕ → Counts
 countsIn s = record { groomers = valueAt s 3 1; slopes = valueAt s 4 1 }
 

@@ -37,7 +37,7 @@ turnFrom s at m old =
       worth = field 2 s (at + m % 2 + m / 2 % 2 + 2 * (m / 4 % 2) + 2 * (m / 8 % 2)) (m / 16 % 2) (old .worth);
     }
 
--- the first record's map is full, and no map has bit 5, 6 or 7
+-- a map that a record may not have: one above the full map, and in the first record any other than the full map
 unfoldable pub badMapFor : Bool → ℕ → Bool
 badMapFor first m = cond (ltb fullMap m) true (cond first (not (eqb m fullMap)) false)
 

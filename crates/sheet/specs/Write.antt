@@ -1,4 +1,4 @@
--- Writing a sheet: the shortest one for these turns in this order. Assumes nothing.
+-- Writing a sheet: the shortest one that has the table's turns, in the table's order. Assumes nothing.
 use Prim.Native.Nat.{ℕ, zero, suc, _+_, _*_, _/_, _%_}
 use mathlib.Core.List.{List, [], _∷_, _++_}
 use mathlib.Core.Bool.{Bool, true, false, not, cond}
@@ -21,7 +21,7 @@ use Rattle.sheet.specs.Read.{countCauses}
 abbrev pub fieldBytes : ℕ → ℕ → ℕ → List ℕ
 fieldBytes bit width v = cond (eqb bit 0) [] (bytesOf width v)
 
--- the fields whose bits stand, in the order slope, groomer, start, length, worth
+-- the bytes of the fields that a map names, from slope to worth
 abbrev pub fieldsOf : ℕ → Turn → List ℕ
 fieldsOf m t =
     fieldBytes (m % 2) 1 (t .slope)
@@ -80,7 +80,7 @@ turnsOfTable (suc k) table i = turnIn table i ∷ turnsOfTable k table (i + 1)
 abbrev pub tableTurns : List ℕ → List Turn
 tableTurns table = turnsOfTable (length table / 5) table 0
 
--- ---- what may be wrong, in the order of refusal: an odd length, the counts, the turns one by one, the lent bytes
+-- ---- what may be wrong, in the order of refusal: a length that is no multiple of five, the counts, the turns one by one, the lent bytes
 
 unfoldable pub turnsCauses : Counts → List Turn → List Cause
 turnsCauses counts [] = []

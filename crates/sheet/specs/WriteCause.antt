@@ -1,4 +1,4 @@
--- Where each cause to refuse writing a table stands, in words that no program runs. Assumes nothing.
+-- Where each cause to refuse writing a table stands, as statements. Assumes nothing.
 use Prim.Native.Nat.{ℕ, _+_, _*_, _/_, _%_, _<_}
 use mathlib.Core.Path.{_≡_}
 use mathlib.Core.Logic.{_≢_, _⊎_}

@@ -37,7 +37,7 @@ turnCauses limits t =
     ∷ badWorth when outsideRange (t .worth) mostWorth
     ∷ []
 
--- ---- the same in words that no program runs
+-- ---- as statements
 
 -- nothing is wrong with a turn
 pub record InRange (limits : Counts) (t : Turn) : Type 0 where

@@ -5,7 +5,7 @@ ghost use lib.ListN.{length};
 ghost use Rattle.wire.specs.Number.{valueAt, bytesOf, bytesAt, puts};
 ghost use Rattle.wire.specs.Mark.{opensWith};
 
-// A sheet's mark and a board's, compared on reading and written on output.
+// The mark of a sheet and that of a board, for reading and for writing.
 pub const GRM: [u8; 3] = *b"GRM";
 
 pub const GRB: [u8; 3] = *b"GRB";
