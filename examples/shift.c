@@ -1,5 +1,5 @@
 /* Takes a small shift through the whole library: writes its sheet from a turn table, reads the sheet
- * back, plans it, opens and checks the board, and prints the drivers' listing.
+ * back, plans it, opens and checks the board, and prints its steps, its choice and its sums.
  *
  * With the library in target/staticlib (rt staticlib slopeboard), at the top of the repository:
  *
@@ -33,7 +33,7 @@ static int refused(const char *what, unsigned number) {
 static void print_steps(const uint8_t *board, slopeboard_part steps) {
     for (size_t place = 0; place + 4 <= steps.length; place += 4) {
         const uint8_t *step = board + steps.start + place;
-        fprintf(stderr, "turn %u for %u\n", step[0] << 8 | step[1], step[2] << 8 | step[3]);
+        printf("step on turn %u for %u\n", step[0] << 8 | step[1], step[2] << 8 | step[3]);
     }
 }
 
@@ -57,11 +57,9 @@ int main(void) {
 
     slopeboard_check_answer checked = slopeboard_check(sheet, written.bytes, board, planned.bytes);
     if (checked.refusal != 0) return refused("check", checked.refusal);
-    fprintf(stderr, "checked: tally %u, worth %u\n", (unsigned)checked.tally, (unsigned)checked.worth);
-
-    uint8_t text[SLOPEBOARD_MOST_TEXT_BYTES];
-    slopeboard_list_answer listed = slopeboard_list(sheet, written.bytes, text, sizeof text);
-    if (listed.refusal != 0) return refused("list", listed.refusal);
-    fwrite(text, 1, listed.bytes, stdout);
+    for (unsigned turn = 0; turn < TURNS; turn++) {
+        if (board[15 + turn / 8] >> turn % 8 & 1) printf("turn %u is driven\n", turn);
+    }
+    printf("worth %u tally %u\n", (unsigned)checked.worth, (unsigned)checked.tally);
     return 0;
 }

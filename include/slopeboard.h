@@ -1,5 +1,5 @@
-/* Slope board: reads and writes shift sheets, plans boards, opens and checks them, and makes the
- * drivers' listing. Link libslopeboard.a; nothing else is needed.
+/* Slope board: reads and writes shift sheets, plans boards, opens and checks them.
+ * Link libslopeboard.a; nothing else is needed.
  *
  * What holds for every function:
  *
@@ -63,8 +63,6 @@ enum {
 /* What slopeboard_plan asks for, for a sheet of so many turns. */
 #define SLOPEBOARD_BOARD_BYTES(turns) (15 + ((turns) + 7) / 8 + 4 * (turns))
 #define SLOPEBOARD_MOST_BOARD_BYTES SLOPEBOARD_BOARD_BYTES(SLOPEBOARD_MOST_TURNS)
-/* A line for each groomer, a line for each chosen turn (at most one a slope), and a last line. */
-#define SLOPEBOARD_MOST_TEXT_BYTES 4096
 
 typedef struct {
     uint8_t refusal;
@@ -79,7 +77,6 @@ typedef struct {
 } slopeboard_write_answer;
 
 typedef slopeboard_write_answer slopeboard_plan_answer;
-typedef slopeboard_write_answer slopeboard_list_answer;
 
 typedef struct {
     size_t start;
@@ -128,14 +125,6 @@ slopeboard_part slopeboard_steps(const uint8_t *board, size_t board_len);
  * Refusals: those of slopeboard_read up to 10, in their order; then 12 if the board does not open or is
  * not for as many turns as the sheet has; then 13, 14, 15, 16, 17. */
 slopeboard_check_answer slopeboard_check(const uint8_t *sheet, size_t sheet_len, const uint8_t *board, size_t board_len);
-
-/* Writes the drivers' listing of the planner's board of a sheet, in ASCII and without a 0 at its end:
- * a line for each groomer, below it a line for each of its chosen turns by start, and a last line with
- * worth and tally.
- *
- * Refusals: those of slopeboard_read up to 10, in their order; then 11 if the listing is longer than
- * text_len. */
-slopeboard_list_answer slopeboard_list(const uint8_t *sheet, size_t sheet_len, uint8_t *text, size_t text_len);
 
 #ifdef __cplusplus
 }

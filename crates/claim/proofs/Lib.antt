@@ -1,2 +1,3 @@
 pub mod Worked
 pub mod Claimed
+pub mod Confirming

@@ -1,3 +1,4 @@
 pub mod Shift
 pub mod Cases
 pub mod Claim
+pub mod Confirm

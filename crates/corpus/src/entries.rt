@@ -40,3 +40,11 @@ pub fn check(sheet: &[u8], board: &[u8]) {
     tools::put(answer.tally as u64);
     tools::put_last(answer.worth);
 }
+
+pub fn plan(sheet: &[u8], board: &mut [u8]) {
+    let answer = planner::plan(sheet, &mut *board);
+    tools::put_name(b"plan");
+    tools::put(answer.refusal as u64);
+    tools::put(answer.bytes as u64);
+    tools::put_last(tools::byte_sum(board));
+}

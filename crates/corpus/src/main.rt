@@ -58,6 +58,7 @@ fn run_entry(entry: u8, front: &[u8], rest: &[u8], numbers: &mut [u16], bytes: &
     match entry {
         1 => entries::read(front, numbers),
         2 => entries::write(front, rest, numbers, bytes),
+        3 => entries::plan(front, bytes),
         4 => entries::open(front),
         5 => entries::check(front, rest),
         _ => {

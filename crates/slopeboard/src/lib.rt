@@ -5,8 +5,11 @@ ghost use Rattle.sheet.specs.Read.{readOf, outcome};
 ghost use Rattle.sheet.specs.Write.{countsOf, writeOf, written};
 ghost use Rattle.board.specs.Open.{openOf, stepsPart};
 ghost use Rattle.audit.specs.Check.{checkOf};
+ghost use Rattle.planner.specs.Answer.{planned};
+ghost use Rattle.planner.specs.Plan.{planOf};
 ghost use Rattle.slopeboard.specs.Part.{stepsPartAt};
 use audit::CheckAnswer;
+use planner::PlanAnswer;
 use sheet::ReadAnswer;
 use sheet::WriteAnswer;
 
@@ -69,4 +72,11 @@ pub extern "C" fn slopeboard_check(sheet: &[u8], board: &[u8]) -> CheckAnswer
     ensures { λ r. ⌜ r ≡ checkOf (now (sheet .entry)) (now (board .entry)) ⌝ }
 {
     audit::check(sheet, board)
+}
+
+#[no_mangle]
+pub extern "C" fn slopeboard_plan(sheet: &[u8], board: &mut [u8]) -> PlanAnswer
+    ensures { λ r. ⌜ planned r (now (board .exit)) ≡ planOf (now (sheet .entry)) (now (board .entry)) ⌝ }
+{
+    planner::plan(sheet, &mut *board)
 }

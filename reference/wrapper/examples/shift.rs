@@ -1,6 +1,4 @@
-//! Takes a small shift through the whole library and prints its listing.
-
-use std::io::{self, Write};
+//! Takes a small shift through the whole library and prints the board's steps and sums.
 
 /// Slope, groomer, start, length, worth of each turn.
 const TURNS: [[u16; slopeboard::NUMBERS_PER_TURN]; 4] = [
@@ -28,14 +26,15 @@ fn main() -> Result<(), Box<dyn std::error::Error>> {
     for step in slopeboard::steps(board).chunks_exact(4) {
         let turn = u16::from_be_bytes([step[0], step[1]]);
         let amount = u16::from_be_bytes([step[2], step[3]]);
-        eprintln!("turn {turn} for {amount}");
+        println!("step on turn {turn} for {amount}");
     }
 
     let sums = slopeboard::check(sheet, board)?;
-    eprintln!("checked: tally {}, worth {}", sums.tally, sums.worth);
-
-    let mut text = [0; slopeboard::MOST_TEXT_BYTES];
-    let len = slopeboard::list(sheet, &mut text)?;
-    io::stdout().write_all(&text[..len])?;
+    for turn in 0..TURNS.len() {
+        if board[15 + turn / 8] >> (turn % 8) & 1 == 1 {
+            println!("turn {turn} is driven");
+        }
+    }
+    println!("worth {} tally {}", sums.worth, sums.tally);
     Ok(())
 }

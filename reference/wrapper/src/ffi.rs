@@ -62,13 +62,6 @@ extern "C" {
         board: *const u8,
         board_len: usize,
     ) -> CheckAnswer;
-
-    fn slopeboard_list(
-        sheet: *const u8,
-        sheet_len: usize,
-        text: *mut u8,
-        text_len: usize,
-    ) -> BytesAnswer;
 }
 
 // SAFETY, for each call below: a slice gives a pointer to as many elements as
@@ -99,8 +92,4 @@ pub fn steps(board: &[u8]) -> Part {
 
 pub fn check(sheet: &[u8], board: &[u8]) -> CheckAnswer {
     unsafe { slopeboard_check(sheet.as_ptr(), sheet.len(), board.as_ptr(), board.len()) }
-}
-
-pub fn list(sheet: &[u8], text: &mut [u8]) -> BytesAnswer {
-    unsafe { slopeboard_list(sheet.as_ptr(), sheet.len(), text.as_mut_ptr(), text.len()) }
 }

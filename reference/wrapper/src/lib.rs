@@ -1,7 +1,7 @@
 //! Safe functions over the C interface of the slope board library.
 //!
 //! The library reads and writes shift sheets, plans boards, opens and checks
-//! them, and makes the drivers' listing. Every buffer is the caller's: on a
+//! them. Every buffer is the caller's: on a
 //! refusal it holds what it held before, and on success so do its places past
 //! the last one written. The order in which refusals are looked for is in
 //! `include/slopeboard.h`.
@@ -20,8 +20,6 @@ pub const NUMBERS_PER_TURN: usize = 5;
 pub const MOST_TURNS: usize = 400;
 /// Bytes that hold any sheet.
 pub const MOST_SHEET_BYTES: usize = 7 + 9 * MOST_TURNS;
-/// Bytes that hold any listing.
-pub const MOST_TEXT_BYTES: usize = 4096;
 
 /// Bytes that [`plan`] asks for, for a sheet of so many turns.
 pub const fn board_bytes(turns: usize) -> usize {
@@ -93,12 +91,6 @@ pub fn check(sheet: &[u8], board: &[u8]) -> Result<Sums, Refusal> {
         tally: answer.tally,
         worth: answer.worth,
     })
-}
-
-/// Writes the drivers' listing of a sheet's plan, in ASCII, and gives its
-/// length.
-pub fn list(sheet: &[u8], text: &mut [u8]) -> Result<usize, Refusal> {
-    length(ffi::list(sheet, text))
 }
 
 fn length(answer: ffi::BytesAnswer) -> Result<usize, Refusal> {

@@ -1,0 +1,80 @@
+-- Planning, then checking, by its cases. Assumes nothing.
+use Prim.Native.Nat.{ℕ, _≤_}
+use mathlib.Core.Path.{_≡_, refl, sym, _∙_, ap}
+use mathlib.Core.Bool.{Bool, true, false, cond}
+use mathlib.Core.List.{List, [], _∷_, _++_}
+use native.Mathlib.Omega.{arith}
+use lib.Dec.{eqb}
+use lib.ListN.{length, take, drop, length-append}
+use lib.Seq.{take-append-seam}
+use borrow.Author.Tests.{eq-eqb, ne-eqb, eqb-true}
+use Rattle.refusal.specs.Cause.{Cause, _when_, firstOf}
+use Rattle.refusal.proofs.Order.{clear-append}
+use Rattle.sheet.specs.Read.{sheetCauses}
+use Rattle.sheet.proofs.Readings.{sheet-numbered}
+use Rattle.audit.specs.declared.CheckAnswer.{CheckAnswer}
+use Rattle.audit.specs.Check.{checked, checkOf}
+use Rattle.planner.specs.declared.PlanAnswer.{PlanAnswer}
+use Rattle.planner.specs.Plan.{Planned, planCauses, plannedBoard, planOf}
+use Rattle.planner.specs.Answer.{planned}
+use Rattle.claim.specs.Confirm.{Confirmation, confirmed, plannedSums, confirmOf}
+use Rattle.claim.proofs.Claimed.{planned-answer}
+
+-- ---- what a plan that is not refused has
+
+abbrev wrote : List ℕ → List ℕ → Planned
+wrote board lent = record { refusal = 0; bytes = length board; lent = board ++ drop (length board) lent }
+
+abbrev kept : ℕ → List ℕ → Planned
+kept f lent = record { refusal = f; bytes = 0; lent = lent }
+
+plan-number : (f : ℕ) (board lent : List ℕ) → cond (eqb f 0) (wrote board lent) (kept f lent) .refusal ≡ f
+plan-number f board lent = go (eqb f 0) refl
+  where
+    go : (b : Bool) → eqb f 0 ≡ b → cond b (wrote board lent) (kept f lent) .refusal ≡ f
+    go true e = sym (eqb-true f 0 e)
+    go false e = refl
+
+module _ (s lent : List ℕ) (z : planOf s lent .refusal ≡ 0) where
+  no-cause : firstOf (planCauses s (length lent)) ≡ 0
+  unfolding planOf
+  no-cause = sym (plan-number (firstOf (planCauses s (length lent))) (plannedBoard s) lent) ∙ z
+
+  accepted : firstOf (sheetCauses s) ≡ 0
+  unfolding planCauses
+  accepted = clear-append (sheetCauses s) _ (sheet-numbered s) no-cause .0
+
+  planned-is : planOf s lent ≡ wrote (plannedBoard s) lent
+  unfolding planOf
+  planned-is = rw no-cause
+
+module _ (s lent out : List ℕ) (a : PlanAnswer) (e : planned a out ≡ planOf s lent) where
+  number : planOf s lent .refusal ≡ a .refusal
+  number = ap (λ (p : Planned). p .refusal) (sym e)
+
+  pub confirm-refused : (a .refusal ≡ 0 → ⊥) → confirmed (record { plan = a; check = record { refusal = a .refusal; tally = 0; worth = 0 } }) out ≡ confirmOf s lent
+  unfolding confirmOf
+  confirm-refused n = rw (e, number, ne-eqb (a .refusal) 0 n)
+
+  module _ (z : a .refusal ≡ 0) where
+    fine : planOf s lent .refusal ≡ 0
+    fine = number ∙ z
+
+    same : planned a out ≡ wrote (plannedBoard s) lent
+    same = e ∙ planned-is s lent fine
+
+    bytes-are : a .bytes ≡ length (plannedBoard s)
+    bytes-are = ap (λ (p : Planned). p .bytes) same
+
+    out-is : out ≡ plannedBoard s ++ drop (length (plannedBoard s)) lent
+    out-is = ap (λ (p : Planned). p .lent) same
+
+    pub confirm-room : a .bytes ≤ length out
+    confirm-room = rw (bytes-are, out-is) (omega (arith, length-append (plannedBoard s) (drop (length (plannedBoard s)) lent)))
+
+    board-is : take (a .bytes) out ≡ plannedBoard s
+    board-is = rw (bytes-are, out-is) (take-append-seam (plannedBoard s) (drop (length (plannedBoard s)) lent))
+
+    pub confirm-done : {c : CheckAnswer} → c ≡ checkOf s (take (a .bytes) out) → confirmed (record { plan = a; check = c }) out ≡ confirmOf s lent
+    unfolding confirmOf
+    confirm-done g = rw (e, fine, rw board-is at g, planned-answer s (accepted s lent fine))

@@ -1,0 +1,29 @@
+-- Planning, then checking: the check's answer is the plan's own tally and worth. Assumes nothing.
+use Prim.Native.Nat.{ℕ}
+use mathlib.Core.Bool.{cond}
+use mathlib.Core.List.{List}
+use lib.Dec.{eqb}
+use Rattle.model.specs.Steps.{tally}
+use Rattle.model.specs.Pick.{steps}
+use Rattle.model.specs.Choice.{chosen, choice}
+use Rattle.audit.specs.declared.CheckAnswer.{CheckAnswer}
+use Rattle.audit.specs.Check.{sheetTurns, checked}
+use Rattle.planner.specs.Plan.{Planned, planOf}
+use Rattle.planner.specs.Answer.{planned}
+use Rattle.claim.specs.declared.Confirmed.{Confirmed}
+
+pub record Confirmation : Type 0 where
+  pub plan : Planned
+  pub check : CheckAnswer
+
+abbrev pub confirmed : Confirmed → List ℕ → Confirmation
+confirmed answer lent = record { plan = planned (answer .plan) lent; check = answer .check }
+
+-- the tally and the worth of the planner's board of a sheet
+abbrev pub plannedSums : List ℕ → CheckAnswer
+plannedSums s = checked 0 (tally (steps (sheetTurns s))) (chosen (sheetTurns s .count) (choice (sheetTurns s)) (sheetTurns s .worth))
+
+unfoldable pub confirmOf : List ℕ → List ℕ → Confirmation
+confirmOf s lent =
+    let p = planOf s lent in
+    record { plan = p; check = cond (eqb (p .refusal) 0) (plannedSums s) (checked (p .refusal) 0 0) }
