@@ -1,5 +1,5 @@
 -- Facts on one byte, each by one test that is computed over all 256 values. Assumes nothing.
-use Prim.Native.Nat.{ℕ, zero, suc, _+_, _*_, _/_, _%_, _^_, _<_, _≤_}
+use Prim.Native.Nat.{ℕ, zero, suc, _+_, _-_, _*_, _/_, _%_, _^_, _<_, _≤_}
 use mathlib.Core.Path.{_≡_, refl, sym, _∙_, ap, subst}
 use mathlib.Core.Bool.{Bool, true, false, not, cond, _&&_}
 use mathlib.Core.List.{List, [], _∷_}
@@ -13,7 +13,7 @@ use lib.Count as count
 use Rattle.model.specs.Lists.{sum, below, tab}
 use Rattle.model.proofs.Sums.{tab-length}
 use Rattle.model.proofs.Residuals.{tab-at}
-use Rattle.board.specs.Choice.{bitOf, withBit, onesOf}
+use Rattle.board.specs.Choice.{bitOf, withBit, onesOf, lowAmong}
 
 -- f at every number below n
 allBelow : ℕ → (ℕ → Bool) → Bool
@@ -67,6 +67,11 @@ pub with-bit-bits : (x k j : ℕ) → x < 256 → k < 8 → j < 8 → bitOf (wit
 unfolding allBelow withBit bitOf same
 with-bit-bits x k j h l m =
     same→eq _ _ (at 8 (λ j. same (bitOf (withBit x k) j) (cond (eqb j k) true (bitOf x j))) (at 8 (λ k. allBelow 8 (λ j. same (bitOf (withBit x k) j) (cond (eqb j k) true (bitOf x j)))) (at 256 (λ x. allBelow 8 (λ k. allBelow 8 (λ j. same (bitOf (withBit x k) j) (cond (eqb j k) true (bitOf x j))))) tt x h) k l) j m)
+
+-- the machine's count of trailing zeros, over the bits from k on, finds the lowest of them
+pub low-byte : (x k : ℕ) → x < 256 → k < 8 → count.trailingZeros 8 (x / 2 ^ k * 2 ^ k % 256) ≡ lowAmong (8 - k) x k
+unfolding allBelow lowAmong bitOf count.trailingZeros
+low-byte x k h l = eqb→eq _ _ (at 8 (λ k. eqb (count.trailingZeros 8 (x / 2 ^ k * 2 ^ k % 256)) (lowAmong (8 - k) x k)) (at 256 (λ x. allBelow 8 (λ k. eqb (count.trailingZeros 8 (x / 2 ^ k * 2 ^ k % 256)) (lowAmong (8 - k) x k))) tt x h) k l)
 
 -- a byte is the sum of its bits
 pub bits-byte : (x : ℕ) → x < 256 → sum (λ i. cond (bitOf x i) (2 ^ i) 0) (below 8) ≡ x

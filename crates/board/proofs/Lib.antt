@@ -5,3 +5,4 @@ pub mod Clean
 pub mod StepBytes
 pub mod Fronts
 pub mod Written
+pub mod Next

@@ -1,8 +1,8 @@
 // The choice map: byte t / 8 has turn t, at its bit t % 8.
 ghost use mathlib.Core.Path.{_≡_};
-ghost use Prim.Native.Nat.{_+_, _*_, _≤_, _<_};
+ghost use Prim.Native.Nat.{_+_, _-_, _*_, _≤_, _<_};
 ghost use lib.ListN.{length};
-ghost use Rattle.board.specs.Choice.{bitOf, withBit, mapBytes, chosenIn, withTurn, onesOf, onesIn, clearPast};
+ghost use Rattle.board.specs.Choice.{bitOf, withBit, mapBytes, chosenIn, withTurn, onesOf, onesIn, clearPast, lowAmong, nextChosen};
 
 fn bit(x: u8, k: u32) -> bool
     requires { ⌜ k < 8 ⌝ }
@@ -71,4 +71,30 @@ pub fn clear_past(map: &[u8], n: u16) -> bool
         t += 1;
     }
     true
+}
+
+// The lowest bit that stands in a byte, from bit k on; 8 if there is none.
+fn low_bit(x: u8, k: u32) -> u32
+    requires { ⌜ k < 8 ⌝ }
+    ensures { λ r. ⌜ (r ≡ lowAmong (8 - k) x k) × (r ≤ 8) ⌝ }
+{
+    u8::trailing_zeros((x >> k) << k)
+}
+
+// The first chosen turn from t on; as many turns as the map has bits if there is none.
+pub fn next_chosen(map: &[u8], t: usize) -> usize
+    requires { ⌜ (t ≤ 8 * length (now map)) × (length (now map) ≤ 65536) ⌝ }
+    ensures { λ r. ⌜ (r ≡ nextChosen (now (map .entry)) t) × (r ≤ 8 * length (now (map .entry))) ⌝ }
+{
+    let end = 8 * map.len();
+    let mut u = t;
+    while u < end {
+        let i = u / 8;
+        let low = low_bit(map[i], (u % 8) as u32);
+        if low < 8 {
+            return 8 * i + low as usize;
+        }
+        u = 8 * i + 8;
+    }
+    u
 }
