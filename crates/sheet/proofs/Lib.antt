@@ -16,3 +16,4 @@ pub mod WriteMaps
 pub mod Shortest
 pub mod RoundTrip
 pub mod WriteCauses
+pub mod Ample
