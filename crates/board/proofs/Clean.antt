@@ -106,7 +106,7 @@ clean-with n map t c l =
 bits-zero : (k : ℕ) → k < 8 → bitOf 0 k ≡ false
 bits-zero k h = byte.byte-bits (λ i. false) k h
 
-zeros-at : (k i : ℕ) → _≡_ {A = ℕ} (getD (replicate k 0) i 0) 0
+pub zeros-at : (k i : ℕ) → _≡_ {A = ℕ} (getD (replicate k 0) i 0) 0
 zeros-at zero i = refl
 zeros-at (suc k) zero = refl
 zeros-at (suc k) (suc i) = zeros-at k i

@@ -1,1 +1,3 @@
 pub mod Boards
+pub mod Parts
+pub mod Answers

@@ -5,3 +5,4 @@ pub mod Chosen
 pub mod Order
 pub mod Planning
 pub mod Fitting
+pub mod Padded

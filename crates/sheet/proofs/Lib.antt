@@ -17,3 +17,4 @@ pub mod Shortest
 pub mod RoundTrip
 pub mod WriteCauses
 pub mod Whole
+pub mod Ample
