@@ -12,7 +12,7 @@ use Rattle.refusal.specs.Cause.{Cause, _when_, firstOf}
 use Rattle.refusal.proofs.Order.{clear-append}
 use Rattle.sheet.specs.Read.{sheetCauses}
 use Rattle.sheet.proofs.Readings.{sheet-numbered}
-use Rattle.audit.specs.declared.CheckAnswer.{CheckAnswer}
+use Rattle.audit.specs.declared.judge.CheckAnswer.{CheckAnswer}
 use Rattle.audit.specs.Check.{checked, checkOf}
 use Rattle.planner.specs.declared.PlanAnswer.{PlanAnswer}
 use Rattle.planner.specs.Plan.{Planned, planCauses, plannedBoard, planOf}

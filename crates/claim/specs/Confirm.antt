@@ -6,7 +6,7 @@ use lib.Dec.{eqb}
 use Rattle.model.specs.Steps.{tally}
 use Rattle.model.specs.Pick.{steps}
 use Rattle.model.specs.Choice.{chosen, choice}
-use Rattle.audit.specs.declared.CheckAnswer.{CheckAnswer}
+use Rattle.audit.specs.declared.judge.CheckAnswer.{CheckAnswer}
 use Rattle.audit.specs.Check.{sheetTurns, checked}
 use Rattle.planner.specs.Plan.{Planned, planOf}
 use Rattle.planner.specs.Answer.{planned}

@@ -1,7 +1,6 @@
 // Planning, then checking what was planned: the claim, said of the programs.
 ghost use mathlib.Core.Path.{_≡_};
 ghost use Rattle.claim.specs.Confirm.{confirmed, confirmOf};
-
 use audit::CheckAnswer;
 use planner::PlanAnswer;
 
@@ -18,10 +17,20 @@ pub fn plan_and_check(s: &[u8], out: &mut [u8]) -> Confirmed
     let plan = planner::plan(s, &mut *out);
     let fault = plan.refusal;
     if fault != 0 {
-        let none = CheckAnswer { refusal: fault, tally: 0, worth: 0 };
-        return Confirmed { plan: plan, check: none };
+        let none = CheckAnswer {
+            refusal: fault,
+            tally: 0,
+            worth: 0,
+        };
+        return Confirmed {
+            plan: plan,
+            check: none,
+        };
     }
     let end = plan.bytes as usize;
     let check = audit::check(s, &out[..end]);
-    Confirmed { plan: plan, check: check }
+    Confirmed {
+        plan: plan,
+        check: check,
+    }
 }
