@@ -2,16 +2,16 @@
 use Prim.Native.Nat.{ℕ, zero, suc, _+_, _-_, _*_, _/_, _%_, _^_, _<_, _≤_}
 use mathlib.Core.Path.{_≡_, refl, sym, _∙_, ap}
 use mathlib.Core.Bool.{Bool, true, false, not, cond}
-use mathlib.Core.List.{List, [], _∷_}
+use mathlib.Core.List.{List}
 use native.Mathlib.Omega.{arith}
 use native.Mathlib.Decide.{decLt, ℕ-discrete}
 use lib.Dec.{eqb}
-use lib.ListN.{length, getD, set, take, replicate, length-set, length-replicate, getD-replicate, List·getD-eq-default}
-use lib.Seq.{getD-set-same, getD-set-other, ext-getD, getD-take, length-take-le}
-use borrow.Author.Tests.{eq-eqb, ne-eqb, not-false}
+use lib.ListN.{length, getD, set, replicate, length-set, length-replicate, getD-replicate, List·getD-eq-default}
+use lib.Seq.{getD-set-same, getD-set-other, ext-getD}
+use borrow.Author.Tests.{eq-eqb, ne-eqb}
 use Rattle.wire.specs.Number.{Bytes, none, more}
 use Rattle.wire.proofs.Numbers.{byte-below}
-use Rattle.model.specs.Lists.{every, tab, sum, below}
+use Rattle.model.specs.Lists.{tab, sum, below}
 use Rattle.model.specs.Choice.{has}
 use Rattle.model.proofs.Bools.{every-at, every-of}
 use Rattle.model.proofs.Sums.{tab-length}

@@ -1,15 +1,14 @@
 -- What stands before the steps, written part by part. Assumes nothing.
-use Prim.Native.Nat.{ℕ, _+_, _-_, _*_, _<_, _≤_}
-use mathlib.Core.Path.{_≡_, refl, sym, _∙_, ap}
-use mathlib.Core.List.{List, [], _∷_, _++_}
+use Prim.Native.Nat.{ℕ, _-_}
+use mathlib.Core.Path.{_≡_, refl, _∙_}
+use mathlib.Core.List.{List, _++_}
 use native.Mathlib.Omega.{arith}
 use lib.ListN.{length, take, drop, length-drop}
 use lib.Seq.{take-all}
-use Rattle.wire.specs.Number.{bytesOf, bytesAt, puts}
+use Rattle.wire.specs.Number.{bytesOf, puts}
 use Rattle.wire.specs.Mark.{boardMark}
 use Rattle.wire.proofs.Puts.{puts-append}
 use Rattle.model.specs.Steps.{tally}
-use Rattle.board.specs.Choice.{mapBytes}
 use Rattle.board.specs.Board.{boardHeader, stepsPlace, stepsIn, countBytes, headBytes}
 
 pub head-length : (n m t w : ℕ) → length (headBytes n m t w) ≡ boardHeader

@@ -1,11 +1,11 @@
 -- Steps as bytes: what is written reads back, and sums of amounts as a loop goes on. Assumes nothing.
 use Prim.Native.Nat.{ℕ, zero, suc, _+_, _*_, _/_, _%_, _^_, _<_, _≤_}
 use mathlib.Core.Path.{_≡_, refl, sym, _∙_, ap, ap₂}
-use mathlib.Core.List.{List, [], _∷_, _++_, append-assoc}
+use mathlib.Core.List.{List, [], _∷_, _++_}
 use native.Mathlib.Omega.{arith}
 use native.Mathlib.Numerals.{add-one}
-use lib.ListN.{length, getD, drop, length-append}
-use lib.Seq.{getD-drop, drop-append-seam, drop-drop}
+use lib.ListN.{length, getD, drop}
+use lib.Seq.{getD-drop}
 use Rattle.wire.specs.Number.{bytesOf, valueOf, bytesAt, valueAt, puts, Bytes}
 use Rattle.wire.proofs.Numbers.{value-front}
 use Rattle.wire.proofs.Puts.{puts-append}

@@ -1,20 +1,18 @@
 -- A board that was written, read back: every part is what was written, it opens, and it is bytes. Assumes nothing.
-use Prim.Native.Nat.{ℕ, _+_, _-_, _*_, _^_, _<_, _≤_}
+use Prim.Native.Nat.{ℕ, _<_, _≤_}
 use mathlib.Core.Path.{_≡_, refl, sym, _∙_, ap}
-use mathlib.Core.Bool.{Bool, true, false, not, _||_}
-use mathlib.Core.List.{List, [], _∷_, _++_}
+use mathlib.Core.Bool.{Bool, true, false}
+use mathlib.Core.List.{List, [], _++_, append-nil}
 use native.Mathlib.Omega.{arith}
-use lib.ListN.{length, take, drop, length-append}
+use lib.ListN.{length, drop, length-append}
 use lib.Seq.{take-at, drop-at, drop-drop}
-use lib.Dec.{ltb, eqb}
 use borrow.Author.Tests.{eq-eqb, le-ltb}
-use Rattle.wire.specs.Number.{bytesOf, valueAt, Bytes}
+use Rattle.wire.specs.Number.{bytesOf, Bytes}
 use Rattle.wire.specs.Mark.{boardMark, opensWith}
 use Rattle.wire.proofs.Numbers.{value-read}
-use Rattle.wire.proofs.Marks.{take-opens}
 use Rattle.model.specs.Steps.{Step}
-use Rattle.board.specs.Choice.{mapBytes, choiceIn, clearPast, mapOf}
-use Rattle.board.specs.Board.{boardHeader, boardTurns, boardSteps, boardTally, boardWorth, stepsPlace, boardLength, boardMap, boardChoice, stepsIn, writtenSteps, stepBytes, countBytes, headBytes, boardOf}
+use Rattle.board.specs.Choice.{mapBytes, mapOf}
+use Rattle.board.specs.Board.{boardHeader, boardTurns, boardSteps, boardTally, boardWorth, stepsPlace, boardLength, boardMap, boardChoice, writtenSteps, stepBytes, countBytes, headBytes, boardOf}
 use Rattle.board.specs.Open.{badSizes, malformed}
 use Rattle.board.proofs.Clean.{map-length, map-choice, map-clean}
 use Rattle.board.proofs.StepBytes.{Small, step-bytes-length, step-bytes-below, bytes-then, steps-read}
@@ -72,12 +70,8 @@ module _ (S : List Bool) (xs : List Step) (t w : ℕ) where
       unfolding writtenSteps
       steps-written small =
           let e : drop (stepsPlace (length S)) (boardOf S xs t w) ≡ stepBytes xs ++ [] =
-          sym (drop-drop (mapBytes (length S)) boardHeader (boardOf S xs t w)) ∙ ap (drop (mapBytes (length S))) behind-header ∙ drop-at (mapOf S) (stepBytes xs) (mapBytes (length S)) (map-length S) ∙ sym (nil-right (stepBytes xs)) in
+          sym (drop-drop (mapBytes (length S)) boardHeader (boardOf S xs t w)) ∙ ap (drop (mapBytes (length S))) behind-header ∙ drop-at (mapOf S) (stepBytes xs) (mapBytes (length S)) (map-length S) ∙ sym (append-nil (stepBytes xs)) in
           rw (turns-read, count-read) (steps-read small (drop (stepsPlace (length S)) (boardOf S xs t w)) [] e)
-        where
-          nil-right : (l : List ℕ) → l ++ [] ≡ l
-          nil-right [] = refl
-          nil-right (x ∷ l) = ap (λ (k : List ℕ). x ∷ k) (nil-right l)
 
       sizes-good : badSizes (boardOf S xs t w) ≡ false
       unfolding badSizes

@@ -1,13 +1,15 @@
 -- The planner's answer by its cases, each premise in the form in which the code's calls and tests leave it. Assumes nothing.
 use Prim.Native.Nat.{ℕ, _+_, _-_, _*_, _<_, _≤_}
-use mathlib.Core.Path.{_≡_, refl, sym, _∙_, ap}
+use mathlib.Core.Path.{_≡_, refl, _∙_, ap}
 use mathlib.Core.List.{List, [], _∷_, _++_}
+use mathlib.Core.Bool.{true}
 use native.Mathlib.Omega.{arith}
-use lib.ListN.{length, getD, drop, replicate, length-append, length-replicate}
-use borrow.Author.Tests.{eq-eqb, ne-eqb, lt-ltb, le-ltb}
+use lib.Dec.{ltb}
+use lib.ListN.{length, getD, replicate, length-append, length-replicate}
+use borrow.Author.Tests.{ne-eqb, lt-ltb, le-ltb}
 use Rattle.refusal.specs.Number.{bufferTooSmall}
-use Rattle.refusal.specs.Cause.{_when_, firstOf}
-use Rattle.refusal.proofs.Order.{first-stops, first-goes}
+use Rattle.refusal.specs.Cause.{Cause, _when_, firstOf}
+use Rattle.refusal.proofs.Order.{numbered, first-stops, first-goes}
 use Rattle.wire.specs.Number.{puts}
 use Rattle.wire.proofs.Puts.{puts-front}
 use Rattle.model.specs.Turns.{Turns, turnsIn}
@@ -24,11 +26,40 @@ use Rattle.ratio.proofs.Padded.{padded-turns, drop-zeros}
 use Rattle.planner.specs.declared.PlanAnswer.{PlanAnswer}
 use Rattle.planner.specs.Plan.{boardFor, plannedBoard, planCauses, planOf}
 use Rattle.planner.specs.Answer.{planned, refusedWith}
-use Rattle.planner.proofs.Boards.{board-most}
+use Rattle.planner.proofs.Boards.{board-most, ReadsBack, board-back}
+
+-- behind causes of which none is there: 11 where the places are too few, 0 where they are enough
+module _ (cs : List Cause) (places need : ℕ) (n : numbered cs ≡ true) (z : firstOf cs ≡ 0) where
+  too-few : places < need → firstOf (cs ++ bufferTooSmall when ltb places need ∷ []) ≡ bufferTooSmall
+  unfolding firstOf
+  too-few h = first-goes cs (bufferTooSmall when ltb places need ∷ []) n z ∙ rw (lt-ltb places need h)
+
+  enough : need ≤ places → firstOf (cs ++ bufferTooSmall when ltb places need ∷ []) ≡ 0
+  unfolding firstOf
+  enough h = first-goes cs (bufferTooSmall when ltb places need ∷ []) n z ∙ rw (le-ltb places need h)
 
 worth-at : (n : ℕ) (table : List ℕ) (i : ℕ) → turnsIn n table .worth i ≡ getD table (i * 5 + 4) 0
 unfolding turnsIn
 worth-at n table i = refl
+
+-- ---- every sheet that is not refused
+
+module _ (s : List ℕ) (z : firstOf (sheetCauses s) ≡ 0) where
+  abbrev sheetTurns : Turns
+  sheetTurns = turnsIn (turnCount s) (tableOf s)
+
+  sheet-few : sheetTurns .count ≤ 400
+  sheet-few = omega (arith, count-is (turnCount s) (tableOf s), few-turns s z)
+
+  sheet-worths : (t : ℕ) → t < sheetTurns .count → sheetTurns .worth t ≤ 60000
+  sheet-worths t h = omega (arith, worth-at (turnCount s) (tableOf s) t, row-in-range s z t (omega (arith, count-is (turnCount s) (tableOf s))) .worth-to)
+
+  -- its board reads back
+  pub planned-back : ReadsBack sheetTurns (plannedBoard s)
+  unfolding plannedBoard
+  planned-back = board-back sheetTurns sheet-few sheet-worths
+
+-- ---- the answer
 
 -- the lent table was all zeros, and is read into
 module _ (s lent : List ℕ) {r : ReadAnswer} {t table : List ℕ} (e : outcome r t ≡ readOf s table) (z : table ≡ replicate 2000 0) where
@@ -52,10 +83,10 @@ module _ (s lent : List ℕ) {r : ReadAnswer} {t table : List ℕ} (e : outcome 
     sound = refusal-is ∙ f
 
     pub plan-small : {x : PlanAnswer} {place : ℕ} → x ≡ refusedWith bufferTooSmall → place ≡ stepsPlace (r .turns) → length lent < place + 4 * r .turns → planned x lent ≡ planOf s lent
-    unfolding planOf planCauses firstOf
+    unfolding planOf planCauses
     plan-small g p h =
-        let q : boardLength (turnCount s) (turnCount s) ≡ boardLength (r .turns) (r .turns) = rw count in
-        rw (g, first-goes (sheetCauses s) (bufferTooSmall when _ ∷ []) (sheet-numbered s) sound, q, lt-ltb (length lent) (boardLength (r .turns) (r .turns)) (omega (arith, p)))
+        let c : firstOf (planCauses s (length lent)) ≡ bufferTooSmall = too-few (sheetCauses s) (length lent) _ (sheet-numbered s) sound (omega (arith, p, count)) in
+        rw (g, c)
 
     -- ---- what the writing asks
 
@@ -73,19 +104,17 @@ module _ (s lent : List ℕ) {r : ReadAnswer} {t table : List ℕ} (e : outcome 
 
     pub plan-worths : WorthsBounded (r .turns) t
     unfolding WorthsBounded
-    plan-worths i h = omega (arith, ap (λ (T : Turns). T .worth i) turns-are, worth-at (turnCount s) (tableOf s) i, row-in-range s sound i (omega (arith, count)) .worth-to)
+    plan-worths i h = omega (arith, ap (λ (T : Turns). T .worth i) turns-are, sheet-worths s sound i (omega (arith, count, count-is (turnCount s) (tableOf s))))
 
     -- ---- written
 
     pub plan-done : {place bytes : ℕ} {lent′ : List ℕ} → bytes ≡ length (boardFor (turnsIn (r .turns) t)) → lent′ ≡ puts lent 0 (boardFor (turnsIn (r .turns) t)) → place ≡ stepsPlace (r .turns) → place + 4 * r .turns ≤ length lent
         → planned (record { refusal = 0; bytes = bytes }) lent′ ≡ planOf s lent
-    unfolding planOf planCauses plannedBoard firstOf
+    unfolding planOf planCauses plannedBoard
     plan-done b l p h =
-        let q : boardLength (turnCount s) (turnCount s) ≡ boardLength (r .turns) (r .turns) = rw count in
-        let room : length (boardFor (turnsIn (turnCount s) (tableOf s))) ≤ length lent = omega (arith, board-most (turnsIn (turnCount s) (tableOf s)), same, q, p, h) in
-        rw (b, l, turns-are, first-goes (sheetCauses s) (bufferTooSmall when _ ∷ []) (sheet-numbered s) sound, q, le-ltb (length lent) (boardLength (r .turns) (r .turns)) (omega (arith, p)), puts-front (boardFor (turnsIn (turnCount s) (tableOf s))) lent room)
-      where
-        same : boardLength (turnsIn (turnCount s) (tableOf s) .count) (turnsIn (turnCount s) (tableOf s) .count) ≡ boardLength (turnCount s) (turnCount s)
-        same = rw (count-is (turnCount s) (tableOf s))
+        let T = turnsIn (turnCount s) (tableOf s) in
+        let c : firstOf (planCauses s (length lent)) ≡ 0 = enough (sheetCauses s) (length lent) _ (sheet-numbered s) sound (omega (arith, p, count)) in
+        let room : length (boardFor T) ≤ length lent = omega (arith, board-most T, count-is (turnCount s) (tableOf s), count, p, h) in
+        rw (b, l, turns-are, c, puts-front (boardFor T) lent room)
 
 pub ruleset plan-cases = (plan-fault, plan-small, plan-few, plan-rows, plan-worths, plan-done)
