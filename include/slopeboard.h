@@ -36,7 +36,7 @@ enum {
     SLOPEBOARD_BAD_MAGIC = 2,         /* the sheet does not open with GRM */
     SLOPEBOARD_BAD_COUNTS = 3,        /* groomers outside 1 to 16, or slopes outside 1 to 120 */
     SLOPEBOARD_TOO_MANY_TURNS = 4,    /* more than 400 turns */
-    SLOPEBOARD_BAD_MAP = 5,           /* a record's map has bit 5, 6 or 7, or the first one is not 1F */
+    SLOPEBOARD_BAD_MAP = 5,           /* a map above 1F, or a first map that is not 1F */
     SLOPEBOARD_BAD_SLOPE = 6,         /* a turn's slope is 0 or above the count */
     SLOPEBOARD_BAD_GROOMER = 7,       /* a turn's groomer is 0 or above the count */
     SLOPEBOARD_BAD_TIME = 8,          /* a turn has length 0 or ends after minute 960 */
@@ -47,7 +47,7 @@ enum {
     SLOPEBOARD_CONFLICT = 13,         /* two chosen turns exclude each other */
     SLOPEBOARD_NOT_MAXIMAL = 14,      /* a turn could be chosen in addition */
     SLOPEBOARD_WRONG_STEP = 15,       /* a step is not right at its place */
-    SLOPEBOARD_TURN_LEFT_OPEN = 16,   /* a turn is open after the last step */
+    SLOPEBOARD_TURN_LEFT_OPEN = 16,   /* the steps leave a turn open */
     SLOPEBOARD_WRONG_SUMS = 17,       /* tally or worth is not its sum, or the worth is below the tally */
     SLOPEBOARD_PARTIAL_TURN = 18      /* a turn table's length is no multiple of five */
 };

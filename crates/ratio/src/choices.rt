@@ -125,7 +125,7 @@ fn worth_if_chosen(table: &[u16], n: usize, map: &[u8], t: usize) -> u32
     }
 }
 
-// The sum of the chosen turns' worths.
+// What the chosen turns are worth together.
 pub fn chosen_worth(table: &[u16], n: usize, map: &[u8]) -> u32
     requires { ⌜ (n ≤ 400) × Lent n (now table) (now map) ⌝ }
     ensures { λ r. ⌜ r ≡ chosenBelow (turnsIn n (now (table .entry))) (choiceIn n (now (map .entry))) n ⌝ }

@@ -75,7 +75,7 @@ fn better_of(rest: &[i32], table: &[u16], n: usize, b: usize, i: usize) -> usize
     b
 }
 
-// The open turn with the earliest end, among equals the lowest number; n where none is open.
+// The open turn that ends first, of several the one with the lowest number; n where none is open.
 pub fn pick_turn(rest: &[i32], table: &[u16], n: usize) -> usize
     requires { ⌜ Held n (now rest) (now table) ⌝ }
     ensures { λ r. ⌜ (r ≡ pick (turnsIn n (now (table .entry))) (now (rest .entry))) × (r ≤ n) ⌝ }

@@ -37,7 +37,7 @@ pub enum Refusal {
     NotMaximal = 14,
     /// A step is not right at its place.
     WrongStep = 15,
-    /// A turn is open after the last step.
+    /// The steps leave a turn open.
     TurnLeftOpen = 16,
     /// Tally or worth is not its sum, or the worth is below the tally.
     WrongSums = 17,
