@@ -6,3 +6,4 @@ pub mod StepBytes
 pub mod Fronts
 pub mod Written
 pub mod Next
+pub mod Counts

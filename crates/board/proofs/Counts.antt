@@ -1,0 +1,60 @@
+-- The ones in a choice map are as many as the turns that it chooses. Assumes nothing.
+use Prim.Native.Nat.{ℕ, zero, suc, _+_, _-_, _*_, _/_, _%_, _<_, _≤_}
+use mathlib.Core.Path.{_≡_, refl, sym, _∙_, ap}
+use mathlib.Core.Bool.{Bool, true, false, not, cond}
+use mathlib.Core.List.{List, [], _∷_}
+use native.Mathlib.Omega.{arith}
+use lib.ListN.{length, getD}
+use borrow.Author.Tests.{not-true}
+use Rattle.model.specs.Lists.{every, sum, below}
+use Rattle.model.specs.Choice.{has, chosen}
+use Rattle.model.proofs.Bools.{every-at}
+use Rattle.board.specs.Choice.{bitOf, mapBytes, chosenIn, choiceIn, onesOf, onesIn, clearPast}
+use Rattle.board.proofs.Clean.{choice-has}
+
+-- 1 for a bit that stands
+abbrev one : Bool → ℕ
+one b = cond b 1 0
+
+-- ---- sums over the numbers below a bound
+
+sum-same : (f g : ℕ → ℕ) (n : ℕ) → ((t : ℕ) → t < n → f t ≡ g t) → sum f (below n) ≡ sum g (below n)
+sum-same f g zero h = refl
+sum-same f g (suc n) h = omega (arith, h n (omega arith), sum-same f g n (λ t l. h t (omega arith)))
+
+sum-split : (f : ℕ → ℕ) (k m : ℕ) → sum f (below (k + m)) ≡ sum f (below k) + sum (λ u. f (k + u)) (below m)
+sum-split f k zero = let e : k + 0 ≡ k = omega arith in rw e (omega arith)
+sum-split f k (suc m) = let e : k + suc m ≡ suc (k + m) = omega arith in rw e (omega (arith, sum-split f k m))
+
+sum-none : (f : ℕ → ℕ) (m : ℕ) → ((t : ℕ) → t < m → f t ≡ 0) → sum f (below m) ≡ 0
+sum-none f zero h = refl
+sum-none f (suc m) h = omega (arith, h m (omega arith), sum-none f m (λ t l. h t (omega arith)))
+
+-- ---- byte by byte
+
+low-turn : (x : ℕ) (map : List ℕ) (k : ℕ) → k < 8 → chosenIn (x ∷ map) k ≡ bitOf x k
+unfolding chosenIn
+low-turn x map k h = let d : k / 8 ≡ 0 = omega arith in let m : k % 8 ≡ k = omega arith in rw (d, m)
+
+high-turn : (x : ℕ) (map : List ℕ) (u : ℕ) → chosenIn (x ∷ map) (8 + u) ≡ chosenIn map u
+unfolding chosenIn
+high-turn x map u = let d : (8 + u) / 8 ≡ suc (u / 8) = omega arith in let m : (8 + u) % 8 ≡ u % 8 = omega arith in rw (d, m)
+
+ones-bits : (map : List ℕ) → onesIn map ≡ sum (λ t. one (chosenIn map t)) (below (8 * length map))
+unfolding onesIn onesOf
+ones-bits [] = refl
+ones-bits (x ∷ map) =
+    let e : 8 * length (x ∷ map) ≡ 8 + 8 * length map = omega arith in
+    let l : sum (λ k. one (chosenIn (x ∷ map) k)) (below 8) ≡ sum (λ k. one (bitOf x k)) (below 8) = sum-same _ _ 8 (λ k h. ap one (low-turn x map k h)) in
+    let r : sum (λ u. one (chosenIn (x ∷ map) (8 + u))) (below (8 * length map)) ≡ sum (λ u. one (chosenIn map u)) (below (8 * length map)) = sum-same _ _ (8 * length map) (λ u h. ap one (high-turn x map u)) in
+    rw e (omega (arith, ones-bits map, l, r, sum-split (λ t. one (chosenIn (x ∷ map) t)) 8 (8 * length map)))
+
+-- ---- the chosen turns
+
+pub ones-turns : (n : ℕ) (map : List ℕ) → length map ≡ mapBytes n → clearPast n map ≡ true → onesIn map ≡ chosen n (choiceIn n map) (λ t. 1)
+unfolding chosen clearPast
+ones-turns n map s c =
+    let k : 8 * length map ≡ n + (8 * mapBytes n - n) = omega arith in
+    let past : sum (λ u. one (chosenIn map (n + u))) (below (8 * mapBytes n - n)) ≡ 0 = sum-none _ _ (λ u h. ap one (not-true (chosenIn map (n + u)) (every-at (λ k. not (chosenIn map (n + k))) (8 * mapBytes n - n) c u h))) in
+    let inside : sum (λ t. one (has (choiceIn n map) t)) (below n) ≡ sum (λ t. one (chosenIn map t)) (below n) = sum-same _ _ n (λ t h. ap one (choice-has n map t h)) in
+    ones-bits map ∙ rw k (omega (arith, past, inside, sum-split (λ t. one (chosenIn map t)) n (8 * mapBytes n - n)))
