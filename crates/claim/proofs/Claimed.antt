@@ -2,8 +2,7 @@
 use mathlib.Core.Path.{_≡_, refl, sym, _∙_}
 use mathlib.Core.Logic.{_↔_}
 use mathlib.Core.List.{List}
-use Prim.Native.Nat.{ℕ, _≤_, _<_}
-use native.Mathlib.Omega.{arith}
+use Prim.Native.Nat.{ℕ}
 use Rattle.refusal.specs.Cause.{firstOf}
 use Rattle.wire.specs.Number.{Bytes}
 use Rattle.model.specs.Turns.{Turns, turnsIn}
@@ -16,13 +15,12 @@ use Rattle.model.proofs.Selection.{selection-exists, selection-filled}
 use Rattle.sheet.specs.Read.{turnCount, tableOf, sheetCauses}
 use Rattle.sheet.specs.Accepted.{Accepted}
 use Rattle.sheet.proofs.Accepting.{accepted-iff}
-use Rattle.sheet.proofs.Unrefused.{few-turns, row-in-range}
 use Rattle.board.specs.Board.{boardTurns, boardSteps, boardTally, boardWorth, boardChoice, writtenSteps}
 use Rattle.board.specs.Open.{WellFormed}
 use Rattle.audit.specs.Check.{sheetTurns, Passes, BoardKeeps, checkOf, checked}
 use Rattle.audit.proofs.Passing.{sheet-lengths, formed-board, parts-pass, passes-iff, passes-answer, passes-promises}
-use Rattle.planner.specs.Plan.{boardFor, plannedBoard}
-use Rattle.planner.proofs.Boards.{ReadsBack, board-back}
+use Rattle.planner.specs.Plan.{plannedBoard}
+use Rattle.planner.proofs.Answers.{planned-back}
 use Rattle.claim.specs.Claim.{Claim}
 
 -- ---- the planner's board of a sheet that is not refused
@@ -32,28 +30,17 @@ module _ (s : List ℕ) (e : firstOf (sheetCauses s) ≡ 0) where
   unfolding turnsIn
   counted = refl
 
-  few : sheetTurns s .count ≤ 400
-  few = omega (arith, counted, few-turns s e)
-
-  worths : (t : ℕ) → t < sheetTurns s .count → sheetTurns s .worth t ≤ 60000
-  unfolding turnsIn
-  worths t h = row-in-range s e t h .worth-to
-
-  pub planned-back : ReadsBack (sheetTurns s) (plannedBoard s)
-  unfolding plannedBoard
-  planned-back = board-back (sheetTurns s) few worths
-
   planned-rules : KeepsRules (sheetTurns s) (boardChoice (plannedBoard s)) (writtenSteps (plannedBoard s)) (boardTally (plannedBoard s)) (boardWorth (plannedBoard s))
-  planned-rules = let r = planned-back in rw (r .chosen-turns, r .step-list, r .tallied, r .worth) (planned-keeps (sheetTurns s) (sheet-lengths s e))
+  planned-rules = let r = planned-back s e in rw (r .chosen-turns, r .step-list, r .tallied, r .worth) (planned-keeps (sheetTurns s) (sheet-lengths s e))
 
   pub planned-passes : Passes s (plannedBoard s)
   planned-passes =
-      let r = planned-back in
+      let r = planned-back s e in
       parts-pass s (plannedBoard s) e (record { form = rw (r .turns ∙ counted) at (formed-board (plannedBoard s) (r .opens)); rules = planned-rules })
 
   -- and the check's answer is the plan's tally and worth
   pub planned-answer : checkOf s (plannedBoard s) ≡ checked 0 (tally (steps (sheetTurns s))) (chosen (sheetTurns s .count) (choice (sheetTurns s)) (sheetTurns s .worth))
-  planned-answer = let r = planned-back in passes-answer s (plannedBoard s) planned-passes ∙ rw (r .tallied, r .worth)
+  planned-answer = let r = planned-back s e in passes-answer s (plannedBoard s) planned-passes ∙ rw (r .tallied, r .worth)
 
 -- ---- the claim
 

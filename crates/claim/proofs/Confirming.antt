@@ -7,7 +7,7 @@ use native.Mathlib.Omega.{arith}
 use lib.Dec.{eqb}
 use lib.ListN.{length, take, drop, length-append}
 use lib.Seq.{take-append-seam}
-use borrow.Author.Tests.{eq-eqb, ne-eqb, eqb-true}
+use borrow.Author.Tests.{ne-eqb}
 use Rattle.refusal.specs.Cause.{Cause, _when_, firstOf}
 use Rattle.refusal.proofs.Order.{clear-append}
 use Rattle.sheet.specs.Read.{sheetCauses}
@@ -17,6 +17,7 @@ use Rattle.audit.specs.Check.{checked, checkOf}
 use Rattle.planner.specs.declared.PlanAnswer.{PlanAnswer}
 use Rattle.planner.specs.Plan.{Planned, planCauses, plannedBoard, planOf}
 use Rattle.planner.specs.Answer.{planned}
+use Rattle.planner.proofs.PlanCauses.{plan-number}
 use Rattle.claim.specs.Confirm.{Confirmation, confirmed, plannedSums, confirmOf}
 use Rattle.claim.proofs.Claimed.{planned-answer}
 
@@ -25,20 +26,9 @@ use Rattle.claim.proofs.Claimed.{planned-answer}
 abbrev wrote : List ℕ → List ℕ → Planned
 wrote board lent = record { refusal = 0; bytes = length board; lent = board ++ drop (length board) lent }
 
-abbrev kept : ℕ → List ℕ → Planned
-kept f lent = record { refusal = f; bytes = 0; lent = lent }
-
-plan-number : (f : ℕ) (board lent : List ℕ) → cond (eqb f 0) (wrote board lent) (kept f lent) .refusal ≡ f
-plan-number f board lent = go (eqb f 0) refl
-  where
-    go : (b : Bool) → eqb f 0 ≡ b → cond b (wrote board lent) (kept f lent) .refusal ≡ f
-    go true e = sym (eqb-true f 0 e)
-    go false e = refl
-
 module _ (s lent : List ℕ) (z : planOf s lent .refusal ≡ 0) where
   no-cause : firstOf (planCauses s (length lent)) ≡ 0
-  unfolding planOf
-  no-cause = sym (plan-number (firstOf (planCauses s (length lent))) (plannedBoard s) lent) ∙ z
+  no-cause = sym (plan-number s lent) ∙ z
 
   accepted : firstOf (sheetCauses s) ≡ 0
   unfolding planCauses

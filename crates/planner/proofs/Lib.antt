@@ -1,3 +1,4 @@
 pub mod Boards
 pub mod Parts
 pub mod Answers
+pub mod PlanCauses

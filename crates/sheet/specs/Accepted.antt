@@ -90,10 +90,14 @@ pub data SheetCause (s : List ℕ) : ℕ → ℕ → Type 0 where
   worth : (i : ℕ) → i < turnCount s → Outside (turnOf s i .worth) mostWorth → SheetCause s badWorth (placeOf i 6)
   bytes-behind : cursorOf s (turnCount s) .at < length s → SheetCause s trailingBytes (placeOf (turnCount s) 0)
 
--- a cause to refuse reading s into a table of so many places: one of the sheet's, and after them all that the table is too short
-pub data ReadCause (s : List ℕ) (places : ℕ) : ℕ → ℕ → Type 0 where
-  of-sheet : {k r : ℕ} → SheetCause s k r → ReadCause s places k r
-  small-table : places < 5 * turnCount s → ReadCause s places bufferTooSmall (placeOf (turnCount s) 1)
+-- a cause to refuse s with a lent buffer of so many places: one of the sheet's, and after them all that the buffer is shorter than the need
+pub data LentCause (s : List ℕ) (need places : ℕ) : ℕ → ℕ → Type 0 where
+  of-sheet : {k r : ℕ} → SheetCause s k r → LentCause s need places k r
+  too-small : places < need → LentCause s need places bufferTooSmall (placeOf (turnCount s) 1)
+
+-- the reader needs five places a turn
+abbrev pub ReadCause : List ℕ → ℕ → ℕ → ℕ → Type 0
+ReadCause s places = LentCause s (5 * turnCount s) places
 
 -- of causes at their places, the first has number k
 pub record FirstAmong (Causes : ℕ → ℕ → Type 0) (k : ℕ) : Type 0 where
