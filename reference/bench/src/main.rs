@@ -44,7 +44,7 @@ impl Job {
             sheet,
             board,
             numbers: vec![0; 5 * shift.turns.len()],
-            bytes: vec![0; slopeboard::MOST_TEXT_BYTES],
+            bytes: vec![0; slopeboard::MOST_SHEET_BYTES],
         }
     }
 
