@@ -12,17 +12,16 @@ use Rattle.refusal.specs.Cause.{Cause, _when_, firstOf}
 use Rattle.refusal.proofs.Order.{first-stops, first-goes}
 use Rattle.wire.specs.Number.{valueAt}
 use Rattle.turns.specs.Turn.{InRange}
-use Rattle.model.specs.Turns.{Turns, turnsIn}
+use Rattle.model.specs.Turns.{Turns, turnsIn, RowsBounded}
 use Rattle.sheet.specs.declared.reader.ReadAnswer.{ReadAnswer}
 use Rattle.sheet.specs.Read.{turnCount, tableOf, sheetCauses, outcome, readOf}
 use Rattle.sheet.proofs.Readings.{sheet-numbered}
 use Rattle.sheet.proofs.Tables.{table-length, rowTurn}
-use Rattle.sheet.proofs.Unrefused.{row-in-range}
+use Rattle.sheet.proofs.Unrefused.{rows-bounded}
 use Rattle.sheet.proofs.Whole.{whole-refusal, whole-turns, whole-few, whole-room, whole-table}
 use Rattle.board.specs.Board.{boardHeader, boardTurns, boardTally, boardWorth}
 use Rattle.board.specs.Open.{malformed}
 use Rattle.board.proofs.Openings.{formed-header}
-use Rattle.ratio.specs.Bounds.{WorthsBounded}
 use Rattle.audit.specs.declared.judge.CheckAnswer.{CheckAnswer}
 use Rattle.audit.specs.Check.{sheetTurns, ruleCauses, sumCauses, boardCauses, checkCauses, checked, checkOf}
 
@@ -65,9 +64,8 @@ module _ (s lent t : List ℕ) (a : ReadAnswer) (e : outcome a t ≡ readOf s le
   accepted : firstOf (sheetCauses s) ≡ 0
   accepted = sym (whole-refusal s lent t a e l) ∙ z
 
-  pub check-worths : WorthsBounded (a .turns) (take (5 * a .turns) t)
-  unfolding WorthsBounded turnsIn
-  check-worths = rw (whole-table s lent t a e l z, whole-turns s lent t a e l z) (λ i h. row-in-range s accepted i h .worth-to)
+  pub check-bounded : RowsBounded (a .turns) (take (5 * a .turns) t)
+  check-bounded = rw (whole-table s lent t a e l z, whole-turns s lent t a e l z) (rows-bounded s accepted)
 
   pub check-rows : length (take (5 * a .turns) t) ≡ 5 * a .turns
   check-rows = rw (whole-table s lent t a e l z) (omega (arith, table-length s, whole-turns s lent t a e l z))

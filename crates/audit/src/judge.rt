@@ -6,10 +6,10 @@ ghost use Prim.Native.Nat.{_+_, _*_, _≤_, _<_};
 ghost use lib.ListN.{length};
 ghost use lib.Dec.{eqb, leb};
 ghost use Rattle.refusal.specs.Cause.{firstOf};
-ghost use Rattle.model.specs.Turns.{turnsIn};
+ghost use Rattle.model.specs.Turns.{turnsIn, RowsBounded};
 ghost use Rattle.board.specs.Choice.{choiceIn};
 ghost use Rattle.board.specs.Board.{boardHeader, boardSteps, boardTally, boardWorth, stepsIn};
-ghost use Rattle.ratio.specs.Bounds.{Lent, WorthsBounded};
+ghost use Rattle.ratio.specs.Bounds.{Lent};
 ghost use Rattle.audit.specs.Check.{choiceCauses, ruleCauses, sumCauses, boardCauses, checkOf};
 use super::replay::steps_fault;
 use super::replay::tally_of;
@@ -54,7 +54,7 @@ fn are_wrong(tally: u32, worth: u32, paid: u32, earned: u32) -> bool
 
 // The first cause that the choice or the steps give, 0 if none.
 fn rules_fault(table: &[u16], n: usize, map: &[u8], steps: &[u8], m: usize) -> u8
-    requires { ⌜ (n ≤ 400) × Lent n (now table) (now map) × WorthsBounded n (now table) × (4 * m ≤ length (now steps)) ⌝ }
+    requires { ⌜ (n ≤ 400) × Lent n (now table) (now map) × RowsBounded n (now table) × (4 * m ≤ length (now steps)) ⌝ }
     ensures { λ r. ⌜ r ≡ firstOf (ruleCauses (turnsIn n (now (table .entry))) (choiceIn n (now (map .entry))) (stepsIn m (now (steps .entry)))) ⌝ }
 {
     let fault = choice_fault(table, n, map);
@@ -83,7 +83,7 @@ fn sums_fault(b: &[u8], table: &[u16], n: usize, map: &[u8], steps: &[u8], m: us
 
 // The first cause that the parts of a board give, 0 if none: its map and its steps.
 fn parts_fault(b: &[u8], map: &[u8], steps: &[u8], table: &[u16], n: usize) -> u8
-    requires { ⌜ (boardHeader ≤ length (now b)) × (n ≤ 400) × Lent n (now table) (now map) × WorthsBounded n (now table) × (4 * boardSteps (now b) ≤ length (now steps)) ⌝ }
+    requires { ⌜ (boardHeader ≤ length (now b)) × (n ≤ 400) × Lent n (now table) (now map) × RowsBounded n (now table) × (4 * boardSteps (now b) ≤ length (now steps)) ⌝ }
     ensures { λ r. ⌜ r ≡ firstOf (ruleCauses (turnsIn n (now (table .entry))) (choiceIn n (now (map .entry))) (stepsIn (boardSteps (now (b .entry))) (now (steps .entry))) ++ sumCauses (turnsIn n (now (table .entry))) (choiceIn n (now (map .entry))) (stepsIn (boardSteps (now (b .entry))) (now (steps .entry))) (boardTally (now (b .entry))) (boardWorth (now (b .entry)))) ⌝ }
 {
     let m = wire::word_at(b, 5);
@@ -96,7 +96,7 @@ fn parts_fault(b: &[u8], map: &[u8], steps: &[u8], table: &[u16], n: usize) -> u
 
 // The first cause to refuse a board for the n turns of a table, 0 if none.
 fn board_fault(b: &[u8], table: &[u16], n: u16) -> u8
-    requires { ⌜ (n ≤ 400) × (length (now table) ≡ 5 * n) × WorthsBounded n (now table) ⌝ }
+    requires { ⌜ (n ≤ 400) × (length (now table) ≡ 5 * n) × RowsBounded n (now table) ⌝ }
     ensures { λ r. ⌜ r ≡ firstOf (boardCauses (turnsIn n (now (table .entry))) (now (b .entry))) ⌝ }
 {
     if board::open(b) != 0 {

@@ -4,11 +4,11 @@ ghost use mathlib.Core.Bool.{true, cond};
 ghost use Prim.Native.Nat.{_+_, _*_, _≤_, _<_};
 ghost use lib.ListN.{length};
 ghost use Rattle.refusal.specs.Cause.{firstOf};
-ghost use Rattle.model.specs.Turns.{turnsIn};
+ghost use Rattle.model.specs.Turns.{turnsIn, RowsBounded};
 ghost use Rattle.model.specs.Steps.{afterStep, afterSteps, tally};
 ghost use Rattle.model.specs.Rules.{right, allRight};
 ghost use Rattle.board.specs.Board.{stepAt, stepsIn};
-ghost use Rattle.ratio.specs.Bounds.{Bounded, Held, WorthsBounded};
+ghost use Rattle.ratio.specs.Bounds.{Bounded, Held};
 ghost use Rattle.audit.specs.Check.{stepCauses};
 
 // Step i, if it is right where it stands; else nothing is changed.
@@ -44,7 +44,7 @@ fn replay(rest: &mut [i32], table: &[u16], n: usize, steps: &[u8], m: usize) -> 
 
 // The first cause to refuse m steps, 0 if none. The residuals are for this function to use.
 pub fn steps_fault(rest: &mut [i32], table: &[u16], n: usize, steps: &[u8], m: usize) -> u8
-    requires { ⌜ Held n (now rest) (now table) × WorthsBounded n (now table) × (4 * m ≤ length (now steps)) ⌝ }
+    requires { ⌜ Held n (now rest) (now table) × RowsBounded n (now table) × (4 * m ≤ length (now steps)) ⌝ }
     ensures { λ r. ⌜ r ≡ firstOf (stepCauses (turnsIn n (now (table .entry))) (stepsIn m (now (steps .entry)))) ⌝ }
 {
     ratio::set_initial(&mut *rest, table, n);

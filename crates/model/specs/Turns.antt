@@ -59,3 +59,10 @@ pub data Conflict (T : Turns) (x y : ℕ) : Type 0 where
 -- every turn is at least a minute long
 abbrev pub PositiveLengths : Turns → Type 0
 PositiveLengths T = (t : ℕ) → t < T .count → T .start t < T .end t
+
+-- the first n turns of a table are within what every sheet keeps to: slopes, a start before the end, an end within the shift, worths
+pub record RowsBounded (n : ℕ) (table : List ℕ) : Type 0 where
+  pub slopes : (t : ℕ) → t < n → turnsIn n table .slope t ≤ 120
+  pub starts : (t : ℕ) → t < n → turnsIn n table .start t < turnsIn n table .end t
+  pub ends : (t : ℕ) → t < n → turnsIn n table .end t ≤ 960
+  pub worths : (t : ℕ) → t < n → turnsIn n table .worth t ≤ 60000

@@ -12,17 +12,16 @@ use Rattle.refusal.specs.Cause.{Cause, _when_, firstOf}
 use Rattle.refusal.proofs.Order.{numbered, first-stops, first-goes}
 use Rattle.wire.specs.Number.{puts}
 use Rattle.wire.proofs.Puts.{puts-front}
-use Rattle.model.specs.Turns.{Turns, turnsIn}
+use Rattle.model.specs.Turns.{Turns, turnsIn, RowsBounded}
 use Rattle.sheet.specs.declared.reader.ReadAnswer.{ReadAnswer}
 use Rattle.sheet.specs.Read.{turnCount, tableOf, sheetCauses, mostTurns, outcome, readOf}
 use Rattle.sheet.proofs.Readings.{sheet-numbered}
 use Rattle.sheet.proofs.Tables.{table-length}
-use Rattle.sheet.proofs.Unrefused.{few-turns, row-in-range}
+use Rattle.sheet.proofs.Unrefused.{few-turns, rows-bounded}
 use Rattle.sheet.proofs.Ample.{ample-refusal, ample-turns, ample-table}
 use Rattle.board.specs.Board.{stepsPlace, boardLength}
-use Rattle.ratio.specs.Bounds.{WorthsBounded}
 use Rattle.ratio.proofs.Turns.{count-is}
-use Rattle.ratio.proofs.Padded.{padded-turns, drop-zeros}
+use Rattle.ratio.proofs.Padded.{padded-turns, bounded-padded, drop-zeros}
 use Rattle.planner.specs.declared.PlanAnswer.{PlanAnswer}
 use Rattle.planner.specs.Plan.{boardFor, plannedBoard, planCauses, planOf}
 use Rattle.planner.specs.Answer.{planned, refusedWith}
@@ -52,7 +51,7 @@ module _ (s : List ℕ) (z : firstOf (sheetCauses s) ≡ 0) where
   sheet-few = omega (arith, count-is (turnCount s) (tableOf s), few-turns s z)
 
   sheet-worths : (t : ℕ) → t < sheetTurns .count → sheetTurns .worth t ≤ 60000
-  sheet-worths t h = omega (arith, worth-at (turnCount s) (tableOf s) t, row-in-range s z t (omega (arith, count-is (turnCount s) (tableOf s))) .worth-to)
+  sheet-worths t h = rows-bounded s z .worths t (omega (arith, count-is (turnCount s) (tableOf s)))
 
   -- its board reads back
   pub planned-back : ReadsBack sheetTurns (plannedBoard s)
@@ -102,9 +101,8 @@ module _ (s lent : List ℕ) {r : ReadAnswer} {t table : List ℕ} (e : outcome 
     pub plan-rows : 5 * r .turns ≤ length t
     plan-rows = omega (arith, ap length read-table, length-append (tableOf s) (replicate (2000 - length (tableOf s)) 0), table-length s, count)
 
-    pub plan-worths : WorthsBounded (r .turns) t
-    unfolding WorthsBounded
-    plan-worths i h = omega (arith, ap (λ (T : Turns). T .worth i) turns-are, sheet-worths s sound i (omega (arith, count, count-is (turnCount s) (tableOf s))))
+    pub plan-bounded : RowsBounded (r .turns) t
+    plan-bounded = rw (count, read-table) (bounded-padded (turnCount s) (tableOf s) (2000 - length (tableOf s)) (rows-bounded s sound))
 
     -- ---- written
 
@@ -117,4 +115,4 @@ module _ (s lent : List ℕ) {r : ReadAnswer} {t table : List ℕ} (e : outcome 
         let room : length (boardFor T) ≤ length lent = omega (arith, board-most T, count-is (turnCount s) (tableOf s), count, p, h) in
         rw (b, l, turns-are, c, puts-front (boardFor T) lent room)
 
-pub ruleset plan-cases = (plan-fault, plan-small, plan-few, plan-rows, plan-worths, plan-done)
+pub ruleset plan-cases = (plan-fault, plan-small, plan-few, plan-rows, plan-bounded, plan-done)

@@ -4,7 +4,7 @@ use mathlib.Core.Path.{_≡_, refl}
 use mathlib.Core.List.{List, [], _∷_, _++_}
 use native.Mathlib.Omega.{arith}
 use lib.ListN.{getD, drop, replicate}
-use Rattle.model.specs.Turns.{turnsIn}
+use Rattle.model.specs.Turns.{turnsIn, RowsBounded}
 use Rattle.board.proofs.Clean.{zeros-at}
 
 padded-at : (table : List ℕ) (k i : ℕ) → getD (table ++ replicate k 0) i 0 ≡ getD table i 0
@@ -22,6 +22,15 @@ padded-turns n table k = λ j. record {
   end = λ t. padded-at table k (t * 5 + 2) j + padded-at table k (t * 5 + 3) j;
   worth = λ t. padded-at table k (t * 5 + 4) j;
 }
+
+pub bounded-padded : (n : ℕ) (table : List ℕ) (k : ℕ) → RowsBounded n table → RowsBounded n (table ++ replicate k 0)
+bounded-padded n table k b =
+    record {
+      slopes = λ t h. rw (padded-turns n table k) (b .slopes t h);
+      starts = λ t h. rw (padded-turns n table k) (b .starts t h);
+      ends = λ t h. rw (padded-turns n table k) (b .ends t h);
+      worths = λ t h. rw (padded-turns n table k) (b .worths t h);
+    }
 
 pub drop-zeros : (k i : ℕ) → _≡_ {A = List ℕ} (drop i (replicate k 0)) (replicate (k - i) 0)
 drop-zeros k zero = let e : k - 0 ≡ k = omega arith in rw e

@@ -7,10 +7,11 @@ use native.Mathlib.Omega.{arith}
 use native.Mathlib.Decide.{decLt, ℕ-discrete}
 use Rattle.refusal.specs.Cause.{firstOf}
 use Rattle.refusal.proofs.Order.{none-given}
+use Rattle.model.specs.Turns.{turnsIn, RowsBounded}
 use Rattle.turns.specs.declared.Turn.{Turn}
 use Rattle.turns.specs.Turn.{InRange, shiftMinutes, mostWorth}
-use Rattle.sheet.specs.Read.{countsIn, turnCount, tableOf, sheetCauses, mostTurns}
-use Rattle.sheet.specs.Accepted.{SheetCause, turn-count, slope, groomer, time, worth, turnOf, Outside}
+use Rattle.sheet.specs.Read.{countsIn, turnCount, tableOf, sheetCauses, mostGroomers, mostSlopes, mostTurns}
+use Rattle.sheet.specs.Accepted.{SheetCause, groomer-count, slope-count, turn-count, slope, groomer, time, worth, turnOf, Outside}
 use Rattle.sheet.proofs.Causes.{cause-there}
 use Rattle.sheet.proofs.Readings.{sheet-numbered}
 use Rattle.sheet.proofs.Tables.{rowTurn, table-row}
@@ -26,6 +27,12 @@ inside x top n = go (ℕ-discrete x 0) (decLt top x)
 module _ (s : List ℕ) (e : firstOf (sheetCauses s) ≡ 0) where
   no-cause : {k r : ℕ} → SheetCause s k r → ⊥
   no-cause {k} {r} c = none-given (sheetCauses s) e (sheet-numbered s) k r (cause-there s c)
+
+  pub few-groomers : countsIn s .groomers ≤ mostGroomers
+  few-groomers = inside (countsIn s .groomers) mostGroomers (λ o. no-cause (groomer-count o)) .1
+
+  pub few-slopes : countsIn s .slopes ≤ mostSlopes
+  few-slopes = inside (countsIn s .slopes) mostSlopes (λ o. no-cause (slope-count o)) .1
 
   pub few-turns : turnCount s ≤ mostTurns
   few-turns = go (decLt mostTurns (turnCount s))
@@ -49,3 +56,13 @@ module _ (s : List ℕ) (e : firstOf (sheetCauses s) ≡ 0) where
 
   pub row-in-range : (i : ℕ) → i < turnCount s → InRange (countsIn s) (rowTurn (tableOf s) i)
   row-in-range i h = rw (table-row s i h) (turn-in-range i h)
+
+  pub rows-bounded : RowsBounded (turnCount s) (tableOf s)
+  unfolding turnsIn
+  rows-bounded =
+      record {
+        slopes = λ i h. omega (arith, row-in-range i h .slope-to, few-slopes);
+        starts = λ i h. omega (arith, row-in-range i h .length-from);
+        ends = λ i h. row-in-range i h .end-to;
+        worths = λ i h. row-in-range i h .worth-to;
+      }

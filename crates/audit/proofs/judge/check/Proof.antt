@@ -2,7 +2,7 @@ use mathlib.Core.Path.{sym}
 use native.Mathlib.Omega.{arith}
 use lib.Dec.{lit≤}
 use Rattle.sheet.proofs.Whole.{whole-room, whole-few}
-use Rattle.audit.proofs.Checks.{check-sheet, check-rows, check-worths, check-board, check-passed, passed-header}
+use Rattle.audit.proofs.Checks.{check-sheet, check-rows, check-bounded, check-board, check-passed, passed-header}
 use borrow.Author.Needs.{needs}
 use Rattle.audit.proofs.judge.check.Statement.{statement}
 use Rattle.audit.proofs.judge.check.Tie as tie
@@ -32,7 +32,7 @@ slice-aggregate-board-fault : tie.Need-slice-aggregate-board-fault
 slice-aggregate-board-fault c = sym (check-rows _ _ _ _ (c .before .before .before .before .read .ensures) (lit≤ tt) (c .before .if1 .left))
 
 board-fault-requires : tie.Need-board-fault-requires
-board-fault-requires c κs = (whole-few _ _ _ _ (c .before .before .before .before .read .ensures) (lit≤ tt) (c .before .if1 .left), check-rows _ _ _ _ (c .before .before .before .before .read .ensures) (lit≤ tt) (c .before .if1 .left), check-worths _ _ _ _ (c .before .before .before .before .read .ensures) (lit≤ tt) (c .before .if1 .left))
+board-fault-requires c κs = (whole-few _ _ _ _ (c .before .before .before .before .read .ensures) (lit≤ tt) (c .before .if1 .left), check-rows _ _ _ _ (c .before .before .before .before .read .ensures) (lit≤ tt) (c .before .if1 .left), check-bounded _ _ _ _ (c .before .before .before .before .read .ensures) (lit≤ tt) (c .before .if1 .left))
 
 refused-requires-2 : tie.Need-refused-requires-2
 refused-requires-2 c κs = search needs
