@@ -14,6 +14,20 @@ fn wide(x: u16) -> u32
     x as u32
 }
 
+pub fn slope_of(table: &[u16], n: usize, t: usize) -> u32
+    requires { ⌜ (t < n) × (5 * n ≤ length (now table)) ⌝ }
+    ensures { λ r. ⌜ (r ≡ turnsIn n (now (table .entry)) .slope t) × (r < 65536) ⌝ }
+{
+    wide(table[t * 5])
+}
+
+pub fn groomer_of(table: &[u16], n: usize, t: usize) -> u32
+    requires { ⌜ (t < n) × (5 * n ≤ length (now table)) ⌝ }
+    ensures { λ r. ⌜ (r ≡ turnsIn n (now (table .entry)) .groomer t) × (r < 65536) ⌝ }
+{
+    wide(table[t * 5 + 1])
+}
+
 pub fn start_of(table: &[u16], n: usize, t: usize) -> u32
     requires { ⌜ (t < n) × (5 * n ≤ length (now table)) ⌝ }
     ensures { λ r. ⌜ (r ≡ turnsIn n (now (table .entry)) .start t) × (r < 65536) ⌝ }

@@ -1,0 +1,49 @@
+-- The listing entry: any bytes as a sheet, and lent bytes for the text. Assumes nothing.
+use Prim.Native.Nat.{ℕ}
+use mathlib.Core.List.{List, [], _∷_, _++_}
+use mathlib.Core.Bool.{cond}
+use lib.ListN.{length, drop}
+use lib.Dec.{ltb, eqb}
+use Rattle.refusal.specs.Number.{bufferTooSmall}
+use Rattle.refusal.specs.Cause.{Cause, _when_, firstOf}
+use Rattle.model.specs.Turns.{Turns, turnsIn}
+use Rattle.model.specs.Steps.{tally}
+use Rattle.model.specs.Pick.{steps}
+use Rattle.model.specs.Choice.{chosen, choice}
+use Rattle.sheet.specs.Read.{countsIn, turnCount, tableOf, sheetCauses}
+use Rattle.sheet.specs.Accepted.{LentCause, FirstAmong}
+use Rattle.listing.specs.Text.{listingOf}
+
+-- the listing of some turns: the planner's choice, what it is worth, and the tally of the planner's steps
+unfoldable pub listingFor : ℕ → Turns → List ℕ
+listingFor groomers T = listingOf groomers T (choice T) (chosen (T .count) (choice T) (T .worth)) (tally (steps T))
+
+-- the listing of a sheet
+unfoldable pub sheetListing : List ℕ → List ℕ
+sheetListing s = listingFor (countsIn s .groomers) (turnsIn (turnCount s) (tableOf s))
+
+-- after the sheet's causes: the lent bytes must hold this very listing
+unfoldable pub listCauses : List ℕ → ℕ → List Cause
+listCauses s places = sheetCauses s ++ bufferTooSmall when ltb places (length (sheetListing s)) ∷ []
+
+-- the refusal, 0 if none, the bytes written, 0 on a refusal, and what the lent bytes hold then
+pub record Listed : Type 0 where
+  pub refusal : ℕ
+  pub bytes : ℕ
+  pub lent : List ℕ
+
+-- on success the listing, then what was there; on a refusal all as before
+unfoldable pub listOf : List ℕ → List ℕ → Listed
+listOf s lent =
+    let f = firstOf (listCauses s (length lent)) in
+    let text = sheetListing s in
+    cond (eqb f 0) (record { refusal = 0; bytes = length text; lent = text ++ drop (length text) lent }) (record { refusal = f; bytes = 0; lent = lent })
+
+-- ---- as statements
+
+-- a cause to refuse is there: the sheet's, or too few lent bytes
+abbrev pub ListCause : List ℕ → ℕ → ℕ → ℕ → Type 0
+ListCause s places = LentCause s (length (sheetListing s)) places
+
+abbrev pub FirstListCause : List ℕ → ℕ → ℕ → Type 0
+FirstListCause s places k = FirstAmong (ListCause s places) k
