@@ -1,3 +1,5 @@
 pub mod Round
 pub mod Text
+pub mod Notes
+pub mod Ready
 pub mod List

@@ -1,1 +1,4 @@
-// The drivers' listing.
+// The drivers' listing: what each groomer drives, as text.
+mod lines;
+mod notes;
+mod parts;

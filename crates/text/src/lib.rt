@@ -12,7 +12,7 @@ ghost use Rattle.text.specs.Place.{lastPlace};
 const ZERO: u8 = 48;
 
 pub fn put_byte(out: &mut [u8], at: usize, b: u8) -> usize
-    requires { ⌜ at < lastPlace ⌝ }
+    requires { ⌜ at + 1 ≤ lastPlace ⌝ }
     ensures { λ r. ⌜ (r ≡ at + 1) × (now (out .exit) ≡ puts (now (out .entry)) at (b ∷ [])) ⌝ }
 {
     let next = at + 1;

@@ -1,0 +1,37 @@
+use Rattle.listing.proofs.PartCases.{groomer-cases}
+use borrow.Author.Needs.{needs}
+use Rattle.listing.proofs.parts.put_groomer.Statement.{statement}
+use Rattle.listing.proofs.parts.put_groomer.Tie as tie
+
+put-heading-requires : tie.Need-put-heading-requires
+put-heading-requires c κs = search (needs, groomer-cases)
+
+slice-aggregate-note-round : tie.Need-slice-aggregate-note-round
+slice-aggregate-note-round c = search needs
+
+note-round-requires : tie.Need-note-round-requires
+note-round-requires c κs = search (needs, groomer-cases)
+
+slice-aggregate-put-notes : tie.Need-slice-aggregate-put-notes
+slice-aggregate-put-notes c = search needs
+
+put-notes-requires : tie.Need-put-notes-requires
+put-notes-requires c κs = (search groomer-cases, search needs, search groomer-cases)
+
+same-length : tie.Need-same-length
+same-length c = search needs
+
+returns : tie.Need-returns
+returns c = search (needs, groomer-cases)
+
+pub put-groomer-spec : {M : Type 1} → statement M
+put-groomer-spec =
+    tie.close
+    (tie.spec
+    put-heading-requires
+    slice-aggregate-note-round
+    note-round-requires
+    slice-aggregate-put-notes
+    put-notes-requires
+    same-length
+    returns)

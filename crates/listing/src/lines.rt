@@ -1,0 +1,84 @@
+// The lines of the listing, each put behind the one before it. Each function returns the place
+// behind what it put.
+ghost use mathlib.Core.Path.{_≡_};
+ghost use Prim.Native.Nat.{_+_, _*_, _≤_, _<_};
+ghost use lib.ListN.{length};
+ghost use Rattle.wire.specs.Number.{puts};
+ghost use Rattle.text.specs.Place.{lastPlace};
+ghost use Rattle.model.specs.Turns.{turnsIn};
+ghost use Rattle.listing.specs.Text.{labelled, twoLabelled, headingOf, lineOf, sumsLine, refusedLine};
+
+const GROOMER: [u8; 8] = *b"groomer ";
+
+const HYPHEN: [u8; 1] = *b"-";
+
+const SLOPE: [u8; 7] = *b" slope ";
+
+const WORTH: [u8; 7] = *b" worth ";
+
+const SUM: [u8; 6] = *b"worth ";
+
+const TALLY: [u8; 7] = *b" tally ";
+
+const REFUSED: [u8; 8] = *b"refused ";
+
+const LINE_FEED: u8 = 10;
+
+// A word and then a number.
+fn put_labelled(out: &mut [u8], at: usize, word: &[u8], x: u32) -> usize
+    requires { ⌜ at + length (labelled (now word) x) ≤ lastPlace ⌝ }
+    ensures { λ r. ⌜ (r ≡ at + length (labelled (now (word .entry)) x)) × (now (out .exit) ≡ puts (now (out .entry)) at (labelled (now (word .entry)) x)) ⌝ }
+{
+    let next = text::put_text(&mut *out, at, word);
+    text::put_number(&mut *out, next, x)
+}
+
+// Two of them, and the end of the line.
+fn put_two(out: &mut [u8], at: usize, word: &[u8], x: u32, second: &[u8], y: u32) -> usize
+    requires { ⌜ at + length (twoLabelled (now word) x (now second) y) ≤ lastPlace ⌝ }
+    ensures { λ r. ⌜ (r ≡ at + length (twoLabelled (now (word .entry)) x (now (second .entry)) y)) × (now (out .exit) ≡ puts (now (out .entry)) at (twoLabelled (now (word .entry)) x (now (second .entry)) y)) ⌝ }
+{
+    let next = put_labelled(&mut *out, at, word, x);
+    let last = put_labelled(&mut *out, next, second, y);
+    text::put_byte(&mut *out, last, LINE_FEED)
+}
+
+// A groomer's heading.
+pub fn put_heading(out: &mut [u8], at: usize, groomer: u32) -> usize
+    requires { ⌜ at + length (headingOf groomer) ≤ lastPlace ⌝ }
+    ensures { λ r. ⌜ (r ≡ at + length (headingOf groomer)) × (now (out .exit) ≡ puts (now (out .entry)) at (headingOf groomer)) ⌝ }
+{
+    let word = GROOMER;
+    let last = put_labelled(&mut *out, at, &word, groomer);
+    text::put_byte(&mut *out, last, LINE_FEED)
+}
+
+// The line of turn u.
+pub fn put_line(out: &mut [u8], at: usize, table: &[u16], n: usize, u: usize) -> usize
+    requires { ⌜ (u < n) × (5 * n ≤ length (now table)) × (at + length (lineOf (turnsIn n (now table)) u) ≤ lastPlace) ⌝ }
+    ensures { λ r. ⌜ (r ≡ at + length (lineOf (turnsIn n (now (table .entry))) u)) × (now (out .exit) ≡ puts (now (out .entry)) at (lineOf (turnsIn n (now (table .entry))) u)) ⌝ }
+{
+    let hyphen = HYPHEN;
+    let slope = SLOPE;
+    let worth = WORTH;
+    let next = text::put_number(&mut *out, at, ratio::start_of(table, n, u));
+    let last = put_labelled(&mut *out, next, &hyphen, ratio::end_of(table, n, u));
+    put_two(
+        &mut *out,
+        last,
+        &slope,
+        ratio::slope_of(table, n, u),
+        &worth,
+        ratio::worth_of(table, n, u),
+    )
+}
+
+// The last line.
+pub fn put_sums(out: &mut [u8], at: usize, worth: u32, tally: u32) -> usize
+    requires { ⌜ at + length (sumsLine worth tally) ≤ lastPlace ⌝ }
+    ensures { λ r. ⌜ (r ≡ at + length (sumsLine worth tally)) × (now (out .exit) ≡ puts (now (out .entry)) at (sumsLine worth tally)) ⌝ }
+{
+    let first = SUM;
+    let second = TALLY;
+    put_two(&mut *out, at, &first, worth, &second, tally)
+}
