@@ -1,4 +1,4 @@
--- A groomer's round has just its chosen turns, by start; and the rounds of all groomers have each chosen turn once. Assumes nothing.
+-- A groomer's round has just its chosen turns, by start; and the rounds of all groomers together have as many turns as are chosen. Assumes nothing.
 use Prim.Native.Nat.{ℕ, zero, suc, _+_, _<_, _≤_}
 use mathlib.Core.Path.{_≡_, refl, sym, _∙_, ap}
 use mathlib.Core.Logic.{_⊎_, inl, inr}
@@ -264,7 +264,10 @@ module _ (T : Turns) (S : List Bool) (h : ℕ) where
   met-once zero minute u a b = absurd (omega arith)
   met-once (suc d) minute u a b = go (ℕ-discrete (T .start u) minute) (λ l. met-once d (minute + 1) u l (omega arith))
     where
-      go : Dec (T .start u ≡ minute) → (minute + 1 ≤ T .start u → met d (minute + 1) u ≡ cond (has S u && eqb (T .groomer u) h) 1 0) → cond (startsAt T S h minute u) 1 0 + met d (minute + 1) u ≡ cond (has S u && eqb (T .groomer u) h) 1 0
+      go :
+          Dec (T .start u ≡ minute) →
+          (minute + 1 ≤ T .start u → met d (minute + 1) u ≡ cond (has S u && eqb (T .groomer u) h) 1 0) →
+          cond (startsAt T S h minute u) 1 0 + met d (minute + 1) u ≡ cond (has S u && eqb (T .groomer u) h) 1 0
       go (yes e) ih = rw (at-start minute u e, met-over d (minute + 1) u (omega arith)) (omega arith)
       go (no e) ih = rw (at-other minute u e, ih (omega arith)) (omega arith)
 
