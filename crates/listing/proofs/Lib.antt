@@ -3,3 +3,4 @@ pub mod LinePieces
 pub mod NextChosen
 pub mod NoteCases
 pub mod PartCases
+pub mod Rounds
