@@ -10,4 +10,3 @@ pub mod ReadCauses
 pub mod Tables
 pub mod Unrefused
 pub mod Whole
-pub mod Ample

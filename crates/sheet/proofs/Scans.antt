@@ -74,6 +74,10 @@ module _ (k : ℕ) (s : List ℕ) (limits : Counts) (c : Cursor) where
       let n = next-refused s limits c e g in
       sym (first-stops (recordCauses s limits c) (recordsCauses (k - 1) s limits (cursorAfter s c)) f (sym (n .0)) (n .1)) ∙ sym (ap firstOf (causes-more k s limits c h)) ∙ i
 
+  -- where a record is refused nothing is said of the table
+  pub scan-stops : {r : Next} {f : ℕ} {l a : List ℕ} → r ≡ Refused f → r ≡ nextOf s limits c → f ≡ 0 → l ≡ a
+  scan-stops g e z = absurd (next-refused s limits c e g .1 z)
+
   pub scan-trailing : {a : ℕ} → k ≤ 0 → c .at < length s → firstOf (recordsCauses k s limits c) ≡ a → trailingBytes ≡ a
   unfolding recordsCauses firstOf
   scan-trailing h l i = let z : k ≡ 0 = omega arith in rw (z, lt-ltb (c .at) (length s) l) at i
@@ -81,8 +85,6 @@ module _ (k : ℕ) (s : List ℕ) (limits : Counts) (c : Cursor) where
   pub scan-done : {a : ℕ} → k ≤ 0 → length s ≤ c .at → firstOf (recordsCauses k s limits c) ≡ a → 0 ≡ a
   unfolding recordsCauses firstOf
   scan-done h l i = let z : k ≡ 0 = omega arith in rw (z, le-ltb (c .at) (length s) l) at i
-
-pub ruleset scan-cases = (scan-read, scan-refused, scan-trailing, scan-done)
 
 -- ---- the table
 
@@ -95,11 +97,8 @@ module _ (k : ℕ) (s : List ℕ) (limits : Counts) (c : Cursor) (at : ℕ) (l :
       let q : turnsFrom k s c ≡ t ∷ turnsFrom (k - 1) s d = turns-more k s c h ∙ rw (f .turn-is, f .cursor-is) in
       rw p (puts-append (rowOf t) (rows (turnsFrom (k - 1) s d)) l at (at + 5) (omega arith) ∙ ap (λ (ts : List Turn). puts l at (rows ts)) (sym q) ∙ i)
 
-  pub fill-refused : {r : Next} {f : ℕ} {a : List ℕ} → r ≡ Refused f → r ≡ nextOf s limits c → 0 < k → firstOf (recordsCauses k s limits c) ≡ 0 → l ≡ a
-  fill-refused g e h i = absurd (next-refused s limits c e g .1 (scan-refused k s limits c g e h i))
-
   pub fill-done : {a : List ℕ} → k ≤ 0 → puts l at (rows (turnsFrom k s c)) ≡ a → l ≡ a
   unfolding turnsFrom rows
   fill-done h i = let z : k ≡ 0 = omega arith in rw z at i
 
-pub ruleset fill-cases = (fill-read, fill-refused, fill-done, scan-read)
+pub ruleset scan-cases = (scan-read, scan-refused, scan-stops, scan-trailing, scan-done, fill-read, fill-done)

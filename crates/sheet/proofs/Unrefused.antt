@@ -6,13 +6,13 @@ use mathlib.Core.List.{List}
 use native.Mathlib.Omega.{arith}
 use native.Mathlib.Decide.{decLt, ℕ-discrete}
 use Rattle.refusal.specs.Cause.{firstOf}
-use Rattle.refusal.proofs.Order.{none-given}
+use Rattle.refusal.proofs.Order.{none-given, clear-append}
 use Rattle.turns.specs.declared.Turn.{Turn}
 use Rattle.turns.specs.Turn.{InRange, shiftMinutes, mostWorth}
-use Rattle.sheet.specs.Read.{countsIn, turnCount, tableOf, sheetCauses, mostTurns}
-use Rattle.sheet.specs.Accepted.{SheetCause, turn-count, slope, groomer, time, worth, turnOf, Outside}
+use Rattle.sheet.specs.Read.{mostTurns, countsIn, turnCount, headerCauses, sheetCauses, tableOf}
+use Rattle.sheet.specs.Accepted.{SheetCause, slope, groomer, time, worth, turnOf, Outside}
 use Rattle.sheet.proofs.Causes.{cause-there}
-use Rattle.sheet.proofs.Readings.{sheet-numbered}
+use Rattle.sheet.proofs.Readings.{header-numbered, header-few, sheet-numbered}
 use Rattle.sheet.proofs.Tables.{rowTurn, table-row}
 
 inside : (x top : ℕ) → (Outside x top → ⊥) → (1 ≤ x) × (x ≤ top)
@@ -28,11 +28,8 @@ module _ (s : List ℕ) (e : firstOf (sheetCauses s) ≡ 0) where
   no-cause {k} {r} c = none-given (sheetCauses s) e (sheet-numbered s) k r (cause-there s c)
 
   pub few-turns : turnCount s ≤ mostTurns
-  few-turns = go (decLt mostTurns (turnCount s))
-    where
-      go : Dec (mostTurns < turnCount s) → turnCount s ≤ mostTurns
-      go (yes l) = absurd (no-cause (turn-count l))
-      go (no l) = omega arith
+  unfolding sheetCauses
+  few-turns = header-few s (clear-append (headerCauses s) _ (header-numbered s) e .0)
 
   pub turn-in-range : (i : ℕ) → i < turnCount s → InRange (countsIn s) (turnOf s i)
   turn-in-range i h =

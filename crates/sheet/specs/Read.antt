@@ -104,8 +104,13 @@ outcome answer table = record { answer = answer; table = table }
 abbrev pub refusedWith : ℕ → ReadAnswer
 refusedWith k = record { refusal = k; groomers = 0; slopes = 0; turns = 0 }
 
+-- the answer of a sheet that is not refused: its header's counts
 abbrev pub readAnswer : List ℕ → ReadAnswer
 readAnswer s = record { refusal = 0; groomers = countsIn s .groomers; slopes = countsIn s .slopes; turns = turnCount s }
+
+-- the answer where the table has places for every sheet: no cause but the sheet's own
+unfoldable pub answerOf : List ℕ → ReadAnswer
+answerOf s = let f = firstOf (sheetCauses s) in cond (eqb f 0) (readAnswer s) (refusedWith f)
 
 -- on success the table, then what was there; on a refusal all as before
 unfoldable pub readOf : List ℕ → List ℕ → Outcome

@@ -9,6 +9,7 @@ pub use reader::MOST_TURNS;
 pub use reader::ReadAnswer;
 pub use reader::first_cursor;
 pub use reader::read;
+pub use reader::read_table;
 pub use record::Cursor;
 pub use record::FULL_MAP;
 pub use record::Next;
