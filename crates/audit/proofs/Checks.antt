@@ -16,7 +16,6 @@ use Rattle.model.specs.Turns.{Turns, turnsIn}
 use Rattle.sheet.specs.declared.reader.ReadAnswer.{ReadAnswer}
 use Rattle.sheet.specs.Read.{turnCount, tableOf, sheetCauses, answerOf}
 use Rattle.sheet.proofs.Readings.{sheet-numbered}
-use Rattle.sheet.proofs.Tables.{rowTurn}
 use Rattle.sheet.proofs.Unrefused.{row-in-range}
 use Rattle.sheet.proofs.Whole.{whole-refusal, whole-accepted, whole-turns, whole-table, whole-rows}
 use Rattle.board.specs.Board.{boardHeader, boardTurns, boardTally, boardWorth}

@@ -9,11 +9,11 @@ use Rattle.refusal.specs.Cause.{firstOf}
 use Rattle.refusal.proofs.Order.{none-given, clear-append}
 use Rattle.turns.specs.declared.Turn.{Turn}
 use Rattle.turns.specs.Turn.{InRange, shiftMinutes, mostWorth}
-use Rattle.sheet.specs.Read.{mostTurns, countsIn, turnCount, headerCauses, sheetCauses, tableOf}
+use Rattle.sheet.specs.Read.{mostTurns, countsIn, turnCount, headerCauses, turnIn, sheetCauses, tableOf}
 use Rattle.sheet.specs.Accepted.{SheetCause, slope, groomer, time, worth, turnOf, Outside}
 use Rattle.sheet.proofs.Causes.{cause-there}
 use Rattle.sheet.proofs.Readings.{header-numbered, header-few, sheet-numbered}
-use Rattle.sheet.proofs.Tables.{rowTurn, table-row}
+use Rattle.sheet.proofs.Tables.{table-row}
 
 inside : (x top : ℕ) → (Outside x top → ⊥) → (1 ≤ x) × (x ≤ top)
 inside x top n = go (ℕ-discrete x 0) (decLt top x)
@@ -44,5 +44,5 @@ module _ (s : List ℕ) (e : firstOf (sheetCauses s) ≡ 0) where
       timely (no z) (yes l) = absurd (no-cause (time i h (inr l)))
       timely (no z) (no l) = (omega arith, omega arith)
 
-  pub row-in-range : (i : ℕ) → i < turnCount s → InRange (countsIn s) (rowTurn (tableOf s) i)
+  pub row-in-range : (i : ℕ) → i < turnCount s → InRange (countsIn s) (turnIn (tableOf s) i)
   row-in-range i h = rw (table-row s i h) (turn-in-range i h)

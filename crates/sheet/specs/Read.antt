@@ -1,8 +1,8 @@
 -- A whole sheet, read. Assumes nothing.
-use Prim.Native.Nat.{ℕ, zero, suc, _*_}
+use Prim.Native.Nat.{ℕ, zero, suc, _+_, _*_}
 use mathlib.Core.List.{List, [], _∷_, _++_}
 use mathlib.Core.Bool.{not, cond}
-use lib.ListN.{length, drop}
+use lib.ListN.{length, getD, drop}
 use lib.Dec.{ltb, eqb}
 use Rattle.refusal.specs.Number.{truncated, badMagic, badCounts, tooManyTurns, trailingBytes, bufferTooSmall}
 use Rattle.refusal.specs.Cause.{Cause, _when_, firstOf}
@@ -75,6 +75,17 @@ turnsFrom (suc k) s c = turnAt s c ∷ turnsFrom k s (cursorAfter s c)
 unfoldable pub rows : List Turn → List ℕ
 rows [] = []
 rows (t ∷ ts) = rowOf t ++ rows ts
+
+-- turn i of a table: its five numbers
+abbrev pub turnIn : List ℕ → ℕ → Turn
+turnIn table i =
+    record {
+      slope = getD table (i * 5) 0;
+      groomer = getD table (i * 5 + 1) 0;
+      start = getD table (i * 5 + 2) 0;
+      length = getD table (i * 5 + 3) 0;
+      worth = getD table (i * 5 + 4) 0;
+    }
 
 -- ---- a sheet: what may be wrong with it, its turns, its table
 

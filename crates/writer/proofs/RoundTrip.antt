@@ -21,9 +21,9 @@ use Rattle.turns.specs.declared.Counts.{Counts}
 use Rattle.turns.specs.Turn.{rowOf, turnCauses}
 use Rattle.turns.proofs.Ranges.{inside-iff, fine-iff}
 use Rattle.sheet.specs.Record.{firstCursor}
-use Rattle.sheet.specs.Read.{mostGroomers, mostSlopes, mostTurns, countsIn, turnCount, countCauses, rows, sheetCauses, turnsOf, tableOf, readCauses, Outcome, outcome, refusedWith, readOf}
+use Rattle.sheet.specs.Read.{mostGroomers, mostSlopes, mostTurns, countsIn, turnCount, countCauses, rows, sheetCauses, turnsOf, tableOf, readCauses, Outcome, outcome, refusedWith, readOf, turnIn}
 use Rattle.sheet.specs.Layout.{fieldBytes, recordOf}
-use Rattle.writer.specs.Write.{mapFor, recordsOf, sheetOf, turnIn, turnsOfTable, tableTurns, turnsCauses, tableCauses, writeCauses, Written, writeOf}
+use Rattle.writer.specs.Write.{mapFor, recordsOf, sheetOf, turnsOfTable, tableTurns, turnsCauses, tableCauses, writeCauses, Written, writeOf}
 use Rattle.sheet.specs.Accepted.{Records, SheetFor, Accepted}
 use Rattle.sheet.specs.Accepted as accepted
 use Rattle.sheet.proofs.Readings.{sheet-numbered, rows-length}
@@ -118,26 +118,26 @@ drop-row l j h =
     rw (drop-step l j (omega arith), drop-step l (j + 1) (omega arith), e2, drop-step l (j + 2) (omega arith), e3, drop-step l (j + 3) (omega arith), e4, drop-step l (j + 4) (omega arith), e5)
 
 -- the rows of a table's turns are the table
-table-rows : (k : ℕ) (table : List ℕ) (i : ℕ) → 5 * i + 5 * k ≡ length table → rows (turnsOfTable k table i) ≡ drop (5 * i) table
-unfolding rows turnsOfTable turnIn
-table-rows zero table i h = let e : 5 * i ≡ length table = omega arith in rw e (sym (drop-length table))
+table-rows : (k : ℕ) (table : List ℕ) (i : ℕ) → i * 5 + 5 * k ≡ length table → rows (turnsOfTable k table i) ≡ drop (i * 5) table
+unfolding rows turnsOfTable
+table-rows zero table i h = let e : i * 5 ≡ length table = omega arith in rw e (sym (drop-length table))
 table-rows (suc k) table i h =
-    let e : 5 * (i + 1) ≡ 5 * i + 5 = omega arith in
-    rw (table-rows k table (i + 1) (omega arith), e) (sym (drop-row table (5 * i) (omega arith)))
+    let e : (i + 1) * 5 ≡ i * 5 + 5 = omega arith in
+    rw (table-rows k table (i + 1) (omega arith), e) (sym (drop-row table (i * 5) (omega arith)))
 
 pub rows-table : (table : List ℕ) → length table % 5 ≡ 0 → rows (tableTurns table) ≡ table
 rows-table table h = table-rows (length table / 5) table 0 (omega arith)
 
 -- the turns of a table of rows are the turns
-row-turns : (ts : List Turn) (table : List ℕ) (i : ℕ) → drop (5 * i) table ≡ rows ts → turnsOfTable (length ts) table i ≡ ts
-unfolding rows turnsOfTable turnIn
+row-turns : (ts : List Turn) (table : List ℕ) (i : ℕ) → drop (i * 5) table ≡ rows ts → turnsOfTable (length ts) table i ≡ ts
+unfolding rows turnsOfTable
 row-turns [] table i e = refl
 row-turns (t ∷ ts) table i e =
-    let at : (k : ℕ) → getD table (5 * i + k) 0 ≡ getD (rowOf t ++ rows ts) k 0 = λ k. sym (getD-drop (5 * i) table k 0) ∙ ap (λ (l : List ℕ). getD l k 0) e in
-    let z : 5 * i ≡ 5 * i + 0 = omega arith in
-    let n : 5 * (i + 1) ≡ 5 * i + 5 = omega arith in
+    let at : (k : ℕ) → getD table (i * 5 + k) 0 ≡ getD (rowOf t ++ rows ts) k 0 = λ k. sym (getD-drop (i * 5) table k 0) ∙ ap (λ (l : List ℕ). getD l k 0) e in
+    let z : i * 5 ≡ i * 5 + 0 = omega arith in
+    let n : (i + 1) * 5 ≡ i * 5 + 5 = omega arith in
     let one : turnIn table i ≡ t = λ j. record { slope = (ap (λ (k : ℕ). getD table k 0) z ∙ at 0) j; groomer = at 1 j; start = at 2 j; length = at 3 j; worth = at 4 j } in
-    ap₂ _∷_ one (row-turns ts table (i + 1) (rw n (sym (drop-drop 5 (5 * i) table) ∙ ap (drop 5) e)))
+    ap₂ _∷_ one (row-turns ts table (i + 1) (rw n (sym (drop-drop 5 (i * 5) table) ∙ ap (drop 5) e)))
 
 pub turns-rows : (ts : List Turn) → tableTurns (rows ts) ≡ ts
 turns-rows ts = let n : length (rows ts) / 5 ≡ length ts = omega (arith, rows-length ts) in rw n (row-turns ts (rows ts) 0 refl)

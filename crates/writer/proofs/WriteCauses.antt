@@ -16,8 +16,8 @@ use Rattle.refusal.proofs.Places.{causeAt, there-at, at-there, there-left, ther
 use Rattle.turns.specs.declared.Counts.{Counts}
 use Rattle.turns.specs.Turn.{mostWorth, turnCauses}
 use Rattle.turns.proofs.Ranges.{outside-iff, past-iff}
-use Rattle.sheet.specs.Read.{mostGroomers, mostSlopes, mostTurns, countCauses}
-use Rattle.writer.specs.Write.{sheetOf, turnIn, turnsOfTable, tableTurns, turnsCauses, tableCauses, writeCauses, writeOf}
+use Rattle.sheet.specs.Read.{mostGroomers, mostSlopes, mostTurns, countCauses, turnIn}
+use Rattle.writer.specs.Write.{sheetOf, turnsOfTable, tableTurns, turnsCauses, tableCauses, writeCauses, writeOf}
 use Rattle.writer.specs.WriteCause.{rowPlace, WriteCause, partial-turn, groomer-count, slope-count, turn-count, slope, groomer, time, worth, small-buffer, FirstWriteCause}
 use Rattle.sheet.proofs.Causes.{first-same}
 use Rattle.writer.proofs.Writings.{table-numbered}

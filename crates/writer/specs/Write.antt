@@ -2,7 +2,7 @@
 use Prim.Native.Nat.{ℕ, zero, suc, _+_, _*_, _/_, _%_}
 use mathlib.Core.List.{List, [], _∷_, _++_}
 use mathlib.Core.Bool.{Bool, true, false, not, cond}
-use lib.ListN.{length, getD, drop}
+use lib.ListN.{length, drop}
 use lib.Dec.{ltb, eqb}
 use Rattle.refusal.specs.Number.{bufferTooSmall, partialTurn}
 use Rattle.refusal.specs.Cause.{Cause, _when_, firstOf}
@@ -10,7 +10,7 @@ use Rattle.turns.specs.declared.Turn.{Turn}
 use Rattle.turns.specs.declared.Counts.{Counts}
 use Rattle.turns.specs.Turn.{turnCauses}
 use Rattle.sheet.specs.Record.{fullMap, firstCursor}
-use Rattle.sheet.specs.Read.{countCauses}
+use Rattle.sheet.specs.Read.{countCauses, turnIn}
 use Rattle.sheet.specs.Layout.{recordOf, headerFor}
 use Rattle.writer.specs.declared.WriteAnswer.{WriteAnswer}
 
@@ -40,17 +40,6 @@ unfoldable pub sheetOf : Counts → List Turn → List ℕ
 sheetOf counts ts = headerFor counts (length ts) ++ recordsOf true (firstCursor .prev) ts
 
 -- ---- the table that is written: five numbers a turn
-
--- turn i of a table
-unfoldable pub turnIn : List ℕ → ℕ → Turn
-turnIn table i =
-    record {
-      slope = getD table (5 * i) 0;
-      groomer = getD table (5 * i + 1) 0;
-      start = getD table (5 * i + 2) 0;
-      length = getD table (5 * i + 3) 0;
-      worth = getD table (5 * i + 4) 0;
-    }
 
 -- the turns i, i + 1, .. of a table, k in all
 unfoldable pub turnsOfTable : ℕ → List ℕ → ℕ → List Turn

@@ -7,8 +7,8 @@ use lib.ListN.{length}
 use Rattle.refusal.specs.Number.{badCounts, tooManyTurns, badSlope, badGroomer, badTime, badWorth, bufferTooSmall, partialTurn}
 use Rattle.turns.specs.declared.Counts.{Counts}
 use Rattle.turns.specs.Turn.{shiftMinutes, mostWorth}
-use Rattle.sheet.specs.Read.{mostGroomers, mostSlopes, mostTurns}
-use Rattle.writer.specs.Write.{sheetOf, turnIn, tableTurns}
+use Rattle.sheet.specs.Read.{mostGroomers, mostSlopes, mostTurns, turnIn}
+use Rattle.writer.specs.Write.{sheetOf, tableTurns}
 use Rattle.sheet.specs.Accepted.{Outside, FirstAmong}
 
 -- place 0: the table's length; 1 to 3: the counts; then four places a turn; then the lent bytes
