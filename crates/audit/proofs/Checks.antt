@@ -4,7 +4,7 @@ use mathlib.Core.Path.{_≡_, refl, sym, _∙_, ap}
 use mathlib.Core.List.{List, [], _∷_, _++_}
 use mathlib.Core.Bool.{Bool, true, false, not, cond, _||_}
 use native.Mathlib.Omega.{arith}
-use lib.ListN.{length, take}
+use lib.ListN.{length, take, drop}
 use lib.Dec.{eqb}
 use borrow.Author.Tests.{eq-eqb, ne-eqb}
 use Rattle.refusal.specs.Number.{malformedBoard}
@@ -14,11 +14,10 @@ use Rattle.wire.specs.Number.{valueAt}
 use Rattle.turns.specs.Turn.{InRange}
 use Rattle.model.specs.Turns.{Turns, turnsIn, RowsBounded}
 use Rattle.sheet.specs.declared.reader.ReadAnswer.{ReadAnswer}
-use Rattle.sheet.specs.Read.{turnCount, tableOf, sheetCauses, outcome, readOf}
+use Rattle.sheet.specs.Read.{turnCount, tableOf, sheetCauses, answerOf}
 use Rattle.sheet.proofs.Readings.{sheet-numbered}
-use Rattle.sheet.proofs.Tables.{table-length, rowTurn}
 use Rattle.sheet.proofs.Unrefused.{rows-bounded}
-use Rattle.sheet.proofs.Whole.{whole-refusal, whole-turns, whole-few, whole-room, whole-table}
+use Rattle.sheet.proofs.Whole.{whole-refusal, whole-accepted, whole-turns, whole-table, whole-rows}
 use Rattle.board.specs.Board.{boardHeader, boardTurns, boardTally, boardWorth}
 use Rattle.board.specs.Open.{malformed}
 use Rattle.board.proofs.Openings.{formed-header}
@@ -60,29 +59,29 @@ passed-header T b e z = formed-header b (or-first (malformed b) _ (head-none _ _
 
 -- ---- the table that was read
 
-module _ (s lent t : List ℕ) (a : ReadAnswer) (e : outcome a t ≡ readOf s lent) (l : 2000 ≤ length lent) (z : a .refusal ≡ 0) where
+module _ (s lent t : List ℕ) (a : ReadAnswer) (e : (a ≡ answerOf s) × (a .refusal ≡ 0 → t ≡ tableOf s ++ drop (length (tableOf s)) lent)) (z : a .refusal ≡ 0) where
   accepted : firstOf (sheetCauses s) ≡ 0
-  accepted = sym (whole-refusal s lent t a e l) ∙ z
+  accepted = whole-accepted s (e .0) z
 
   pub check-bounded : RowsBounded (a .turns) (take (5 * a .turns) t)
-  check-bounded = rw (whole-table s lent t a e l z, whole-turns s lent t a e l z) (rows-bounded s accepted)
+  check-bounded = rw (whole-table s (e .0) z lent (e .1), whole-turns s (e .0) z) (rows-bounded s accepted)
 
   pub check-rows : length (take (5 * a .turns) t) ≡ 5 * a .turns
-  check-rows = rw (whole-table s lent t a e l z) (omega (arith, table-length s, whole-turns s lent t a e l z))
+  check-rows = whole-rows s (e .0) z lent (e .1)
 
 -- ---- the entry
 
-module _ (s b lent t : List ℕ) (a : ReadAnswer) (e : outcome a t ≡ readOf s lent) (l : 2000 ≤ length lent) where
+module _ (s b lent t : List ℕ) (a : ReadAnswer) (e : (a ≡ answerOf s) × (a .refusal ≡ 0 → t ≡ tableOf s ++ drop (length (tableOf s)) lent)) where
   pub check-sheet : {x : CheckAnswer} → (a .refusal ≡ 0 → ⊥) → x ≡ checked (a .refusal) 0 0 → x ≡ checkOf s b
-  check-sheet z x = x ∙ check-refused s b (a .refusal) (by-sheet s b (a .refusal) (sym (whole-refusal s lent t a e l)) z) z
+  check-sheet z x = x ∙ check-refused s b (a .refusal) (by-sheet s b (a .refusal) (sym (whole-refusal s (e .0))) z) z
 
   module _ (z : a .refusal ≡ 0) where
     turns-are : turnsIn (a .turns) (take (5 * a .turns) t) ≡ sheetTurns s
-    turns-are = rw (whole-table s lent t a e l z, whole-turns s lent t a e l z)
+    turns-are = rw (whole-table s (e .0) z lent (e .1), whole-turns s (e .0) z)
 
     module _ {f : ℕ} (g : f ≡ firstOf (boardCauses (turnsIn (a .turns) (take (5 * a .turns) t)) b)) where
       board-is : firstOf (checkCauses s b) ≡ f
-      board-is = by-board s b (accepted s lent t a e l z) ∙ sym (rw turns-are at g)
+      board-is = by-board s b (accepted s lent t a e z) ∙ sym (rw turns-are at g)
 
       pub check-board : {x : CheckAnswer} → (f ≡ 0 → ⊥) → x ≡ checked f 0 0 → x ≡ checkOf s b
       check-board y x = x ∙ check-refused s b f board-is y

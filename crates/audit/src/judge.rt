@@ -124,7 +124,7 @@ pub fn check(s: &[u8], b: &[u8]) -> CheckAnswer
     ensures { λ r. ⌜ r ≡ checkOf (now (s .entry)) (now (b .entry)) ⌝ }
 {
     let mut table = [0u16; 2000];
-    let sheet = sheet::read(s, &mut table);
+    let sheet = sheet::read_table(s, &mut table);
     if sheet.refusal != 0 {
         return refused(sheet.refusal);
     }

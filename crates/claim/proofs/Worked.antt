@@ -7,7 +7,8 @@ use Rattle.wire.specs.Mark.{opensWith}
 use Rattle.turns.specs.Turn.{outsideRange, pastShift, turnCauses}
 use Rattle.sheet.specs.Record.{field, turnFrom, badMapFor, endAt, turnAt, cursorAfter, recordCauses, firstCursor}
 use Rattle.sheet.specs.Read.{countCauses, headerCauses, recordsCauses, turnsFrom, rows, sheetCauses, turnsOf, tableOf, readCauses, readOf, outcome, refusedWith}
-use Rattle.sheet.specs.Write.{recordOf, mapFor, recordsOf, sheetOf, turnIn, turnsOfTable, turnsCauses, tableCauses, writeCauses, writeOf}
+use Rattle.sheet.specs.Layout.{recordOf}
+use Rattle.writer.specs.Write.{mapFor, recordsOf, sheetOf, turnsOfTable, turnsCauses, tableCauses, writeCauses, writeOf}
 use Rattle.model.specs.Lists.{every, tab}
 use Rattle.model.specs.Turns.{turnsIn, gap, overlap, bySlope, byGroomer, conflict}
 use Rattle.model.specs.Steps.{isOpen, left, initial, reduced, change, afterStep, afterSteps, tally}
@@ -27,7 +28,7 @@ unfolding firstOf opensWith field turnFrom badMapFor endAt turnAt cursorAfter re
 shift-read = refl
 
 shift-written : writeOf shiftCounts shiftTable (lent 40) ≡ record { refusal = 0; bytes = 39; lent = shift ++ lent 1 }
-unfolding firstOf opensWith field turnFrom badMapFor endAt turnAt cursorAfter recordCauses firstCursor countCauses headerCauses recordsCauses turnsFrom rows sheetCauses turnsOf tableOf readCauses readOf outsideRange pastShift turnCauses recordOf mapFor recordsOf sheetOf turnIn turnsOfTable turnsCauses tableCauses writeCauses writeOf
+unfolding firstOf opensWith field turnFrom badMapFor endAt turnAt cursorAfter recordCauses firstCursor countCauses headerCauses recordsCauses turnsFrom rows sheetCauses turnsOf tableOf readCauses readOf outsideRange pastShift turnCauses recordOf mapFor recordsOf sheetOf turnsOfTable turnsCauses tableCauses writeCauses writeOf
 shift-written = refl
 
 shift-planned : planOf shift (lent 33) ≡ record { refusal = 0; bytes = 28; lent = shiftBoard ++ lent 5 }

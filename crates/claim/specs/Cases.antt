@@ -5,7 +5,7 @@ use mathlib.Core.List.{List, [], _∷_, _++_}
 use lib.ListN.{replicate}
 use Rattle.turns.specs.declared.Counts.{Counts}
 use Rattle.sheet.specs.Read.{readOf, outcome, refusedWith}
-use Rattle.sheet.specs.Write.{writeOf}
+use Rattle.writer.specs.Write.{writeOf}
 use Rattle.board.specs.Open.{openOf, stepsPart}
 use Rattle.audit.specs.Check.{checkOf, checked}
 use Rattle.planner.specs.Plan.{planOf}

@@ -16,7 +16,7 @@ pub fn read(sheet: &[u8], table: &mut [u16]) {
 pub fn write(counts: &[u8], turns: &[u8], table: &mut [u16], bytes: &mut [u8]) {
     let c = tools::counts_in(counts);
     tools::unpack(turns, &mut *table);
-    let answer = sheet::write(c.groomers, c.slopes, table, &mut *bytes);
+    let answer = writer::write(c.groomers, c.slopes, table, &mut *bytes);
     tools::put_name(b"write");
     tools::put(answer.refusal as u64);
     tools::put(answer.bytes as u64);

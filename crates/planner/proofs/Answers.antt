@@ -1,11 +1,11 @@
 -- The planner's answer by its cases, each premise in the form in which the code's calls and tests leave it. Assumes nothing.
 use Prim.Native.Nat.{ℕ, _+_, _-_, _*_, _<_, _≤_}
-use mathlib.Core.Path.{_≡_, refl, _∙_, ap}
+use mathlib.Core.Path.{_≡_, refl, sym, _∙_, ap}
 use mathlib.Core.List.{List, [], _∷_, _++_}
 use mathlib.Core.Bool.{true}
 use native.Mathlib.Omega.{arith}
 use lib.Dec.{ltb}
-use lib.ListN.{length, getD, replicate, length-append, length-replicate}
+use lib.ListN.{length, getD, drop, replicate, length-append, length-replicate}
 use borrow.Author.Tests.{ne-eqb, lt-ltb, le-ltb}
 use Rattle.refusal.specs.Number.{bufferTooSmall}
 use Rattle.refusal.specs.Cause.{Cause, _when_, firstOf}
@@ -14,11 +14,11 @@ use Rattle.wire.specs.Number.{puts}
 use Rattle.wire.proofs.Puts.{puts-front}
 use Rattle.model.specs.Turns.{Turns, turnsIn, RowsBounded}
 use Rattle.sheet.specs.declared.reader.ReadAnswer.{ReadAnswer}
-use Rattle.sheet.specs.Read.{turnCount, tableOf, sheetCauses, mostTurns, outcome, readOf}
+use Rattle.sheet.specs.Read.{turnCount, tableOf, sheetCauses, answerOf}
 use Rattle.sheet.proofs.Readings.{sheet-numbered}
 use Rattle.sheet.proofs.Tables.{table-length}
 use Rattle.sheet.proofs.Unrefused.{few-turns, rows-bounded}
-use Rattle.sheet.proofs.Ample.{ample-refusal, ample-turns, ample-table}
+use Rattle.sheet.proofs.Whole.{whole-refusal, whole-accepted, whole-turns, whole-few}
 use Rattle.board.specs.Board.{stepsPlace, boardLength}
 use Rattle.ratio.proofs.Turns.{count-is}
 use Rattle.ratio.proofs.Padded.{padded-turns, bounded-padded, drop-zeros}
@@ -61,12 +61,12 @@ module _ (s : List ℕ) (z : firstOf (sheetCauses s) ≡ 0) where
 -- ---- the answer
 
 -- the lent table was all zeros, and is read into
-module _ (s lent : List ℕ) {r : ReadAnswer} {t table : List ℕ} (e : outcome r t ≡ readOf s table) (z : table ≡ replicate 2000 0) where
-  ample : 5 * mostTurns ≤ length table
-  ample = rw z (omega (arith, length-replicate {A = ℕ} 2000 0))
+pub plan-ample : {table : List ℕ} → table ≡ replicate 2000 0 → 2000 ≤ length table
+plan-ample z = rw z (omega (arith, length-replicate {A = ℕ} 2000 0))
 
+module _ (s lent : List ℕ) {r : ReadAnswer} (e : r ≡ answerOf s) where
   refusal-is : firstOf (sheetCauses s) ≡ r .refusal
-  refusal-is = ample-refusal s table ample e
+  refusal-is = sym (whole-refusal s e)
 
   -- ---- refused
 
@@ -76,10 +76,10 @@ module _ (s lent : List ℕ) {r : ReadAnswer} {t table : List ℕ} (e : outcome 
 
   module _ (f : r .refusal ≡ 0) where
     count : r .turns ≡ turnCount s
-    count = ample-turns s table ample e f
+    count = whole-turns s e f
 
     sound : firstOf (sheetCauses s) ≡ 0
-    sound = refusal-is ∙ f
+    sound = whole-accepted s e f
 
     pub plan-small : {x : PlanAnswer} {place : ℕ} → x ≡ refusedWith bufferTooSmall → place ≡ stepsPlace (r .turns) → length lent < place + 4 * r .turns → planned x lent ≡ planOf s lent
     unfolding planOf planCauses
@@ -89,30 +89,31 @@ module _ (s lent : List ℕ) {r : ReadAnswer} {t table : List ℕ} (e : outcome 
 
     -- ---- what the writing asks
 
-    read-table : t ≡ tableOf s ++ replicate (2000 - length (tableOf s)) 0
-    read-table = ample-table s table ample e f ∙ rw (z, drop-zeros 2000 (length (tableOf s)))
-
-    turns-are : turnsIn (r .turns) t ≡ turnsIn (turnCount s) (tableOf s)
-    turns-are = rw (count, read-table) (padded-turns (turnCount s) (tableOf s) (2000 - length (tableOf s)))
-
     pub plan-few : r .turns ≤ 400
-    plan-few = omega (arith, count, few-turns s sound)
+    plan-few = whole-few s e f
 
-    pub plan-rows : 5 * r .turns ≤ length t
-    plan-rows = omega (arith, ap length read-table, length-append (tableOf s) (replicate (2000 - length (tableOf s)) 0), table-length s, count)
+    module _ {t table : List ℕ} (w : r .refusal ≡ 0 → t ≡ tableOf s ++ drop (length (tableOf s)) table) (z : table ≡ replicate 2000 0) where
+      read-table : t ≡ tableOf s ++ replicate (2000 - length (tableOf s)) 0
+      read-table = w f ∙ rw (z, drop-zeros 2000 (length (tableOf s)))
 
-    pub plan-bounded : RowsBounded (r .turns) t
-    plan-bounded = rw (count, read-table) (bounded-padded (turnCount s) (tableOf s) (2000 - length (tableOf s)) (rows-bounded s sound))
+      turns-are : turnsIn (r .turns) t ≡ turnsIn (turnCount s) (tableOf s)
+      turns-are = rw (count, read-table) (padded-turns (turnCount s) (tableOf s) (2000 - length (tableOf s)))
 
-    -- ---- written
+      pub plan-rows : 5 * r .turns ≤ length t
+      plan-rows = omega (arith, ap length read-table, length-append (tableOf s) (replicate (2000 - length (tableOf s)) 0), table-length s, count)
 
-    pub plan-done : {place bytes : ℕ} {lent′ : List ℕ} → bytes ≡ length (boardFor (turnsIn (r .turns) t)) → lent′ ≡ puts lent 0 (boardFor (turnsIn (r .turns) t)) → place ≡ stepsPlace (r .turns) → place + 4 * r .turns ≤ length lent
-        → planned (record { refusal = 0; bytes = bytes }) lent′ ≡ planOf s lent
-    unfolding planOf planCauses plannedBoard
-    plan-done b l p h =
-        let T = turnsIn (turnCount s) (tableOf s) in
-        let c : firstOf (planCauses s (length lent)) ≡ 0 = enough (sheetCauses s) (length lent) _ (sheet-numbered s) sound (omega (arith, p, count)) in
-        let room : length (boardFor T) ≤ length lent = omega (arith, board-most T, count-is (turnCount s) (tableOf s), count, p, h) in
-        rw (b, l, turns-are, c, puts-front (boardFor T) lent room)
+      pub plan-bounded : RowsBounded (r .turns) t
+      plan-bounded = rw (count, read-table) (bounded-padded (turnCount s) (tableOf s) (2000 - length (tableOf s)) (rows-bounded s sound))
 
-pub ruleset plan-cases = (plan-fault, plan-small, plan-few, plan-rows, plan-bounded, plan-done)
+      -- ---- written
+
+      pub plan-done : {place bytes : ℕ} {lent′ : List ℕ} → bytes ≡ length (boardFor (turnsIn (r .turns) t)) → lent′ ≡ puts lent 0 (boardFor (turnsIn (r .turns) t)) → place ≡ stepsPlace (r .turns) → place + 4 * r .turns ≤ length lent
+          → planned (record { refusal = 0; bytes = bytes }) lent′ ≡ planOf s lent
+      unfolding planOf planCauses plannedBoard
+      plan-done b l p h =
+          let T = turnsIn (turnCount s) (tableOf s) in
+          let c : firstOf (planCauses s (length lent)) ≡ 0 = enough (sheetCauses s) (length lent) _ (sheet-numbered s) sound (omega (arith, p, count)) in
+          let room : length (boardFor T) ≤ length lent = omega (arith, board-most T, count-is (turnCount s) (tableOf s), count, p, h) in
+          rw (b, l, turns-are, c, puts-front (boardFor T) lent room)
+
+pub ruleset plan-cases = (plan-ample, plan-fault, plan-small, plan-few, plan-rows, plan-bounded, plan-done)

@@ -24,7 +24,7 @@ use Rattle.turns.proofs.Ranges.{inside-iff}
 use Rattle.sheet.specs.declared.record.Cursor.{Cursor}
 use Rattle.sheet.specs.Record.{recordCauses, cursorAfter, firstCursor}
 use Rattle.sheet.specs.Read.{headerBytes, mostGroomers, mostSlopes, mostTurns, countsIn, turnCount, countCauses, headerCauses, recordsCauses, turnsFrom, sheetCauses, turnsOf, readCauses, readOf}
-use Rattle.sheet.specs.Write.{headerFor}
+use Rattle.sheet.specs.Layout.{headerFor}
 use Rattle.sheet.specs.Accepted.{Records, none, more, SheetFor, Accepted, SheetCause}
 use Rattle.sheet.proofs.Scans.{record-numbered}
 use Rattle.sheet.proofs.Readings.{header-numbered, sheet-numbered, sheet-by-records, turnsFrom-length}

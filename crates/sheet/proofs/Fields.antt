@@ -20,7 +20,7 @@ use Rattle.turns.specs.Turn.{InRange}
 use Rattle.turns.proofs.Ranges.{fine-iff}
 use Rattle.sheet.specs.declared.record.Cursor.{Cursor}
 use Rattle.sheet.specs.Record.{widthOf, field, turnFrom, badMapFor, mapAt, endAt, turnAt, recordCauses}
-use Rattle.sheet.specs.Write.{fieldBytes, recordOf}
+use Rattle.sheet.specs.Layout.{fieldBytes, recordOf}
 use Rattle.sheet.specs.Accepted.{GoodMap, Carried}
 use Rattle.sheet.proofs.Maps.{good-map-iff}
 use Rattle.sheet.proofs.Records.{field-carried}

@@ -9,12 +9,4 @@ pub mod Causes
 pub mod ReadCauses
 pub mod Tables
 pub mod Unrefused
-pub mod WriteRecords
-pub mod Measures
-pub mod Writings
-pub mod WriteMaps
-pub mod Shortest
-pub mod RoundTrip
-pub mod WriteCauses
 pub mod Whole
-pub mod Ample

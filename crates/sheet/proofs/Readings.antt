@@ -1,25 +1,27 @@
 -- The reader's answer by its cases, each premise in the form in which the code's calls and tests leave it. Assumes nothing.
 use Prim.Native.Nat.{ℕ, zero, suc, _*_, _<_, _≤_}
 use mathlib.Core.Path.{_≡_, refl, sym, _∙_, ap}
-use mathlib.Core.Bool.{Bool, true, false, cond}
-use mathlib.Core.List.{List, [], _∷_}
+use mathlib.Core.Bool.{Bool, true, false, not, cond}
+use mathlib.Core.List.{List, [], _∷_, _++_}
 use native.Mathlib.Omega.{arith}
-use lib.ListN.{length}
-use lib.Dec.{eqb}
-use borrow.Author.Tests.{ne-eqb, lt-ltb, le-ltb, eqb-true, eqb-false}
-use Rattle.refusal.specs.Number.{bufferTooSmall}
+use lib.ListN.{length, drop}
+use lib.Dec.{ltb, eqb}
+use borrow.Author.Tests.{eq-eqb, ne-eqb, eqb-true, eqb-false, ltb-false}
+use Rattle.refusal.specs.Number.{truncated, badMagic, badCounts, tooManyTurns}
 use Rattle.refusal.specs.Cause.{_when_, firstOf}
-use Rattle.refusal.proofs.Order.{numbered, numbered-append, first-stops, first-goes}
+use Rattle.refusal.proofs.Order.{numbered, numbered-append, first-stops, first-goes, clear-cons}
 use Rattle.wire.specs.Number.{puts}
+use Rattle.wire.specs.Mark.{sheetMark, opensWith}
 use Rattle.wire.proofs.Puts.{puts-front}
 use Rattle.turns.specs.declared.Turn.{Turn}
 use Rattle.turns.specs.declared.Counts.{Counts}
+use Rattle.turns.specs.Turn.{outsideRange}
 use Rattle.sheet.specs.declared.record.Cursor.{Cursor}
 use Rattle.sheet.specs.declared.reader.Header.{Header}
 use Rattle.sheet.specs.declared.reader.Header.the-variants.{Found, Refused}
 use Rattle.sheet.specs.declared.reader.ReadAnswer.{ReadAnswer}
 use Rattle.sheet.specs.Record.{recordCauses, cursorAfter, firstCursor}
-use Rattle.sheet.specs.Read.{countsIn, turnCount, countCauses, headerCauses, headerOf, recordsCauses, turnsFrom, rows, sheetCauses, turnsOf, tableOf, readCauses, outcome, refusedWith, readOf}
+use Rattle.sheet.specs.Read.{headerBytes, mostGroomers, mostSlopes, mostTurns, countsIn, turnCount, countCauses, headerCauses, headerOf, recordsCauses, turnsFrom, rows, sheetCauses, turnsOf, tableOf, refusedWith, answerOf}
 use Rattle.sheet.proofs.Scans.{record-numbered}
 
 -- ---- lengths
@@ -39,6 +41,16 @@ turnsFrom-length (suc k) s c = ap suc (turnsFrom-length k s (cursorAfter s c))
 pub header-numbered : (s : List ℕ) → numbered (headerCauses s) ≡ true
 unfolding headerCauses countCauses
 header-numbered s = refl
+
+-- a header with nothing wrong has no more turns than a sheet may have
+pub header-few : (s : List ℕ) → firstOf (headerCauses s) ≡ 0 → turnCount s ≤ mostTurns
+unfolding headerCauses countCauses
+header-few s e =
+    let p = clear-cons (truncated when ltb (length s) headerBytes) _ (omega arith) e in
+    let q = clear-cons (badMagic when not (opensWith sheetMark s)) _ (omega arith) (p .1) in
+    let r = clear-cons (badCounts when outsideRange (countsIn s .groomers) mostGroomers) _ (omega arith) (q .1) in
+    let t = clear-cons (badCounts when outsideRange (countsIn s .slopes) mostSlopes) _ (omega arith) (r .1) in
+    ltb-false mostTurns (turnCount s) (clear-cons (tooManyTurns when ltb mostTurns (turnCount s)) _ (omega arith) (t .1) .0)
 
 -- a header was found: nothing is wrong with it
 pub record Sound (s : List ℕ) (limits : Counts) (k : ℕ) : Type 0 where
@@ -86,33 +98,43 @@ module _ (s : List ℕ) where
 
 -- ---- the answer
 
-module _ (s lent : List ℕ) where
-  read-by-sheet : {x : ReadAnswer} (f : ℕ) → firstOf (sheetCauses s) ≡ f → (f ≡ 0 → ⊥) → x ≡ refusedWith f → outcome x lent ≡ readOf s lent
-  unfolding readOf readCauses
-  read-by-sheet f e z x = rw (x, first-stops (sheetCauses s) (bufferTooSmall when _ ∷ []) f e z, ne-eqb f 0 z)
+module _ (s : List ℕ) where
+  answer-refused : {x : ReadAnswer} (f : ℕ) → firstOf (sheetCauses s) ≡ f → (f ≡ 0 → ⊥) → x ≡ refusedWith f → x ≡ answerOf s
+  unfolding answerOf
+  answer-refused f e z x = x ∙ rw (e, ne-eqb f 0 z)
 
-  pub read-header : {h : Header} {f : ℕ} {x : ReadAnswer} → h ≡ Refused f → h ≡ headerOf s → x ≡ refusedWith f → outcome x lent ≡ readOf s lent
-  read-header {f = f} g e x = let n = header-refused s e g in read-by-sheet f (sheet-by-header s f (n .0) (n .1)) (n .1) x
+  module _ {h : Header} {f : ℕ} {x : ReadAnswer} (g : h ≡ Refused f) (e : h ≡ headerOf s) (x-is : x ≡ refusedWith f) where
+    pub answer-header : x ≡ answerOf s
+    answer-header = let n = header-refused s e g in answer-refused f (sheet-by-header s f (n .0) (n .1)) (n .1) x-is
 
-  module _ (limits : Counts) (k : ℕ) (c : Cursor) {h : Header} {f : ℕ} (g : h ≡ Found limits k) (e : h ≡ headerOf s) (a : c ≡ firstCursor) (b : f ≡ firstOf (recordsCauses k s limits c)) where
-    scans : firstOf (sheetCauses s) ≡ f
-    scans = let n = header-found s e g in sheet-by-records s (n .faultless) ∙ rw (← n .limits-are, ← n .count-is, ← a, ← b)
+    -- where something is refused nothing is said of the table
+    pub header-stops : {t u : List ℕ} → x .refusal ≡ 0 → t ≡ u
+    header-stops z = absurd (header-refused s e g .1 (sym (ap (λ (y : ReadAnswer). y .refusal) x-is) ∙ z))
 
-    pub read-fault : {x : ReadAnswer} → (f ≡ 0 → ⊥) → x ≡ refusedWith f → outcome x lent ≡ readOf s lent
-    read-fault z x = read-by-sheet f scans z x
+  module _ (limits : Counts) (k : ℕ) (c : Cursor) {h : Header} (g : h ≡ Found limits k) (e : h ≡ headerOf s) where
+    pub answer-room : {l : ℕ} → 2000 ≤ l → 5 * k ≤ l
+    answer-room m = let n = header-found s e g in omega (arith, n .count-is, header-few s (n .faultless))
 
-    pub read-small : {x : ReadAnswer} → f ≡ 0 → length lent < 5 * k → x ≡ refusedWith bufferTooSmall → outcome x lent ≡ readOf s lent
-    unfolding readOf readCauses firstOf
-    read-small z l x =
-        let n = header-found s e g in
-        rw (x, first-goes (sheetCauses s) (bufferTooSmall when _ ∷ []) (sheet-numbered s) (scans ∙ z), ← n .count-is, lt-ltb (length lent) (5 * k) l)
+    module _ {f : ℕ} (a : c ≡ firstCursor) (b : f ≡ firstOf (recordsCauses k s limits c)) where
+      scans : firstOf (sheetCauses s) ≡ f
+      scans = let n = header-found s e g in sheet-by-records s (n .faultless) ∙ rw (← n .limits-are, ← n .count-is, ← a, ← b)
 
-    pub read-done : {t : List ℕ} → f ≡ 0 → 5 * k ≤ length lent → t ≡ puts lent 0 (rows (turnsFrom k s c))
-        → outcome (record { refusal = 0; groomers = limits .groomers; slopes = limits .slopes; turns = k }) t ≡ readOf s lent
-    unfolding readOf readCauses firstOf tableOf turnsOf
-    read-done z l t =
-        let n = header-found s e g in
-        let w : length (rows (turnsFrom k s c)) ≤ length lent = omega (arith, rows-length (turnsFrom k s c), turnsFrom-length k s c) in
-        rw (t, puts-front (rows (turnsFrom k s c)) lent w, a, n .limits-are, first-goes (sheetCauses s) (bufferTooSmall when _ ∷ []) (sheet-numbered s) (scans ∙ z), ← n .count-is, le-ltb (length lent) (5 * k) l)
+      pub answer-fault : {x : ReadAnswer} → (f ≡ 0 → ⊥) → x ≡ refusedWith f → x ≡ answerOf s
+      answer-fault z x = answer-refused f scans z x
 
-pub ruleset read-cases = (read-header, read-fault, read-small, read-done)
+      pub answer-done : f ≡ 0 → record { refusal = 0; groomers = limits .groomers; slopes = limits .slopes; turns = k } ≡ answerOf s
+      unfolding answerOf
+      answer-done z = let n = header-found s e g in rw (n .limits-are, n .count-is, eq-eqb (firstOf (sheetCauses s)) 0 (scans ∙ z))
+
+      pub table-done : (lent : List ℕ) {t : List ℕ} → (f ≡ 0 → t ≡ puts lent 0 (rows (turnsFrom k s c))) → 2000 ≤ length lent → f ≡ 0 → t ≡ tableOf s ++ drop (length (tableOf s)) lent
+      unfolding tableOf turnsOf
+      table-done lent p m z =
+          let n = header-found s e g in
+          let w : length (rows (turnsFrom k s c)) ≤ length lent = omega (arith, rows-length (turnsFrom k s c), turnsFrom-length k s c, answer-room m) in
+          p z ∙ puts-front (rows (turnsFrom k s c)) lent w ∙ rw (a, n .count-is)
+
+-- where something is refused nothing is said of the table
+pub fault-stops : {f : ℕ} {x : ReadAnswer} {t u : List ℕ} → (f ≡ 0 → ⊥) → x ≡ refusedWith f → x .refusal ≡ 0 → t ≡ u
+fault-stops n x z = absurd (n (sym (ap (λ (y : ReadAnswer). y .refusal) x) ∙ z))
+
+pub ruleset answer-cases = (answer-header, header-stops, answer-room, answer-fault, fault-stops, answer-done, table-done)

@@ -1,4 +1,4 @@
--- Records one after another: what the loops keep as they go on. Assumes nothing.
+-- Records one after another: what the loop keeps as it goes on. Assumes nothing.
 use Prim.Native.Nat.{ℕ, zero, suc, _+_, _-_, _<_, _≤_}
 use mathlib.Core.Path.{_≡_, refl, sym, _∙_, ap}
 use mathlib.Core.Bool.{Bool, true, false, cond}
@@ -74,6 +74,10 @@ module _ (k : ℕ) (s : List ℕ) (limits : Counts) (c : Cursor) where
       let n = next-refused s limits c e g in
       sym (first-stops (recordCauses s limits c) (recordsCauses (k - 1) s limits (cursorAfter s c)) f (sym (n .0)) (n .1)) ∙ sym (ap firstOf (causes-more k s limits c h)) ∙ i
 
+  -- where a record is refused nothing is said of the table
+  pub scan-stops : {r : Next} {f : ℕ} {l a : List ℕ} → r ≡ Refused f → r ≡ nextOf s limits c → f ≡ 0 → l ≡ a
+  scan-stops g e z = absurd (next-refused s limits c e g .1 z)
+
   pub scan-trailing : {a : ℕ} → k ≤ 0 → c .at < length s → firstOf (recordsCauses k s limits c) ≡ a → trailingBytes ≡ a
   unfolding recordsCauses firstOf
   scan-trailing h l i = let z : k ≡ 0 = omega arith in rw (z, lt-ltb (c .at) (length s) l) at i
@@ -82,24 +86,19 @@ module _ (k : ℕ) (s : List ℕ) (limits : Counts) (c : Cursor) where
   unfolding recordsCauses firstOf
   scan-done h l i = let z : k ≡ 0 = omega arith in rw (z, le-ltb (c .at) (length s) l) at i
 
-pub ruleset scan-cases = (scan-read, scan-refused, scan-trailing, scan-done)
-
 -- ---- the table
 
 module _ (k : ℕ) (s : List ℕ) (limits : Counts) (c : Cursor) (at : ℕ) (l : List ℕ) where
-  pub fill-read : {r : Next} {t : Turn} {d : Cursor} {l′ a : List ℕ} → r ≡ Read t d → r ≡ nextOf s limits c → 0 < k → l′ ≡ puts l at (rowOf t)
+  pub scan-row : {r : Next} {t : Turn} {d : Cursor} {l′ a : List ℕ} → r ≡ Read t d → r ≡ nextOf s limits c → 0 < k → l′ ≡ puts l at (rowOf t)
       → puts l at (rows (turnsFrom k s c)) ≡ a → puts l′ (at + 5) (rows (turnsFrom (k - 1) s d)) ≡ a
   unfolding rows
-  fill-read {t = t} {d = d} g e h p i =
+  scan-row {t = t} {d = d} g e h p i =
       let f = next-fine s limits c e g in
       let q : turnsFrom k s c ≡ t ∷ turnsFrom (k - 1) s d = turns-more k s c h ∙ rw (f .turn-is, f .cursor-is) in
       rw p (puts-append (rowOf t) (rows (turnsFrom (k - 1) s d)) l at (at + 5) (omega arith) ∙ ap (λ (ts : List Turn). puts l at (rows ts)) (sym q) ∙ i)
 
-  pub fill-refused : {r : Next} {f : ℕ} {a : List ℕ} → r ≡ Refused f → r ≡ nextOf s limits c → 0 < k → firstOf (recordsCauses k s limits c) ≡ 0 → l ≡ a
-  fill-refused g e h i = absurd (next-refused s limits c e g .1 (scan-refused k s limits c g e h i))
-
-  pub fill-done : {a : List ℕ} → k ≤ 0 → puts l at (rows (turnsFrom k s c)) ≡ a → l ≡ a
+  pub scan-table : {a : List ℕ} → k ≤ 0 → puts l at (rows (turnsFrom k s c)) ≡ a → l ≡ a
   unfolding turnsFrom rows
-  fill-done h i = let z : k ≡ 0 = omega arith in rw z at i
+  scan-table h i = let z : k ≡ 0 = omega arith in rw z at i
 
-pub ruleset fill-cases = (fill-read, fill-refused, fill-done, scan-read)
+pub ruleset scan-cases = (scan-read, scan-refused, scan-stops, scan-trailing, scan-done, scan-row, scan-table)

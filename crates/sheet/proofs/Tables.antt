@@ -11,7 +11,7 @@ use Rattle.turns.specs.declared.Turn.{Turn}
 use Rattle.turns.specs.declared.Counts.{Counts}
 use Rattle.turns.specs.Turn.{rowOf, InRange}
 use Rattle.sheet.specs.Record.{firstCursor}
-use Rattle.sheet.specs.Read.{countsIn, turnCount, turnsFrom, rows, turnsOf, tableOf}
+use Rattle.sheet.specs.Read.{countsIn, turnCount, turnsFrom, rows, turnIn, turnsOf, tableOf}
 use Rattle.sheet.specs.Accepted.{Records, none, more, Accepted, cursorOf, turnOf}
 use Rattle.sheet.proofs.Readings.{rows-length, turnsFrom-length}
 use Rattle.sheet.proofs.Accepting.{sheet-reads}
@@ -48,17 +48,6 @@ module _ (s : List ℕ) where
 
 -- ---- the table
 
--- the five numbers of row i, as a turn
-abbrev pub rowTurn : List ℕ → ℕ → Turn
-rowTurn table i =
-    record {
-      slope = getD table (i * 5) 0;
-      groomer = getD table (i * 5 + 1) 0;
-      start = getD table (i * 5 + 2) 0;
-      length = getD table (i * 5 + 3) 0;
-      worth = getD table (i * 5 + 4) 0;
-    }
-
 row-at : (ts : List Turn) (d : Turn) (i k : ℕ) → i < length ts → k < 5 → getD (rows ts) (i * 5 + k) 0 ≡ getD (rowOf (getD ts i d)) k 0
 unfolding rows
 row-at [] d i k h l = absurd (omega arith)
@@ -74,11 +63,11 @@ module _ (s : List ℕ) where
   unfolding tableOf
   table-at i k h l = row-at (turnsOf s) (turnOf s i) i k (omega (arith, turns-length s)) l ∙ ap (λ (t : Turn). getD (rowOf t) k 0) (turns-at s (turnOf s i) i h)
 
-  pub table-row : (i : ℕ) → i < turnCount s → rowTurn (tableOf s) i ≡ turnOf s i
+  pub table-row : (i : ℕ) → i < turnCount s → turnIn (tableOf s) i ≡ turnOf s i
   table-row i h =
       let slope = ap (λ (j : ℕ). getD (tableOf s) j 0) (sym (add-zero (i * 5))) ∙ table-at i 0 h (omega arith) in
       λ j. record { slope = slope j; groomer = table-at i 1 h (omega arith) j; start = table-at i 2 h (omega arith) j; length = table-at i 3 h (omega arith) j; worth = table-at i 4 h (omega arith) j }
 
   -- so each of the five numbers is in its range
-  pub table-in-range : Accepted s → (i : ℕ) → i < turnCount s → InRange (countsIn s) (rowTurn (tableOf s) i)
+  pub table-in-range : Accepted s → (i : ℕ) → i < turnCount s → InRange (countsIn s) (turnIn (tableOf s) i)
   table-in-range a i h = rw (table-row i h) (accepted-in-range s a i h)

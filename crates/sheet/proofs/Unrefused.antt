@@ -6,15 +6,15 @@ use mathlib.Core.List.{List}
 use native.Mathlib.Omega.{arith}
 use native.Mathlib.Decide.{decLt, ℕ-discrete}
 use Rattle.refusal.specs.Cause.{firstOf}
-use Rattle.refusal.proofs.Order.{none-given}
+use Rattle.refusal.proofs.Order.{none-given, clear-append}
 use Rattle.model.specs.Turns.{turnsIn, RowsBounded}
 use Rattle.turns.specs.declared.Turn.{Turn}
 use Rattle.turns.specs.Turn.{InRange, shiftMinutes, mostWorth}
-use Rattle.sheet.specs.Read.{countsIn, turnCount, tableOf, sheetCauses, mostGroomers, mostSlopes, mostTurns}
-use Rattle.sheet.specs.Accepted.{SheetCause, groomer-count, slope-count, turn-count, slope, groomer, time, worth, turnOf, Outside}
+use Rattle.sheet.specs.Read.{mostGroomers, mostSlopes, mostTurns, countsIn, turnCount, headerCauses, turnIn, sheetCauses, tableOf}
+use Rattle.sheet.specs.Accepted.{SheetCause, groomer-count, slope-count, slope, groomer, time, worth, turnOf, Outside}
 use Rattle.sheet.proofs.Causes.{cause-there}
-use Rattle.sheet.proofs.Readings.{sheet-numbered}
-use Rattle.sheet.proofs.Tables.{rowTurn, table-row}
+use Rattle.sheet.proofs.Readings.{header-numbered, header-few, sheet-numbered}
+use Rattle.sheet.proofs.Tables.{table-row}
 
 inside : (x top : ℕ) → (Outside x top → ⊥) → (1 ≤ x) × (x ≤ top)
 inside x top n = go (ℕ-discrete x 0) (decLt top x)
@@ -35,11 +35,8 @@ module _ (s : List ℕ) (e : firstOf (sheetCauses s) ≡ 0) where
   few-slopes = inside (countsIn s .slopes) mostSlopes (λ o. no-cause (slope-count o)) .1
 
   pub few-turns : turnCount s ≤ mostTurns
-  few-turns = go (decLt mostTurns (turnCount s))
-    where
-      go : Dec (mostTurns < turnCount s) → turnCount s ≤ mostTurns
-      go (yes l) = absurd (no-cause (turn-count l))
-      go (no l) = omega arith
+  unfolding sheetCauses
+  few-turns = header-few s (clear-append (headerCauses s) _ (header-numbered s) e .0)
 
   pub turn-in-range : (i : ℕ) → i < turnCount s → InRange (countsIn s) (turnOf s i)
   turn-in-range i h =
@@ -54,7 +51,7 @@ module _ (s : List ℕ) (e : firstOf (sheetCauses s) ≡ 0) where
       timely (no z) (yes l) = absurd (no-cause (time i h (inr l)))
       timely (no z) (no l) = (omega arith, omega arith)
 
-  pub row-in-range : (i : ℕ) → i < turnCount s → InRange (countsIn s) (rowTurn (tableOf s) i)
+  pub row-in-range : (i : ℕ) → i < turnCount s → InRange (countsIn s) (turnIn (tableOf s) i)
   row-in-range i h = rw (table-row s i h) (turn-in-range i h)
 
   pub rows-bounded : RowsBounded (turnCount s) (tableOf s)

@@ -13,7 +13,7 @@ use Rattle.turns.specs.Turn.{InRange, shiftMinutes, mostWorth}
 use Rattle.sheet.specs.declared.record.Cursor.{Cursor}
 use Rattle.sheet.specs.Record.{fullMap, widthOf, mapAt, turnAt, cursorAfter, firstCursor}
 use Rattle.sheet.specs.Read.{headerBytes, mostGroomers, mostSlopes, mostTurns, countsIn, turnCount}
-use Rattle.sheet.specs.Write.{recordOf, headerFor}
+use Rattle.sheet.specs.Layout.{recordOf, headerFor}
 
 -- ---- accepted
 

@@ -1,6 +1,4 @@
 pub mod Record
 pub mod Read
-pub mod Write
-pub mod Measure
+pub mod Layout
 pub mod Accepted
-pub mod WriteCause

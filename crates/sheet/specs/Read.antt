@@ -1,8 +1,8 @@
 -- A whole sheet, read. Assumes nothing.
-use Prim.Native.Nat.{ℕ, zero, suc, _*_}
+use Prim.Native.Nat.{ℕ, zero, suc, _+_, _*_}
 use mathlib.Core.List.{List, [], _∷_, _++_}
 use mathlib.Core.Bool.{not, cond}
-use lib.ListN.{length, drop}
+use lib.ListN.{length, getD, drop}
 use lib.Dec.{ltb, eqb}
 use Rattle.refusal.specs.Number.{truncated, badMagic, badCounts, tooManyTurns, trailingBytes, bufferTooSmall}
 use Rattle.refusal.specs.Cause.{Cause, _when_, firstOf}
@@ -76,6 +76,17 @@ unfoldable pub rows : List Turn → List ℕ
 rows [] = []
 rows (t ∷ ts) = rowOf t ++ rows ts
 
+-- turn i of a table: its five numbers
+abbrev pub turnIn : List ℕ → ℕ → Turn
+turnIn table i =
+    record {
+      slope = getD table (i * 5) 0;
+      groomer = getD table (i * 5 + 1) 0;
+      start = getD table (i * 5 + 2) 0;
+      length = getD table (i * 5 + 3) 0;
+      worth = getD table (i * 5 + 4) 0;
+    }
+
 -- ---- a sheet: what may be wrong with it, its turns, its table
 
 unfoldable pub sheetCauses : List ℕ → List Cause
@@ -104,8 +115,13 @@ outcome answer table = record { answer = answer; table = table }
 abbrev pub refusedWith : ℕ → ReadAnswer
 refusedWith k = record { refusal = k; groomers = 0; slopes = 0; turns = 0 }
 
+-- the answer of a sheet that is not refused: its header's counts
 abbrev pub readAnswer : List ℕ → ReadAnswer
 readAnswer s = record { refusal = 0; groomers = countsIn s .groomers; slopes = countsIn s .slopes; turns = turnCount s }
+
+-- the answer where the table has places for every sheet: no cause but the sheet's own
+unfoldable pub answerOf : List ℕ → ReadAnswer
+answerOf s = let f = firstOf (sheetCauses s) in cond (eqb f 0) (readAnswer s) (refusedWith f)
 
 -- on success the table, then what was there; on a refusal all as before
 unfoldable pub readOf : List ℕ → List ℕ → Outcome

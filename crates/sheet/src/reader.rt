@@ -1,10 +1,11 @@
 // Reading a whole sheet.
 ghost use mathlib.Core.Path.{_≡_};
 ghost use Prim.Native.Nat.{_+_, _*_, _≤_, _<_};
-ghost use lib.ListN.{length};
+ghost use mathlib.Core.List.{_++_};
+ghost use lib.ListN.{length, drop};
 ghost use Rattle.refusal.specs.Cause.{firstOf};
 ghost use Rattle.sheet.specs.Record.{firstCursor};
-ghost use Rattle.sheet.specs.Read.{headerBytes, countsHeader, headerOf, recordsCauses, turnsFrom, rows, refusedWith, readOf, outcome};
+ghost use Rattle.sheet.specs.Read.{headerBytes, countsHeader, headerOf, recordsCauses, turnsFrom, rows, tableOf, refusedWith, answerOf, readOf, outcome};
 ghost use Rattle.wire.specs.Number.{puts};
 ghost use Rattle.turns.specs.Turn.{rowOf};
 use super::record::Cursor;
@@ -91,31 +92,6 @@ pub fn first_cursor() -> Cursor
     }
 }
 
-// The first cause to refuse the next n records or what follows them, 0 if none.
-fn scan(s: &[u8], n: u16, limits: Counts, from: Cursor) -> u8
-    ensures { λ r. ⌜ r ≡ firstOf (recordsCauses n (now (s .entry)) limits from) ⌝ }
-{
-    let mut c = from;
-    let mut left = n;
-    while 0 < left {
-        match c.next(s, limits) {
-            Next::Read(_, next) => {
-                c = next;
-                left -= 1;
-            }
-            Next::Refused(fault) => {
-                return fault;
-            }
-        }
-    }
-    let at = c.at;
-    if at < s.len() {
-        refusal::TRAILING_BYTES
-    } else {
-        0
-    }
-}
-
 // A turn's five numbers from a place on.
 fn put_row(table: &mut [u16], at: usize, t: Turn)
     requires { ⌜ at + 5 ≤ length (now table) ⌝ }
@@ -132,10 +108,11 @@ fn put_row(table: &mut [u16], at: usize, t: Turn)
     table[a4] = t.worth;
 }
 
-// The turns of the next n records, all of them whole and right, at the front of the table.
-fn fill(s: &[u8], n: u16, limits: Counts, from: Cursor, table: &mut [u16])
-    requires { ⌜ (5 * n ≤ length (now table)) × (firstOf (recordsCauses n (now s) limits from) ≡ 0) ⌝ }
-    ensures { λ _. ⌜ now (table .exit) ≡ puts (now (table .entry)) 0 (rows (turnsFrom n (now (s .entry)) from)) ⌝ }
+// Goes through the next n records and puts each turn's numbers into the table as it is read. The
+// first cause to refuse a record or what follows them, 0 if none.
+fn read_records(s: &[u8], n: u16, limits: Counts, from: Cursor, table: &mut [u16]) -> u8
+    requires { ⌜ 5 * n ≤ length (now table) ⌝ }
+    ensures { λ r. ⌜ (r ≡ firstOf (recordsCauses n (now (s .entry)) limits from)) × (r ≡ 0 → now (table .exit) ≡ puts (now (table .entry)) 0 (rows (turnsFrom n (now (s .entry)) from))) ⌝ }
 {
     let mut c = from;
     let mut left = n;
@@ -148,10 +125,16 @@ fn fill(s: &[u8], n: u16, limits: Counts, from: Cursor, table: &mut [u16])
                 left -= 1;
                 at += 5;
             }
-            Next::Refused(_) => {
-                return;
+            Next::Refused(fault) => {
+                return fault;
             }
         }
+    }
+    let end = c.at;
+    if end < s.len() {
+        refusal::TRAILING_BYTES
+    } else {
+        0
     }
 }
 
@@ -166,23 +149,21 @@ fn refused(k: u8) -> ReadAnswer
     }
 }
 
-// Reads any bytes as a sheet into any lent table.
-pub fn read(s: &[u8], table: &mut [u16]) -> ReadAnswer
-    ensures { λ r. ⌜ outcome r (now (table .exit)) ≡ readOf (now (s .entry)) (now (table .entry)) ⌝ }
+// Reads any bytes as a sheet into a table with places for every sheet. It is written as the records
+// are read: after a refusal it holds anything, and only its length is as before.
+pub fn read_table(s: &[u8], table: &mut [u16]) -> ReadAnswer
+    requires { ⌜ 2000 ≤ length (now table) ⌝ }
+    ensures { λ r. ⌜ (r ≡ answerOf (now (s .entry))) × (r .refusal ≡ 0 → now (table .exit) ≡ tableOf (now (s .entry)) ++ drop (length (tableOf (now (s .entry)))) (now (table .entry))) ⌝ }
 {
     let h = read_header(s);
     match h {
         Header::Refused(fault) => refused(fault),
         Header::Found(limits, n) => {
             let c = first_cursor();
-            let fault = scan(s, n, limits, c);
+            let fault = read_records(s, n, limits, c, &mut *table);
             if fault != 0 {
                 return refused(fault);
             }
-            if table.len() < 5 * (n as usize) {
-                return refused(refusal::BUFFER_TOO_SMALL);
-            }
-            fill(s, n, limits, c, &mut *table);
             ReadAnswer {
                 refusal: 0,
                 groomers: limits.groomers,
@@ -191,4 +172,34 @@ pub fn read(s: &[u8], table: &mut [u16]) -> ReadAnswer
             }
         }
     }
+}
+
+// Numbers copied to the front of a table.
+fn put_front(table: &mut [u16], numbers: &[u16])
+    requires { ⌜ length (now numbers) ≤ length (now table) ⌝ }
+    ensures { λ _. ⌜ now (table .exit) ≡ puts (now (table .entry)) 0 (now (numbers .entry)) ⌝ }
+{
+    let mut i = 0;
+    while i < numbers.len() {
+        table[i] = numbers[i];
+        i += 1;
+    }
+}
+
+// Reads any bytes as a sheet into any lent table. Whether the last record is right is known only at
+// the end, so the turns go into a table of its own first: the lent one is not touched on a refusal.
+pub fn read(s: &[u8], table: &mut [u16]) -> ReadAnswer
+    ensures { λ r. ⌜ outcome r (now (table .exit)) ≡ readOf (now (s .entry)) (now (table .entry)) ⌝ }
+{
+    let mut own = [0u16; 2000];
+    let r = read_table(s, &mut own);
+    if r.refusal != 0 {
+        return r;
+    }
+    let end = 5 * (r.turns as usize);
+    if table.len() < end {
+        return refused(refusal::BUFFER_TOO_SMALL);
+    }
+    put_front(&mut *table, &own[..end]);
+    r
 }

@@ -25,8 +25,8 @@ pub enum Next {
 pub fn width(m: u8) -> usize
     ensures { λ r. ⌜ r ≡ widthOf m ⌝ }
 {
-    let w = m % 2 + m / 2 % 2 + 2 * (m / 4 % 2) + 2 * (m / 8 % 2) + 2 * (m / 16 % 2);
-    w as usize
+    let w = m as usize;
+    w % 2 + w / 2 % 2 + 2 * (w / 4 % 2) + 2 * (w / 8 % 2) + 2 * (w / 16 % 2)
 }
 
 // A one-byte field where its bit stands, else the value before.
@@ -50,21 +50,17 @@ fn turn_from(s: &[u8], at: usize, m: u8, old: Turn) -> Turn
     requires { ⌜ at + widthOf m ≤ length (now s) ⌝ }
     ensures { λ r. ⌜ r ≡ turnFrom (now (s .entry)) at m old ⌝ }
 {
-    let b0 = m % 2;
-    let b1 = m / 2 % 2;
-    let b2 = m / 4 % 2;
-    let b3 = m / 8 % 2;
-    let b4 = m / 16 % 2;
-    let p1 = at + b0 as usize;
-    let p2 = p1 + b1 as usize;
-    let p3 = p2 + 2 * (b2 as usize);
-    let p4 = p3 + 2 * (b3 as usize);
+    let w = m as usize;
+    let p1 = at + w % 2;
+    let p2 = p1 + w / 2 % 2;
+    let p3 = p2 + 2 * (w / 4 % 2);
+    let p4 = p3 + 2 * (w / 8 % 2);
     Turn {
-        slope: byte_field(s, at, b0, old.slope),
-        groomer: byte_field(s, p1, b1, old.groomer),
-        start: word_field(s, p2, b2, old.start),
-        length: word_field(s, p3, b3, old.length),
-        worth: word_field(s, p4, b4, old.worth),
+        slope: byte_field(s, at, m % 2, old.slope),
+        groomer: byte_field(s, p1, m / 2 % 2, old.groomer),
+        start: word_field(s, p2, m / 4 % 2, old.start),
+        length: word_field(s, p3, m / 8 % 2, old.length),
+        worth: word_field(s, p4, m / 16 % 2, old.worth),
     }
 }
 

@@ -2,7 +2,7 @@
 ghost use mathlib.Core.Path.{_≡_};
 ghost use lib.ListN.{take, drop};
 ghost use Rattle.sheet.specs.Read.{readOf, outcome};
-ghost use Rattle.sheet.specs.Write.{countsOf, writeOf, written};
+ghost use Rattle.writer.specs.Write.{countsOf, writeOf, written};
 ghost use Rattle.board.specs.Open.{openOf, stepsPart};
 ghost use Rattle.audit.specs.Check.{checkOf};
 ghost use Rattle.planner.specs.Answer.{planned};
@@ -11,7 +11,7 @@ ghost use Rattle.slopeboard.specs.Part.{stepsPartAt};
 use audit::CheckAnswer;
 use planner::PlanAnswer;
 use sheet::ReadAnswer;
-use sheet::WriteAnswer;
+use writer::WriteAnswer;
 
 // A part of the caller's own bytes: where it starts, and its length.
 #[repr(C)]
@@ -36,7 +36,7 @@ pub extern "C" fn slopeboard_write(
 ) -> WriteAnswer
     ensures { λ r. ⌜ written r (now (bytes .exit)) ≡ writeOf (countsOf groomers slopes) (now (table .entry)) (now (bytes .entry)) ⌝ }
 {
-    sheet::write(groomers, slopes, table, &mut *bytes)
+    writer::write(groomers, slopes, table, &mut *bytes)
 }
 
 #[no_mangle]

@@ -1,23 +1,22 @@
 use mathlib.Core.Path.{sym}
 use native.Mathlib.Omega.{arith}
-use lib.Dec.{lit≤}
 use Rattle.sheet.proofs.Whole.{whole-room, whole-few}
 use Rattle.audit.proofs.Checks.{check-sheet, check-rows, check-bounded, check-board, check-passed, passed-header}
 use borrow.Author.Needs.{needs}
 use Rattle.audit.proofs.judge.check.Statement.{statement}
 use Rattle.audit.proofs.judge.check.Tie as tie
 
-slice-aggregate-read : tie.Need-slice-aggregate-read
-slice-aggregate-read c = search needs
+slice-aggregate-read-table : tie.Need-slice-aggregate-read-table
+slice-aggregate-read-table c = search needs
 
-read-requires : tie.Need-read-requires
-read-requires c κs = search needs
+read-table-requires : tie.Need-read-table-requires
+read-table-requires c κs = search needs
 
 refused-requires : tie.Need-refused-requires
 refused-requires c κs = search needs
 
 returns : tie.Need-returns
-returns c = check-sheet _ _ _ _ _ (c .before .before .before .before .read .ensures) (lit≤ tt) (c .before .if1 .taken) (c .refused .ensures)
+returns c = check-sheet _ _ _ _ _ (c .before .before .before .before .read-table .ensures) (c .before .if1 .taken) (c .refused .ensures)
 
 cast-end : tie.Need-cast-end
 cast-end c = search needs
@@ -26,19 +25,19 @@ mul-end : tie.Need-mul-end
 mul-end c = search needs
 
 array-share-prefix-table : tie.Need-array-share-prefix-table
-array-share-prefix-table c = whole-room _ _ _ _ (c .before .before .before .read .ensures) (lit≤ tt) (c .if1 .left)
+array-share-prefix-table c = whole-room _ (c .before .before .before .read-table .ensures .0) (c .if1 .left) _ (c .before .before .before .read-table .ensures .1)
 
 slice-aggregate-board-fault : tie.Need-slice-aggregate-board-fault
-slice-aggregate-board-fault c = sym (check-rows _ _ _ _ (c .before .before .before .before .read .ensures) (lit≤ tt) (c .before .if1 .left))
+slice-aggregate-board-fault c = sym (check-rows _ _ _ _ (c .before .before .before .before .read-table .ensures) (c .before .if1 .left))
 
 board-fault-requires : tie.Need-board-fault-requires
-board-fault-requires c κs = (whole-few _ _ _ _ (c .before .before .before .before .read .ensures) (lit≤ tt) (c .before .if1 .left), check-rows _ _ _ _ (c .before .before .before .before .read .ensures) (lit≤ tt) (c .before .if1 .left), check-bounded _ _ _ _ (c .before .before .before .before .read .ensures) (lit≤ tt) (c .before .if1 .left))
+board-fault-requires c κs = (whole-few _ (c .before .before .before .before .read-table .ensures .0) (c .before .if1 .left), check-rows _ _ _ _ (c .before .before .before .before .read-table .ensures) (c .before .if1 .left), check-bounded _ _ _ _ (c .before .before .before .before .read-table .ensures) (c .before .if1 .left))
 
 refused-requires-2 : tie.Need-refused-requires-2
 refused-requires-2 c κs = search needs
 
 returns-2 : tie.Need-returns-2
-returns-2 c = check-board _ _ _ _ _ (c .before .before .before .before .before .before .before .read .ensures) (lit≤ tt) (c .before .before .before .before .if1 .left) (c .before .before .board-fault .ensures) (c .before .if2 .taken) (c .refused2 .ensures)
+returns-2 c = check-board _ _ _ _ _ (c .before .before .before .before .before .before .before .read-table .ensures) (c .before .before .before .before .if1 .left) (c .before .before .board-fault .ensures) (c .before .if2 .taken) (c .refused2 .ensures)
 
 quad-at-requires : tie.Need-quad-at-requires
 quad-at-requires c κs = omega (arith, passed-header _ _ (c .before .board-fault .ensures) (c .if2 .left))
@@ -47,14 +46,14 @@ quad-at-requires-2 : tie.Need-quad-at-requires-2
 quad-at-requires-2 c κs = omega (arith, passed-header _ _ (c .before .before .board-fault .ensures) (c .before .if2 .left))
 
 returns-3 : tie.Need-returns-3
-returns-3 c = check-passed _ _ _ _ _ (c .before .before .before .before .before .before .before .before .read .ensures) (lit≤ tt) (c .before .before .before .before .before .if1 .left) (c .before .before .before .board-fault .ensures) (c .before .before .if2 .left) (c .before .quad-at .ensures) (c .quad-at2 .ensures)
+returns-3 c = check-passed _ _ _ _ _ (c .before .before .before .before .before .before .before .before .read-table .ensures) (c .before .before .before .before .before .if1 .left) (c .before .before .before .board-fault .ensures) (c .before .before .if2 .left) (c .before .quad-at .ensures) (c .quad-at2 .ensures)
 
 pub check-spec : {M : Type 1} → statement M
 check-spec =
     tie.close
     (tie.spec
-    slice-aggregate-read
-    read-requires
+    slice-aggregate-read-table
+    read-table-requires
     refused-requires
     returns
     cast-end

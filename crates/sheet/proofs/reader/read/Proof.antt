@@ -1,73 +1,58 @@
-use Rattle.sheet.proofs.Readings.{read-cases}
+use mathlib.Core.Path.{sym}
+use Rattle.sheet.proofs.Whole.{whole-room, whole-rows, read-done, read-cases}
 use borrow.Author.Needs.{needs}
 use Rattle.sheet.proofs.reader.read.Statement.{statement}
 use Rattle.sheet.proofs.reader.read.Tie as tie
 
-read-header-requires : tie.Need-read-header-requires
-read-header-requires c κs = search needs
+slice-aggregate-read-table : tie.Need-slice-aggregate-read-table
+slice-aggregate-read-table c = search needs
 
-enum-known-h : tie.Need-enum-known-h
-enum-known-h c = search needs
+read-table-requires : tie.Need-read-table-requires
+read-table-requires c κs = search needs
+
+returns : tie.Need-returns
+returns c = search (needs, read-cases)
+
+cast-end : tie.Need-cast-end
+cast-end c = search needs
+
+mul-end : tie.Need-mul-end
+mul-end c = search needs
 
 refused-requires : tie.Need-refused-requires
 refused-requires c κs = search needs
 
-enum-known-h-2 : tie.Need-enum-known-h-2
-enum-known-h-2 c = search needs
-
-first-cursor-requires : tie.Need-first-cursor-requires
-first-cursor-requires c κs = search needs
-
-scan-requires : tie.Need-scan-requires
-scan-requires c κs = search needs
-
-refused-requires-2 : tie.Need-refused-requires-2
-refused-requires-2 c κs = search needs
-
-returns : tie.Need-returns
-returns c = search read-cases
-
-cast-if2 : tie.Need-cast-if2
-cast-if2 c = search needs
-
-mul-if2 : tie.Need-mul-if2
-mul-if2 c = search needs
-
-refused-requires-3 : tie.Need-refused-requires-3
-refused-requires-3 c κs = search needs
-
 returns-2 : tie.Need-returns-2
-returns-2 c = search read-cases
+returns-2 c = search (needs, read-cases)
 
-fill-requires : tie.Need-fill-requires
-fill-requires c κs = search needs
+array-share-prefix-own : tie.Need-array-share-prefix-own
+array-share-prefix-own c = whole-room _ (c .before .before .before .before .before .before .read-table .ensures .0) (c .before .before .before .if1 .left) _ (c .before .before .before .before .before .before .read-table .ensures .1)
 
-returns-3 : tie.Need-returns-3
-returns-3 c = search read-cases
+slice-aggregate-put-front : tie.Need-slice-aggregate-put-front
+slice-aggregate-put-front c = sym (whole-rows _ (c .before .before .before .before .before .before .before .read-table .ensures .0) (c .before .before .before .before .if1 .left) _ (c .before .before .before .before .before .before .before .read-table .ensures .1))
+
+put-front-requires : tie.Need-put-front-requires
+put-front-requires c κs = rw (whole-rows _ (c .before .before .before .before .before .before .before .read-table .ensures .0) (c .before .before .before .before .if1 .left) _ (c .before .before .before .before .before .before .before .read-table .ensures .1)) (c .before .before .if2 .left)
 
 same-length : tie.Need-same-length
 same-length c = search needs
 
-returns-4 : tie.Need-returns-4
-returns-4 c = search read-cases
+returns-3 : tie.Need-returns-3
+returns-3 c = read-done _ _ (c .before .before .before .before .before .before .before .before .before .before .read-table .ensures .0) (c .before .before .before .before .before .before .before .if1 .left) _ (c .before .before .before .before .before .if2 .left) (c .before .before .before .before .before .before .before .before .before .before .read-table .ensures .1) (c .before .before .put-front .ensures)
 
 pub read-spec : {M : Type 1} → statement M
 read-spec =
     tie.close
     (tie.spec
-    read-header-requires
-    enum-known-h
-    refused-requires
-    enum-known-h-2
-    first-cursor-requires
-    scan-requires
-    refused-requires-2
+    slice-aggregate-read-table
+    read-table-requires
     returns
-    cast-if2
-    mul-if2
-    refused-requires-3
+    cast-end
+    mul-end
+    refused-requires
     returns-2
-    fill-requires
-    returns-3
+    array-share-prefix-own
+    slice-aggregate-put-front
+    put-front-requires
     same-length
-    returns-4)
+    returns-3)

@@ -3,29 +3,17 @@ use borrow.Author.Needs.{needs}
 use Rattle.sheet.proofs.record.turn_from.Statement.{statement}
 use Rattle.sheet.proofs.record.turn_from.Tie as tie
 
-cast-p1 : tie.Need-cast-p1
-cast-p1 c = search needs
-
 add-p1 : tie.Need-add-p1
 add-p1 c = search needs
 
-cast-p2 : tie.Need-cast-p2
-cast-p2 c = search needs
-
 add-p2 : tie.Need-add-p2
 add-p2 c = search needs
-
-cast-p3 : tie.Need-cast-p3
-cast-p3 c = search needs
 
 mul-p3 : tie.Need-mul-p3
 mul-p3 c = search needs
 
 add-p3 : tie.Need-add-p3
 add-p3 c = search needs
-
-cast-p4 : tie.Need-cast-p4
-cast-p4 c = search needs
 
 mul-p4 : tie.Need-mul-p4
 mul-p4 c = search needs
@@ -56,14 +44,10 @@ pub turn-from-spec : {M : Type 1} → statement M
 turn-from-spec =
     tie.close
     (tie.spec
-    cast-p1
     add-p1
-    cast-p2
     add-p2
-    cast-p3
     mul-p3
     add-p3
-    cast-p4
     mul-p4
     add-p4
     byte-field-requires

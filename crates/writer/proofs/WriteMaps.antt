@@ -1,0 +1,131 @@
+-- The writer's map: what its bits say, and that no map for the same turn has fewer. Assumes nothing.
+use Prim.Native.Nat.{ℕ, _+_, _*_, _/_, _%_, _≤_}
+use mathlib.Core.Path.{_≡_, refl, sym, _∙_}
+use mathlib.Core.Bool.{Bool, true, false, cond, true≢false}
+use native.Mathlib.Omega.{arith}
+use lib.Dec.{eqb}
+use borrow.Author.Tests.{eq-eqb, eqb-true, eqb-false}
+use Rattle.turns.specs.declared.Turn.{Turn}
+use Rattle.sheet.specs.Record.{fullMap, widthOf}
+use Rattle.writer.specs.Write.{differs, mapFor}
+use Rattle.sheet.specs.Accepted.{GoodMap, Carried}
+
+-- ---- one bit
+
+differs-bit : (a b : ℕ) → differs a b ≤ 1
+differs-bit a b = go (eqb a b)
+  where
+    go : (t : Bool) → cond t 0 1 ≤ 1
+    go true = omega arith
+    go false = omega arith
+
+differs-none : (a b : ℕ) → differs a b ≡ 0 → a ≡ b
+differs-none a b e = go (eqb a b) refl e
+  where
+    go : (t : Bool) → eqb a b ≡ t → _≡_ {A = ℕ} (cond t 0 1) 0 → a ≡ b
+    go true q h = eqb-true a b q
+    go false q h = absurd (omega arith)
+
+-- a bit that stands where two values differ is at least that
+differs-least : (a b bit : ℕ) → (bit ≡ 0 → a ≡ b) → differs a b ≤ bit
+differs-least a b bit h = go (eqb bit 0) refl
+  where
+    go : (t : Bool) → eqb bit 0 ≡ t → differs a b ≤ bit
+    go true q = rw (eq-eqb a b (h (eqb-true bit 0 q))) (omega arith)
+    go false q = omega (arith, differs-bit a b, eqb-false bit 0 q)
+
+-- ---- five bits
+
+-- a map below 32 is the sum of its bits
+digits : (b0 b1 b2 b3 b4 : ℕ) {m q1 q2 q3 q4 : ℕ} → m ≡ b0 + 2 * q1 → q1 ≡ b1 + 2 * q2 → q2 ≡ b2 + 2 * q3 → q3 ≡ b3 + 2 * q4 → q4 ≡ b4 → m ≡ b0 + 2 * b1 + 4 * b2 + 8 * b3 + 16 * b4
+digits b0 b1 b2 b3 b4 e0 e1 e2 e3 e4 = omega arith
+
+map-sum : (m : ℕ) → m ≤ fullMap → m ≡ m % 2 + 2 * (m / 2 % 2) + 4 * (m / 4 % 2) + 8 * (m / 8 % 2) + 16 * (m / 16 % 2)
+map-sum m h =
+    let e0 : m ≡ m % 2 + 2 * (m / 2) = omega arith in
+    let e1 : m / 2 ≡ m / 2 % 2 + 2 * (m / 4) = omega arith in
+    let e2 : m / 4 ≡ m / 4 % 2 + 2 * (m / 8) = omega arith in
+    let e3 : m / 8 ≡ m / 8 % 2 + 2 * (m / 16) = omega arith in
+    let e4 : m / 16 ≡ m / 16 % 2 = omega arith in
+    digits (m % 2) (m / 2 % 2) (m / 4 % 2) (m / 8 % 2) (m / 16 % 2) e0 e1 e2 e3 e4
+
+record Bits (m b0 b1 b2 b3 b4 : ℕ) : Type 0 where
+  slope : m % 2 ≡ b0
+  groomer : m / 2 % 2 ≡ b1
+  start : m / 4 % 2 ≡ b2
+  length : m / 8 % 2 ≡ b3
+  worth : m / 16 % 2 ≡ b4
+
+sum-bits : (b0 b1 b2 b3 b4 : ℕ) → b0 ≤ 1 → b1 ≤ 1 → b2 ≤ 1 → b3 ≤ 1 → b4 ≤ 1 → Bits (b0 + 2 * b1 + 4 * b2 + 8 * b3 + 16 * b4) b0 b1 b2 b3 b4
+sum-bits b0 b1 b2 b3 b4 h0 h1 h2 h3 h4 = record { slope = omega arith; groomer = omega arith; start = omega arith; length = omega arith; worth = omega arith }
+
+-- ---- the map that is written
+
+module _ (p t : Turn) where
+  later-bits : Bits (mapFor false p t) (differs (p .slope) (t .slope)) (differs (p .groomer) (t .groomer)) (differs (p .start) (t .start)) (differs (p .length) (t .length)) (differs (p .worth) (t .worth))
+  unfolding mapFor
+  later-bits =
+      sum-bits _ _ _ _ _ (differs-bit (p .slope) (t .slope)) (differs-bit (p .groomer) (t .groomer)) (differs-bit (p .start) (t .start)) (differs-bit (p .length) (t .length)) (differs-bit (p .worth) (t .worth))
+
+  later-below : mapFor false p t ≤ fullMap
+  unfolding mapFor
+  later-below =
+      omega (arith, differs-bit (p .slope) (t .slope), differs-bit (p .groomer) (t .groomer), differs-bit (p .start) (t .start), differs-bit (p .length) (t .length), differs-bit (p .worth) (t .worth))
+
+-- it is a map that the record may have
+pub map-good : (first : Bool) (p t : Turn) → GoodMap first (mapFor first p t)
+unfolding mapFor
+map-good true p t = record { below = omega arith; full = λ e. refl }
+map-good false p t = record { below = later-below p t; full = λ e. absurd (true≢false (sym e)) }
+
+-- a field that it leaves out has the value of the turn before
+pub map-carries : (first : Bool) (p t : Turn) → Carried (mapFor first p t) p t
+unfolding mapFor
+map-carries true p t = record { slope = λ e. absurd (omega arith); groomer = λ e. absurd (omega arith); start = λ e. absurd (omega arith); length = λ e. absurd (omega arith); worth = λ e. absurd (omega arith) }
+map-carries false p t =
+    let b = later-bits p t in
+    record {
+      slope = λ e. differs-none (p .slope) (t .slope) (sym (b .slope) ∙ e);
+      groomer = λ e. differs-none (p .groomer) (t .groomer) (sym (b .groomer) ∙ e);
+      start = λ e. differs-none (p .start) (t .start) (sym (b .start) ∙ e);
+      length = λ e. differs-none (p .length) (t .length) (sym (b .length) ∙ e);
+      worth = λ e. differs-none (p .worth) (t .worth) (sym (b .worth) ∙ e);
+    }
+
+-- no map for the same turn lacks a bit of it
+record Within (m₀ m : ℕ) : Type 0 where
+  slope : m₀ % 2 ≤ m % 2
+  groomer : m₀ / 2 % 2 ≤ m / 2 % 2
+  start : m₀ / 4 % 2 ≤ m / 4 % 2
+  length : m₀ / 8 % 2 ≤ m / 8 % 2
+  worth : m₀ / 16 % 2 ≤ m / 16 % 2
+
+map-within : (first : Bool) (p t : Turn) (m : ℕ) → GoodMap first m → Carried m p t → Within (mapFor first p t) m
+unfolding mapFor
+map-within true p t m g c = rw (g .full refl) (record { slope = omega arith; groomer = omega arith; start = omega arith; length = omega arith; worth = omega arith })
+map-within false p t m g c =
+    let b = later-bits p t in
+    record {
+      slope = rw (b .slope) (differs-least (p .slope) (t .slope) (m % 2) (c .slope));
+      groomer = rw (b .groomer) (differs-least (p .groomer) (t .groomer) (m / 2 % 2) (c .groomer));
+      start = rw (b .start) (differs-least (p .start) (t .start) (m / 4 % 2) (c .start));
+      length = rw (b .length) (differs-least (p .length) (t .length) (m / 8 % 2) (c .length));
+      worth = rw (b .worth) (differs-least (p .worth) (t .worth) (m / 16 % 2) (c .worth));
+    }
+
+-- so none is narrower, and one of the same width is the same map
+within-width : {a0 a1 a2 a3 a4 b0 b1 b2 b3 b4 : ℕ} → a0 ≤ b0 → a1 ≤ b1 → a2 ≤ b2 → a3 ≤ b3 → a4 ≤ b4 → a0 + a1 + 2 * a2 + 2 * a3 + 2 * a4 ≤ b0 + b1 + 2 * b2 + 2 * b3 + 2 * b4
+within-width h0 h1 h2 h3 h4 = omega arith
+
+within-same : {a0 a1 a2 a3 a4 b0 b1 b2 b3 b4 : ℕ} → a0 ≤ b0 → a1 ≤ b1 → a2 ≤ b2 → a3 ≤ b3 → a4 ≤ b4 → b0 + b1 + 2 * b2 + 2 * b3 + 2 * b4 ≤ a0 + a1 + 2 * a2 + 2 * a3 + 2 * a4
+    → b0 + 2 * b1 + 4 * b2 + 8 * b3 + 16 * b4 ≡ a0 + 2 * a1 + 4 * a2 + 8 * a3 + 16 * a4
+within-same h0 h1 h2 h3 h4 l = omega arith
+
+module _ (first : Bool) (p t : Turn) (m : ℕ) (g : GoodMap first m) (c : Carried m p t) where
+  pub map-least : widthOf (mapFor first p t) ≤ widthOf m
+  map-least = let w = map-within first p t m g c in within-width (w .slope) (w .groomer) (w .start) (w .length) (w .worth)
+
+  pub map-only : widthOf m ≤ widthOf (mapFor first p t) → m ≡ mapFor first p t
+  map-only h =
+      let w = map-within first p t m g c in
+      map-sum m (g .below) ∙ within-same (w .slope) (w .groomer) (w .start) (w .length) (w .worth) h ∙ sym (map-sum (mapFor first p t) (map-good first p t .below))

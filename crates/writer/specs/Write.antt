@@ -1,0 +1,86 @@
+-- Writing a sheet: the shortest one that has the table's turns, in the table's order. Assumes nothing.
+use Prim.Native.Nat.{ℕ, zero, suc, _+_, _*_, _/_, _%_}
+use mathlib.Core.List.{List, [], _∷_, _++_}
+use mathlib.Core.Bool.{Bool, true, false, not, cond}
+use lib.ListN.{length, drop}
+use lib.Dec.{ltb, eqb}
+use Rattle.refusal.specs.Number.{bufferTooSmall, partialTurn}
+use Rattle.refusal.specs.Cause.{Cause, _when_, firstOf}
+use Rattle.turns.specs.declared.Turn.{Turn}
+use Rattle.turns.specs.declared.Counts.{Counts}
+use Rattle.turns.specs.Turn.{turnCauses}
+use Rattle.sheet.specs.Record.{fullMap, firstCursor}
+use Rattle.sheet.specs.Read.{countCauses, turnIn}
+use Rattle.sheet.specs.Layout.{recordOf, headerFor}
+use Rattle.writer.specs.declared.WriteAnswer.{WriteAnswer}
+
+-- ---- the bytes
+
+-- 1 where two values differ
+abbrev pub differs : ℕ → ℕ → ℕ
+differs a b = cond (eqb a b) 0 1
+
+-- the first record has every field; in a later one a bit stands only where the value differs from the turn before
+unfoldable pub mapFor : Bool → Turn → Turn → ℕ
+mapFor true p t = fullMap
+mapFor false p t =
+    differs (p .slope) (t .slope)
+    + 2 * differs (p .groomer) (t .groomer)
+    + 4 * differs (p .start) (t .start)
+    + 8 * differs (p .length) (t .length)
+    + 16 * differs (p .worth) (t .worth)
+
+-- the records of turns after the turn p, each with the map above
+unfoldable pub recordsOf : Bool → Turn → List Turn → List ℕ
+recordsOf first p [] = []
+recordsOf first p (t ∷ ts) = recordOf (mapFor first p t) t ++ recordsOf false t ts
+
+-- a whole sheet: the header, then the records
+unfoldable pub sheetOf : Counts → List Turn → List ℕ
+sheetOf counts ts = headerFor counts (length ts) ++ recordsOf true (firstCursor .prev) ts
+
+-- ---- the table that is written: five numbers a turn
+
+-- the turns i, i + 1, .. of a table, k in all
+unfoldable pub turnsOfTable : ℕ → List ℕ → ℕ → List Turn
+turnsOfTable zero table i = []
+turnsOfTable (suc k) table i = turnIn table i ∷ turnsOfTable k table (i + 1)
+
+abbrev pub tableTurns : List ℕ → List Turn
+tableTurns table = turnsOfTable (length table / 5) table 0
+
+-- ---- what may be wrong, in the order of refusal: a length that is no multiple of five, the counts, the turns one by one, the lent bytes
+
+unfoldable pub turnsCauses : Counts → List Turn → List Cause
+turnsCauses counts [] = []
+turnsCauses counts (t ∷ ts) = turnCauses counts t ++ turnsCauses counts ts
+
+-- everything but the lent bytes
+unfoldable pub tableCauses : Counts → List ℕ → List Cause
+tableCauses counts table =
+    partialTurn when not (eqb (length table % 5) 0)
+    ∷ (countCauses counts (length table / 5) ++ turnsCauses counts (tableTurns table))
+
+unfoldable pub writeCauses : Counts → List ℕ → ℕ → List Cause
+writeCauses counts table places = tableCauses counts table ++ bufferTooSmall when ltb places (length (sheetOf counts (tableTurns table))) ∷ []
+
+-- the writer's refusal, 0 if none, the bytes written, 0 on a refusal, and what the lent bytes hold then
+pub record Written : Type 0 where
+  pub refusal : ℕ
+  pub bytes : ℕ
+  pub lent : List ℕ
+
+-- the numbers that the writer is handed, as counts
+abbrev pub countsOf : ℕ → ℕ → Counts
+countsOf groomers slopes = record { groomers = groomers; slopes = slopes }
+
+-- what is returned, with what the lent bytes hold then
+abbrev pub written : WriteAnswer → List ℕ → Written
+written answer lent = record { refusal = answer .refusal; bytes = answer .bytes; lent = lent }
+
+-- on success the sheet, then what was there; on a refusal all as before
+unfoldable pub writeOf : Counts → List ℕ → List ℕ → Written
+writeOf counts table lent =
+    let f = firstOf (writeCauses counts table (length lent)) in
+    let sheet = sheetOf counts (tableTurns table) in
+    cond (eqb f 0) (record { refusal = 0; bytes = length sheet; lent = sheet ++ drop (length sheet) lent }) (record { refusal = f; bytes = 0; lent = lent })
