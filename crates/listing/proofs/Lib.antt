@@ -4,3 +4,5 @@ pub mod NextChosen
 pub mod NoteCases
 pub mod PartCases
 pub mod Rounds
+pub mod Sizes
+pub mod AnswerCases

@@ -2,12 +2,13 @@
 use Prim.Native.Nat.{ℕ, _+_, _≤_}
 use mathlib.Core.Path.{_≡_, sym}
 use mathlib.Core.List.{List, [], _∷_, _++_}
+use native.Mathlib.Omega.{arith}
 use lib.ListN.{length}
 use Rattle.wire.specs.Number.{puts}
 use Rattle.text.specs.Decimal.{decimal}
 use Rattle.text.specs.Place.{lastPlace}
 use Rattle.model.specs.Turns.{Turns}
-use Rattle.listing.specs.Text.{labelled, twoLabelled, headingOf, lineOf, sumsLine, groomerWord, slopeWord, worthWord, sumWord, tallyWord, hyphen, lineFeed}
+use Rattle.listing.specs.Text.{labelled, twoLabelled, headingOf, lineOf, sumsLine, groomerWord, slopeWord, worthWord, sumWord, tallyWord, refusedWord, hyphen, lineFeed, refusedLine}
 use Rattle.listing.proofs.Pieces.{first-fits, second-fits, both-place, both-put, middle-fits, third-fits, three-place, three-put}
 
 -- ---- a word and a number
@@ -130,3 +131,25 @@ module _ (T : Turns) (u at : ℕ) {start : ℕ} (s : start ≡ T .start u) where
       line-put l x y z = three-put (decimal (T .start u)) (labelled hyphen (T .end u)) (twoLabelled slopeWord (T .slope u) worthWord (T .worth u)) at begun timed l (rw s at x) (rw e at y) (rw (f, g) at z)
 
 pub ruleset line-cases = (start-fits, end-fits, values-fit, line-place, line-put)
+
+-- ---- a refusal's line
+
+module _ (k : ℕ) where
+  pub refused-fits : length (refusedLine k) ≤ lastPlace → 0 + length (labelled refusedWord k) ≤ lastPlace
+  unfolding refusedLine
+  refused-fits m = let q : 0 + length (labelled refusedWord k ++ lineFeed) ≤ lastPlace = omega (arith, m) in first-fits (labelled refusedWord k) lineFeed 0 q
+
+  module _ {last : ℕ} (e : last ≡ 0 + length (labelled refusedWord k)) where
+    pub refused-feed : length (refusedLine k) ≤ lastPlace → last + 1 ≤ lastPlace
+    unfolding refusedLine
+    refused-feed m = let q : 0 + length (labelled refusedWord k ++ lineFeed) ≤ lastPlace = omega (arith, m) in second-fits (labelled refusedWord k) lineFeed 0 e q
+
+    pub refused-place : {r : ℕ} → r ≡ last + 1 → r ≡ length (refusedLine k)
+    unfolding refusedLine
+    refused-place f = let q = both-place (labelled refusedWord k) lineFeed 0 e f in omega (arith, q)
+
+    pub refused-put : (l : List ℕ) {l₁ l₂ : List ℕ} → l₁ ≡ puts l 0 (labelled refusedWord k) → l₂ ≡ puts l₁ last (10 ∷ []) → l₂ ≡ puts l 0 (refusedLine k)
+    unfolding refusedLine
+    refused-put l p q = both-put (labelled refusedWord k) lineFeed 0 e l p q
+
+pub ruleset refused-cases = (refused-fits, refused-feed, refused-place, refused-put)

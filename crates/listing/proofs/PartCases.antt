@@ -118,7 +118,7 @@ module _ (T : Turns) (S : List Bool) (h : ℕ) where
         ∙ rw (first, shift) (ap (λ l. linesOf T (startsBelow T S h minute (T .count)) ++ l) (notes-lines d (minute + 1)))
         ∙ sym (lines-append T (startsBelow T S h minute (T .count)) (roundFrom T S h d (minute + 1)))
 
-    round-lines : notesText T (notesOf T S h (T .count)) ≡ linesOf T (roundOf T S h)
+    pub round-lines : notesText T (notesOf T S h (T .count)) ≡ linesOf T (roundOf T S h)
     unfolding notesOf roundOf
     round-lines =
         let shift : tab shiftMinutes (noteOf T S h (T .count)) ≡ tab shiftMinutes (λ k. noteOf T S h (T .count) (0 + k)) = tab-same shiftMinutes _ _ (λ k l. ap (noteOf T S h (T .count)) (omega arith)) in
@@ -142,7 +142,7 @@ module _ (T : Turns) (S : List Bool) (h : ℕ) where
   getD-zero (x ∷ l) zero e = absurd (omega arith)
   getD-zero (x ∷ l) (suc k) e = getD-zero l k (omega arith)
 
-  notes-within : (n : ℕ) → NotesBelow n (notesOf T S h n)
+  pub notes-within : (n : ℕ) → NotesBelow n (notesOf T S h n)
   unfolding NotesBelow notesOf
   notes-within n minute = go (decLt minute shiftMinutes)
     where

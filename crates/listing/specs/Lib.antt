@@ -3,3 +3,4 @@ pub mod Text
 pub mod Notes
 pub mod Ready
 pub mod List
+pub mod Answer

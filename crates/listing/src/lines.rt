@@ -82,3 +82,13 @@ pub fn put_sums(out: &mut [u8], at: usize, worth: u32, tally: u32) -> usize
     let second = TALLY;
     put_two(&mut *out, at, &first, worth, &second, tally)
 }
+
+// The line of a refusal.
+pub fn put_refused(out: &mut [u8], k: u32) -> usize
+    requires { ⌜ length (refusedLine k) ≤ lastPlace ⌝ }
+    ensures { λ r. ⌜ (r ≡ length (refusedLine k)) × (now (out .exit) ≡ puts (now (out .entry)) 0 (refusedLine k)) ⌝ }
+{
+    let word = REFUSED;
+    let last = put_labelled(&mut *out, 0, &word, k);
+    text::put_byte(&mut *out, last, LINE_FEED)
+}

@@ -96,8 +96,8 @@ module _ (s lent : List ℕ) {r : ReadAnswer} (e : r ≡ answerOf s) where
       read-table : t ≡ tableOf s ++ replicate (2000 - length (tableOf s)) 0
       read-table = w f ∙ rw (z, drop-zeros 2000 (length (tableOf s)))
 
-      turns-are : turnsIn (r .turns) t ≡ turnsIn (turnCount s) (tableOf s)
-      turns-are = rw (count, read-table) (padded-turns (turnCount s) (tableOf s) (2000 - length (tableOf s)))
+      pub plan-turns : turnsIn (r .turns) t ≡ turnsIn (turnCount s) (tableOf s)
+      plan-turns = rw (count, read-table) (padded-turns (turnCount s) (tableOf s) (2000 - length (tableOf s)))
 
       pub plan-rows : 5 * r .turns ≤ length t
       plan-rows = omega (arith, ap length read-table, length-append (tableOf s) (replicate (2000 - length (tableOf s)) 0), table-length s, count)
@@ -114,6 +114,6 @@ module _ (s lent : List ℕ) {r : ReadAnswer} (e : r ≡ answerOf s) where
           let T = turnsIn (turnCount s) (tableOf s) in
           let c : firstOf (planCauses s (length lent)) ≡ 0 = enough (sheetCauses s) (length lent) _ (sheet-numbered s) sound (omega (arith, p, count)) in
           let room : length (boardFor T) ≤ length lent = omega (arith, board-most T, count-is (turnCount s) (tableOf s), count, p, h) in
-          rw (b, l, turns-are, c, puts-front (boardFor T) lent room)
+          rw (b, l, plan-turns, c, puts-front (boardFor T) lent room)
 
 pub ruleset plan-cases = (plan-ample, plan-fault, plan-small, plan-few, plan-rows, plan-bounded, plan-done)

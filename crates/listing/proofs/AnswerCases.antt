@@ -1,0 +1,209 @@
+-- The listing's answer by its cases, each premise in the form in which the code's calls and tests leave it. Assumes nothing.
+use Prim.Native.Nat.{ℕ, _+_, _-_, _*_, _<_, _≤_}
+use mathlib.Core.Path.{_≡_, refl, sym, _∙_, ap}
+use mathlib.Core.Bool.{Bool, true}
+use mathlib.Core.List.{List, [], _∷_, _++_}
+use native.Mathlib.Omega.{arith}
+use native.Mathlib.Decide.{decLt}
+use lib.Dec.{ltb}
+use lib.ListN.{length, take, drop, replicate, length-append, length-replicate, length-take, length-drop}
+use borrow.Author.Tests.{ne-eqb, lt-ltb, le-ltb}
+use Rattle.refusal.specs.Number.{bufferTooSmall}
+use Rattle.refusal.specs.Cause.{Cause, _when_, firstOf}
+use Rattle.refusal.proofs.Order.{numbered, first-stops, first-goes}
+use Rattle.wire.specs.Number.{puts}
+use Rattle.wire.proofs.Puts.{puts-front, puts-length}
+use lib.Seq.{take-at}
+use Rattle.wire.specs.Number.{valueAt}
+use Rattle.text.specs.Place.{lastPlace}
+use Rattle.model.specs.Turns.{Turns, turnsIn, RowsBounded, PositiveLengths}
+use Rattle.model.specs.Steps.{tally}
+use Rattle.model.specs.Pick.{steps}
+use Rattle.model.specs.Choice.{chosen, choice}
+use Rattle.model.proofs.Planned.{steps-right}
+use Rattle.model.proofs.Limits.{sums-limits}
+use Rattle.model.proofs.Promised.{planned-keeps}
+use Rattle.sheet.specs.declared.reader.ReadAnswer.{ReadAnswer}
+use Rattle.sheet.specs.Read.{countsIn, turnCount, tableOf, sheetCauses, answerOf}
+use Rattle.sheet.proofs.Readings.{sheet-numbered}
+use Rattle.sheet.proofs.Unrefused.{few-groomers}
+use Rattle.sheet.proofs.Whole.{whole-refusal, whole-accepted, whole-answer, whole-few}
+use Rattle.board.specs.Choice.{mapBytes, choiceIn}
+use Rattle.board.specs.Board.{boardHeader, boardTurns, boardTally, boardWorth, boardMap, boardChoice, boardLength, stepsPlace}
+use Rattle.ratio.proofs.Turns.{count-is}
+use Rattle.planner.specs.Plan.{boardFor}
+use Rattle.planner.proofs.Boards.{board-size, board-most, board-back}
+use Rattle.planner.proofs.Answers.{plan-ample, plan-rows, plan-bounded, plan-turns}
+use Rattle.listing.specs.Round.{StartsApart}
+use Rattle.listing.specs.Text.{listingOf}
+use Rattle.listing.specs.Ready.{Ready}
+use Rattle.listing.specs.declared.ListAnswer.{ListAnswer}
+use Rattle.listing.specs.List.{Listed, listingFor, sheetListing, listCauses, listOf}
+use Rattle.listing.specs.Answer.{listed, refusedWith, textAnswer}
+use Rattle.listing.proofs.Rounds.{apart-starts}
+use Rattle.listing.proofs.Sizes.{listing-short}
+
+-- ---- a text into lent bytes
+
+module _ (text lent : List ℕ) {bytes : ℕ} (e : bytes ≡ length text) where
+  pub text-small : {x : ListAnswer} → length lent < bytes → x ≡ refusedWith bufferTooSmall → listed x lent ≡ textAnswer text lent
+  unfolding textAnswer
+  text-small h g = rw (g, lt-ltb (length lent) (length text) (omega arith))
+
+  pub text-done : {lent′ : List ℕ} → bytes ≤ length lent → lent′ ≡ puts lent 0 text → listed (record { refusal = 0; bytes = bytes }) lent′ ≡ textAnswer text lent
+  unfolding textAnswer
+  text-done h g = rw (e, g, le-ltb (length lent) (length text) (omega arith), puts-front text lent (omega arith))
+
+pub ruleset text-cases = (text-small, text-done)
+
+-- ---- the planner's board
+
+module _ (n : ℕ) (table b : List ℕ) (e : b ≡ boardFor (turnsIn n table)) where
+  whole : length b ≡ boardLength n (length (steps (turnsIn n table)))
+  whole = rw e (board-size (turnsIn n table) ∙ rw (count-is n table))
+
+  pub board-header : boardHeader ≤ length b
+  board-header = omega (arith, whole)
+
+  pub board-sums : 11 ≤ length b
+  board-sums = omega (arith, whole)
+
+  pub board-part : {place : ℕ} → place ≡ stepsPlace n → place ≤ length b
+  board-part p = omega (arith, whole)
+
+  module _ (few : n ≤ 400) (rows : 5 * n ≤ length table) (bounded : RowsBounded n table) {place : ℕ} (p : place ≡ stepsPlace n) where
+    abbrev T : Turns
+    T = turnsIn n table
+
+    at-most : T .count ≤ 400
+    at-most = omega (arith, count-is n table)
+
+    worths : (t : ℕ) → t < T .count → T .worth t ≤ 60000
+    worths t h = bounded .worths t (omega (arith, count-is n table))
+
+    lengths : PositiveLengths T
+    lengths t h = bounded .starts t (omega (arith, count-is n table))
+
+    map-is : take (place - 15) (drop 15 b) ≡ boardMap (boardFor T)
+    unfolding boardMap
+    map-is =
+        let q : place - 15 ≡ mapBytes (boardTurns (boardFor T)) = omega (arith, p, ap mapBytes (board-back T at-most worths .turns ∙ count-is n table)) in
+        rw (q, e)
+
+    choice-is : choiceIn n (take (place - 15) (drop 15 b)) ≡ choice T
+    unfolding boardChoice
+    choice-is = rw map-is (ap (λ k. choiceIn k (boardMap (boardFor T))) (sym (board-back T at-most worths .turns ∙ count-is n table)) ∙ board-back T at-most worths .chosen-turns)
+
+    map-length : length (take (place - 15) (drop 15 b)) ≡ mapBytes n
+    map-length = omega (arith, length-take (place - 15) (drop 15 b), length-drop 15 b, whole, p)
+
+    pub board-ready : Ready n table (take (place - 15) (drop 15 b))
+    board-ready =
+        record {
+          few = few;
+          rows = rows;
+          bounded = bounded;
+          bits = omega (arith, map-length);
+          short = omega (arith, map-length);
+          apart = rw choice-is (apart-starts T (choice T) (planned-keeps T lengths .apart) lengths);
+        }
+
+    module _ (groomers : ℕ) {tallied worth : ℕ} (t : tallied ≡ valueAt b 7 4) (w : worth ≡ valueAt b 11 4) where
+      listing-is : listingOf groomers T (choiceIn n (take (place - 15) (drop 15 b))) worth tallied ≡ listingFor groomers T
+      unfolding listingFor
+      listing-is =
+          let a : tallied ≡ tally (steps T) = t ∙ rw e (board-back T at-most worths .tallied) in
+          let c : worth ≡ chosen (T .count) (choice T) (T .worth) = w ∙ rw e (board-back T at-most worths .worth) in
+          rw (choice-is, a, c)
+
+      pub listing-fits : groomers ≤ 16 → length (listingOf groomers T (choiceIn n (take (place - 15) (drop 15 b))) worth tallied) ≤ lastPlace
+      unfolding listingFor
+      listing-fits g =
+          let sums = sums-limits T worths at-most (steps-right T) (choice T) in
+          let short : length (listingOf groomers T (choice T) (chosen (T .count) (choice T) (T .worth)) (tally (steps T))) ≤ lastPlace =
+          listing-short n table bounded (choice T) (apart-starts T (choice T) (planned-keeps T lengths .apart) lengths) groomers _ _ g (sums .1) (sums .0) in
+          rw listing-is short
+
+      pub listing-answer : {x : Listed} (lent : List ℕ) → x ≡ textAnswer (listingOf groomers T (choiceIn n (take (place - 15) (drop 15 b))) worth tallied) lent → x ≡ textAnswer (listingFor groomers T) lent
+      listing-answer lent g = rw listing-is at g
+
+pub ruleset board-cases = (board-header, board-sums, board-part, board-ready, listing-fits, listing-answer)
+
+-- ---- planned into a place of its own
+
+pub space-fits : (n : ℕ) → n ≤ 400 → boardLength n n ≤ 1665
+space-fits n h = omega arith
+
+module _ (n : ℕ) (table space : List ℕ) (few : n ≤ 400) (room : 1665 ≤ length space) {bytes : ℕ} {b : List ℕ} (e : bytes ≡ length (boardFor (turnsIn n table))) (f : b ≡ puts space 0 (boardFor (turnsIn n table))) where
+  held : length (boardFor (turnsIn n table)) ≤ length space
+  held = omega (arith, board-most (turnsIn n table), count-is n table, space-fits n few)
+
+  pub space-holds : bytes ≤ length b
+  space-holds = rw f (omega (arith, puts-length (boardFor (turnsIn n table)) space 0, held, e))
+
+  pub space-front : take bytes b ≡ boardFor (turnsIn n table)
+  space-front = rw (f, puts-front (boardFor (turnsIn n table)) space held) (take-at (boardFor (turnsIn n table)) (drop (length (boardFor (turnsIn n table))) space) bytes (sym e))
+
+  pub space-part : bytes ≡ length (take bytes b)
+  space-part = rw space-front e
+
+pub ruleset space-cases = (space-fits, space-holds, space-front, space-part)
+
+-- ---- the entry
+
+module _ (cs : List Cause) (places need : ℕ) (n : numbered cs ≡ true) (z : firstOf cs ≡ 0) where
+  too-few : places < need → firstOf (cs ++ bufferTooSmall when ltb places need ∷ []) ≡ bufferTooSmall
+  unfolding firstOf
+  too-few h = first-goes cs (bufferTooSmall when ltb places need ∷ []) n z ∙ rw (lt-ltb places need h)
+
+  enough : need ≤ places → firstOf (cs ++ bufferTooSmall when ltb places need ∷ []) ≡ 0
+  unfolding firstOf
+  enough h = first-goes cs (bufferTooSmall when ltb places need ∷ []) n z ∙ rw (le-ltb places need h)
+
+-- a sheet that is not refused: what is left to refuse is too few lent bytes
+module _ (s lent : List ℕ) (z : firstOf (sheetCauses s) ≡ 0) where
+  list-small : length lent < length (sheetListing s) → textAnswer (sheetListing s) lent ≡ listOf s lent
+  unfolding textAnswer listOf listCauses
+  list-small l =
+      let c : firstOf (sheetCauses s ++ bufferTooSmall when ltb (length lent) (length (sheetListing s)) ∷ []) ≡ bufferTooSmall = too-few (sheetCauses s) (length lent) (length (sheetListing s)) (sheet-numbered s) z l in
+      rw (c, lt-ltb (length lent) (length (sheetListing s)) l)
+
+  list-enough : length (sheetListing s) ≤ length lent → textAnswer (sheetListing s) lent ≡ listOf s lent
+  unfolding textAnswer listOf listCauses
+  list-enough l =
+      let c : firstOf (sheetCauses s ++ bufferTooSmall when ltb (length lent) (length (sheetListing s)) ∷ []) ≡ 0 = enough (sheetCauses s) (length lent) (length (sheetListing s)) (sheet-numbered s) z l in
+      rw (c, le-ltb (length lent) (length (sheetListing s)) l)
+
+  list-text : textAnswer (sheetListing s) lent ≡ listOf s lent
+  list-text = go (decLt (length lent) (length (sheetListing s)))
+    where
+      go : Dec (length lent < length (sheetListing s)) → textAnswer (sheetListing s) lent ≡ listOf s lent
+      go (yes l) = list-small l
+      go (no l) = list-enough (omega arith)
+
+module _ (s lent : List ℕ) {r : ReadAnswer} (e : r ≡ answerOf s) where
+  pub list-fault : {x : ListAnswer} → (r .refusal ≡ 0 → ⊥) → x ≡ refusedWith (r .refusal) → listed x lent ≡ listOf s lent
+  unfolding listOf listCauses
+  list-fault f g = rw (g, first-stops (sheetCauses s) (bufferTooSmall when _ ∷ []) (r .refusal) (sym (whole-refusal s e)) f, ne-eqb (r .refusal) 0 f)
+
+  module _ (f : r .refusal ≡ 0) where
+    pub list-few : r .turns ≤ 400
+    list-few = whole-few s e f
+
+    pub list-groomers : r .groomers ≤ 16
+    list-groomers = omega (arith, ap (λ (a : ReadAnswer). a .groomers) (whole-answer s e f), few-groomers s (whole-accepted s e f))
+
+    module _ {t table : List ℕ} (w : r .refusal ≡ 0 → t ≡ tableOf s ++ drop (length (tableOf s)) table) (z : table ≡ replicate 2000 0) where
+      pub list-rows : 5 * r .turns ≤ length t
+      list-rows = plan-rows s [] e f w z
+
+      pub list-bounded : RowsBounded (r .turns) t
+      list-bounded = plan-bounded s [] e f w z
+
+      pub list-done : {x : Listed} → x ≡ textAnswer (listingFor (r .groomers) (turnsIn (r .turns) t)) lent → x ≡ listOf s lent
+      unfolding sheetListing
+      list-done g =
+          let groomers : r .groomers ≡ countsIn s .groomers = ap (λ (a : ReadAnswer). a .groomers) (whole-answer s e f) in
+          (rw (plan-turns s [] e f w z, groomers) at g) ∙ list-text s lent (whole-accepted s e f)
+
+pub ruleset list-cases = (plan-ample, list-fault, list-few, list-groomers, list-rows, list-bounded, list-done)
