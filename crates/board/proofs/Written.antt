@@ -53,7 +53,7 @@ module _ (S : List Bool) (xs : List Step) (t w : ℕ) where
     unfolding boardOf
     turns-read = value-read 2 (length S) boardMark (bytesOf 2 (length xs) ++ (bytesOf 4 t ++ (bytesOf 4 w ++ behind))) few
 
-    map-read : boardMap (boardOf S xs t w) ≡ mapOf S
+    pub map-read : boardMap (boardOf S xs t w) ≡ mapOf S
     unfolding boardMap
     map-read = rw (turns-read, behind-header) (take-at (mapOf S) (stepBytes xs) (mapBytes (length S)) (map-length S))
 

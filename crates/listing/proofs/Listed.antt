@@ -1,0 +1,89 @@
+-- The listing of every sheet that is not refused: what its rounds have, how many turn lines there are; and its refusals. Assumes nothing.
+use Prim.Native.Nat.{ℕ, _+_, _<_, _≤_}
+use mathlib.Core.Path.{_≡_, refl, sym, _∙_, ap}
+use mathlib.Core.Bool.{Bool, true, false, cond}
+use mathlib.Core.List.{List, _++_}
+use mathlib.Core.Logic.{_↔_}
+use native.Mathlib.Omega.{arith}
+use lib.Dec.{eqb}
+use lib.ListN.{length, drop}
+use borrow.Author.Tests.{eqb-true}
+use Rattle.refusal.specs.Cause.{There, firstOf}
+use Rattle.model.specs.Lists.{sum, below}
+use Rattle.model.specs.Turns.{Turns, turnsIn, PositiveLengths}
+use Rattle.model.specs.Choice.{choice}
+use Rattle.model.specs.Pick.{steps}
+use Rattle.model.proofs.Promised.{planned-keeps}
+use Rattle.sheet.specs.Read.{countsIn, turnCount, tableOf, sheetCauses}
+use Rattle.sheet.proofs.Causes.{first-same}
+use Rattle.sheet.proofs.ReadCauses.{lent-causes-iff}
+use Rattle.sheet.proofs.Unrefused.{few-turns, row-in-range, rows-bounded}
+use Rattle.board.specs.Choice.{mapOf, onesIn}
+use Rattle.board.specs.Board.{boardMap}
+use Rattle.board.proofs.Written.{map-read}
+use Rattle.ratio.proofs.Turns.{count-is}
+use Rattle.planner.specs.Plan.{boardFor, plannedBoard}
+use Rattle.planner.proofs.Boards.{choice-count}
+use Rattle.listing.specs.Round.{roundOf, Round, StartsApart, shiftMinutes}
+use Rattle.listing.specs.List.{Listed, sheetListing, listCauses, listOf, ListCause, FirstListCause}
+use Rattle.listing.proofs.Rounds.{apart-starts, round-is, rounds-ones}
+
+module _ (s : List ℕ) (z : firstOf (sheetCauses s) ≡ 0) where
+  abbrev T : Turns
+  T = turnsIn (turnCount s) (tableOf s)
+
+  below-count : (u : ℕ) → u < T .count → u < turnCount s
+  below-count u h = omega (arith, count-is (turnCount s) (tableOf s))
+
+  lengths : PositiveLengths T
+  lengths u h = rows-bounded s z .starts u (below-count u h)
+
+  starts : (u : ℕ) → u < T .count → T .start u < shiftMinutes
+  starts u h = omega (arith, rows-bounded s z .starts u (below-count u h), rows-bounded s z .ends u (below-count u h))
+
+  apart : StartsApart T (choice T)
+  apart = apart-starts T (choice T) (planned-keeps T lengths .apart) lengths
+
+  -- each chosen turn stands once, under its groomer, by start
+  pub sheet-rounds : (h : ℕ) → Round T (choice T) h (roundOf T (choice T) h)
+  sheet-rounds h = round-is T (choice T) h apart starts
+
+  from-1 : (u : ℕ) → u < T .count → 1 ≤ T .groomer u
+  unfolding turnsIn
+  from-1 u h = row-in-range s z u h .groomer-from
+
+  to-most : (u : ℕ) → u < T .count → T .groomer u ≤ countsIn s .groomers
+  unfolding turnsIn
+  to-most u h = row-in-range s z u h .groomer-to
+
+  map-is : boardMap (plannedBoard s) ≡ mapOf (choice T)
+  unfolding plannedBoard boardFor
+  map-is = map-read (choice T) (steps T) _ _ (omega (arith, choice-count T, count-is (turnCount s) (tableOf s), few-turns s z))
+
+  -- there are as many turn lines as ones in the map of the planner's board
+  pub sheet-lines : sum (λ k. length (roundOf T (choice T) (k + 1))) (below (countsIn s .groomers)) ≡ onesIn (boardMap (plannedBoard s))
+  sheet-lines = rounds-ones T (choice T) (countsIn s .groomers) (choice-count T) from-1 to-most starts ∙ sym (ap onesIn map-is)
+
+-- ---- refused
+
+answer-number : (f : ℕ) (text lent : List ℕ)
+    → cond {A = Listed} (eqb f 0) (record { refusal = 0; bytes = length text; lent = text ++ drop (length text) lent }) (record { refusal = f; bytes = 0; lent = lent }) .refusal ≡ f
+answer-number f text lent = go (eqb f 0) refl
+  where
+    go : (b : Bool) → eqb f 0 ≡ b → cond {A = Listed} b (record { refusal = 0; bytes = length text; lent = text ++ drop (length text) lent }) (record { refusal = f; bytes = 0; lent = lent }) .refusal ≡ f
+    go true e = sym (eqb-true f 0 e)
+    go false e = refl
+
+pub list-number : (s lent : List ℕ) → listOf s lent .refusal ≡ firstOf (listCauses s (length lent))
+unfolding listOf
+list-number s lent = answer-number (firstOf (listCauses s (length lent))) (sheetListing s) lent
+
+list-causes-iff : (s : List ℕ) (places k r : ℕ) → ListCause s places k r ↔ There (listCauses s places) k r
+unfolding listCauses
+list-causes-iff s places = lent-causes-iff s (length (sheetListing s)) places
+
+-- the listing's number is that of the first cause there
+pub list-refused-iff : (s lent : List ℕ) (k : ℕ) → (k ≡ 0 → ⊥) → (listOf s lent .refusal ≡ k) ↔ FirstListCause s (length lent) k
+list-refused-iff s lent k z =
+    let same = first-same (listCauses s (length lent)) (ListCause s (length lent)) (list-causes-iff s (length lent)) k z in
+    (λ e. same .0 (sym (list-number s lent) ∙ e), λ f. list-number s lent ∙ same .1 f)
