@@ -6,3 +6,4 @@ pub mod PartCases
 pub mod Rounds
 pub mod Sizes
 pub mod AnswerCases
+pub mod FirstBytes
