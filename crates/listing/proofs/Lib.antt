@@ -7,3 +7,4 @@ pub mod Rounds
 pub mod Sizes
 pub mod AnswerCases
 pub mod Listed
+pub mod FirstBytes

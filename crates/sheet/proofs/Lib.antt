@@ -10,3 +10,4 @@ pub mod ReadCauses
 pub mod Tables
 pub mod Unrefused
 pub mod Whole
+pub mod Prefix

@@ -1,0 +1,146 @@
+-- How much of its bytes a sheet's refusal is decided by: one byte more than the longest sheet has. Assumes nothing.
+use Prim.Native.Nat.{ℕ, zero, suc, _+_, _*_, _/_, _%_, _<_, _≤_}
+use mathlib.Core.Path.{_≡_, refl, sym, _∙_, ap, ap₂}
+use mathlib.Core.List.{List, [], _∷_, _++_}
+use native.Mathlib.Omega.{arith}
+use native.Mathlib.Decide.{decLt, ℕ-discrete}
+use lib.ListN.{length, getD, take}
+use lib.Seq.{getD-take, length-take-le, take-all}
+use lib.Dec.{ltb}
+use borrow.Author.Tests.{lt-ltb, le-ltb, lt-leb, ltb-false}
+use Rattle.refusal.specs.Number.{trailingBytes}
+use Rattle.refusal.specs.Cause.{_when_, firstOf}
+use Rattle.refusal.proofs.Order.{clear-cons, clear-append}
+use Rattle.wire.specs.Number.{valueOf, bytesAt, valueAt}
+use Rattle.wire.specs.Mark.{sheetMark, opensWith}
+use Rattle.turns.specs.declared.Turn.{Turn}
+use Rattle.turns.specs.declared.Counts.{Counts}
+use Rattle.sheet.specs.declared.record.Cursor.{Cursor}
+use Rattle.sheet.specs.Record.{widthOf, field, turnFrom, mapAt, endAt, turnAt, cursorAfter, recordCauses, firstCursor}
+use Rattle.sheet.specs.Read.{headerBytes, mostTurns, countsIn, turnCount, headerCauses, recordsCauses, sheetCauses}
+use Rattle.sheet.proofs.Scans.{record-numbered}
+use Rattle.sheet.proofs.Readings.{header-numbered, header-few, sheet-by-header, sheet-by-records}
+
+-- ---- a record has at most nine bytes
+
+width-most : (m : ℕ) → widthOf m ≤ 8
+width-most m = omega arith
+
+end-most : (s : List ℕ) (c : Cursor) → endAt s c ≤ c .at + 9
+unfolding endAt
+end-most s c = omega (arith, width-most (mapAt s c))
+
+-- ---- two lists with the same first k bytes, and no fewer
+
+module _ (k : ℕ) (s t : List ℕ) (same : (i : ℕ) → i < k → getD t i 0 ≡ getD s i 0) (long-s : k ≤ length s) (long-t : k ≤ length t) where
+  bytes-alike : (width at : ℕ) → at + width ≤ k → bytesAt t at width ≡ bytesAt s at width
+  bytes-alike zero at h = refl
+  bytes-alike (suc width) at h = ap₂ _∷_ (same at (omega arith)) (bytes-alike width (at + 1) (omega arith))
+
+  value-alike : (at width : ℕ) → at + width ≤ k → valueAt t at width ≡ valueAt s at width
+  value-alike at width h = ap valueOf (bytes-alike width at h)
+
+  field-alike : (width at bit old : ℕ) → at + width ≤ k → field width t at bit old ≡ field width s at bit old
+  unfolding field
+  field-alike width at bit old h = rw (value-alike at width h)
+
+  turn-alike : (at m : ℕ) (old : Turn) → at + 8 ≤ k → turnFrom t at m old ≡ turnFrom s at m old
+  unfolding turnFrom
+  turn-alike at m old h =
+      rw (
+        field-alike 1 at (m % 2) (old .slope) (omega arith),
+        field-alike 1 (at + m % 2) (m / 2 % 2) (old .groomer) (omega arith),
+        field-alike 2 (at + m % 2 + m / 2 % 2) (m / 4 % 2) (old .start) (omega arith),
+        field-alike 2 (at + m % 2 + m / 2 % 2 + 2 * (m / 4 % 2)) (m / 8 % 2) (old .length) (omega arith),
+        field-alike 2 (at + m % 2 + m / 2 % 2 + 2 * (m / 4 % 2) + 2 * (m / 8 % 2)) (m / 16 % 2) (old .worth) (omega arith),
+      )
+
+  -- the record at a cursor, if its bytes are among the first k
+  module _ (c : Cursor) (h : c .at + 9 ≤ k) where
+    map-alike : mapAt t c ≡ mapAt s c
+    map-alike = same (c .at) (omega arith)
+
+    end-alike : endAt t c ≡ endAt s c
+    unfolding endAt
+    end-alike = rw map-alike
+
+    read-alike : turnAt t c ≡ turnAt s c
+    unfolding turnAt
+    read-alike = rw map-alike (turn-alike (c .at + 1) (mapAt s c) (c .prev) (omega arith))
+
+    cursor-alike : cursorAfter t c ≡ cursorAfter s c
+    unfolding cursorAfter
+    cursor-alike = rw (end-alike, read-alike)
+
+    record-alike : (limits : Counts) → recordCauses t limits c ≡ recordCauses s limits c
+    unfolding recordCauses
+    record-alike limits =
+        rw (
+          lt-leb (length t) (c .at) (omega arith),
+          lt-leb (length s) (c .at) (omega arith),
+          map-alike,
+          end-alike,
+          le-ltb (length t) (endAt s c) (omega (arith, end-most s c)),
+          le-ltb (length s) (endAt s c) (omega (arith, end-most s c)),
+          read-alike,
+        )
+
+  -- behind the last record both have bytes left
+  records-alike : (n : ℕ) (limits : Counts) (c : Cursor) → c .at + 9 * n < k → recordsCauses n t limits c ≡ recordsCauses n s limits c
+  unfolding recordsCauses cursorAfter
+  records-alike zero limits c h = rw (lt-ltb (c .at) (length t) (omega arith), lt-ltb (c .at) (length s) (omega arith))
+  records-alike (suc n) limits c h =
+      ap₂ _++_ (record-alike c (omega arith) limits) (ap (recordsCauses n t limits) (cursor-alike c (omega arith)) ∙ records-alike n limits (cursorAfter s c) (omega (arith, end-most s c)))
+
+  module _ (enough : headerBytes + 9 * mostTurns < k) where
+    counts-alike : countsIn t ≡ countsIn s
+    counts-alike = rw (value-alike 3 1 (omega arith), value-alike 4 1 (omega arith))
+
+    count-alike : turnCount t ≡ turnCount s
+    count-alike = value-alike 5 2 (omega arith)
+
+    mark-alike : opensWith sheetMark t ≡ opensWith sheetMark s
+    unfolding opensWith
+    mark-alike = rw (same 0 (omega arith), same 1 (omega arith), same 2 (omega arith))
+
+    header-alike : headerCauses t ≡ headerCauses s
+    unfolding headerCauses
+    header-alike = rw (le-ltb (length t) headerBytes (omega arith), le-ltb (length s) headerBytes (omega arith), mark-alike, counts-alike, count-alike)
+
+    pub refusal-alike : firstOf (sheetCauses t) ≡ firstOf (sheetCauses s)
+    unfolding firstCursor
+    refusal-alike = go (ℕ-discrete (firstOf (headerCauses s)) 0)
+      where
+        go : Dec (firstOf (headerCauses s) ≡ 0) → firstOf (sheetCauses t) ≡ firstOf (sheetCauses s)
+        go (yes e) =
+            let records : recordsCauses (turnCount s) t (countsIn s) firstCursor ≡ recordsCauses (turnCount s) s (countsIn s) firstCursor = records-alike (turnCount s) (countsIn s) firstCursor (omega (arith, header-few s e)) in
+            sheet-by-records t (ap firstOf header-alike ∙ e) ∙ rw (count-alike, counts-alike, records) (sym (sheet-by-records s e))
+        go (no f) = sheet-by-header t (firstOf (headerCauses s)) (ap firstOf header-alike) f ∙ sym (sheet-by-header s (firstOf (headerCauses s)) refl f)
+
+-- ---- a sheet that is not refused is no longer than that
+
+records-end : (n : ℕ) (s : List ℕ) (limits : Counts) (c : Cursor) → firstOf (recordsCauses n s limits c) ≡ 0 → length s ≤ c .at + 9 * n
+unfolding recordsCauses cursorAfter
+records-end zero s limits c e = omega (arith, ltb-false (c .at) (length s) (clear-cons (trailingBytes when ltb (c .at) (length s)) [] (omega arith) e .0))
+records-end (suc n) s limits c e =
+    let rest = clear-append (recordCauses s limits c) (recordsCauses n s limits (cursorAfter s c)) (record-numbered s limits c) e .1 in
+    omega (arith, records-end n s limits (cursorAfter s c) rest, end-most s c)
+
+pub sheet-short : (s : List ℕ) → firstOf (sheetCauses s) ≡ 0 → length s ≤ headerBytes + 9 * mostTurns
+unfolding sheetCauses firstCursor
+sheet-short s e =
+    let both = clear-append (headerCauses s) (recordsCauses (turnCount s) s (countsIn s) firstCursor) (header-numbered s) e in
+    omega (arith, header-few s (both .0), records-end (turnCount s) s (countsIn s) firstCursor (both .1))
+
+-- ---- the first bytes of a list
+
+pub prefix-refusal : (s : List ℕ) → firstOf (sheetCauses (take 3608 s)) ≡ firstOf (sheetCauses s)
+prefix-refusal s = go (decLt (length s) 3608)
+  where
+    go : Dec (length s < 3608) → firstOf (sheetCauses (take 3608 s)) ≡ firstOf (sheetCauses s)
+    go (yes l) = let e : take 3608 s ≡ s = take-all 3608 s (omega arith) in rw e
+    go (no l) =
+        refusal-alike 3608 s (take 3608 s) (λ i h. getD-take 3608 s i 0 h) (omega arith) (omega (arith, length-take-le 3608 s (omega arith))) (omega arith)
+
+pub prefix-same : (s : List ℕ) → firstOf (sheetCauses s) ≡ 0 → take 3608 s ≡ s
+prefix-same s e = take-all 3608 s (omega (arith, sheet-short s e))
