@@ -10,7 +10,7 @@ use Rattle.refusal.specs.Cause.{_when_, firstOf}
 use Rattle.refusal.proofs.Order.{first-stops}
 use Rattle.sheet.specs.Read.{sheetCauses}
 use Rattle.sheet.proofs.Prefix.{prefix-refusal, prefix-same}
-use Rattle.listing.specs.Input.{inputBytes}
+use Rattle.listing.specs.Limits.{inputBytes}
 use Rattle.listing.specs.List.{Listed, listCauses, listOf}
 
 -- where a sheet is refused nothing but the refusal and the lent bytes are in the answer

@@ -36,6 +36,10 @@ pub refused-short : (k : ℕ) → k < 256 → length (refusedLine k) ≤ lastPla
 unfolding refusedLine
 refused-short k h = omega (arith, length-append (labelled refusedWord k) lineFeed, labelled-size refusedWord k)
 
+pub refused-most : (k : ℕ) {r : ℕ} → r ≡ length (refusedLine k) → k < 256 → r ≤ 266
+unfolding refusedLine
+refused-most k e h = omega (arith, length-append (labelled refusedWord k) lineFeed, labelled-size refusedWord k)
+
 heading-size : (h : ℕ) → length (headingOf h) ≤ h + 10
 unfolding headingOf
 heading-size h = omega (arith, length-append (labelled groomerWord h) lineFeed, labelled-size groomerWord h)

@@ -4,4 +4,4 @@ pub mod Notes
 pub mod Ready
 pub mod List
 pub mod Answer
-pub mod Input
+pub mod Limits
