@@ -6,3 +6,5 @@ pub mod PartCases
 pub mod Rounds
 pub mod Sizes
 pub mod AnswerCases
+pub mod Slopes
+pub mod Bytes
