@@ -8,3 +8,5 @@ pub mod Sizes
 pub mod AnswerCases
 pub mod Listed
 pub mod FirstBytes
+pub mod Slopes
+pub mod Bytes

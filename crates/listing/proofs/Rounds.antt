@@ -198,12 +198,12 @@ sum-same : (f g : ℕ → ℕ) (n : ℕ) → ((t : ℕ) → t < n → f t ≡ g 
 sum-same f g zero h = refl
 sum-same f g (suc n) h = omega (arith, h n (omega arith), sum-same f g n (λ t l. h t (omega arith)))
 
-sum-swap : (f : ℕ → ℕ → ℕ) (ks us : List ℕ) → sum (λ k. sum (f k) us) ks ≡ sum (λ u. sum (λ k. f k u) ks) us
+pub sum-swap : (f : ℕ → ℕ → ℕ) (ks us : List ℕ) → sum (λ k. sum (f k) us) ks ≡ sum (λ u. sum (λ k. f k u) ks) us
 sum-swap f [] us = sym (sum-zero (λ u. 0) (all-of (λ u. refl) us))
 sum-swap f (k ∷ ks) us = omega (arith, sum-swap f ks us, sum-add (f k) (λ u. sum (λ j. f j u) ks) us)
 
 -- of the numbers from 1 to n just one is j
-sum-hit : (n j : ℕ) → 1 ≤ j → j ≤ n → sum (λ k. cond (eqb j (k + 1)) 1 0) (below n) ≡ 1
+pub sum-hit : (n j : ℕ) → 1 ≤ j → j ≤ n → sum (λ k. cond (eqb j (k + 1)) 1 0) (below n) ≡ 1
 sum-hit zero j a b = absurd (omega arith)
 sum-hit (suc n) j a b = go (ℕ-discrete j (n + 1)) (λ l. sum-hit n j a l)
   where
