@@ -5,6 +5,7 @@ pub mod RowValues
 pub mod Steps
 pub mod Chosen
 pub mod Order
+pub mod Linking
 pub mod Planning
 pub mod Fitting
 pub mod Padded

@@ -1,19 +1,18 @@
 -- The order of steps by its cases, each premise in the form in which the code's calls and tests leave it. Assumes nothing.
-use Prim.Native.Nat.{ℕ, zero, suc, _+_, _-_, _*_, _<_, _≤_}
-use mathlib.Core.Path.{_≡_, refl, sym, _∙_, ap}
+use Prim.Native.Nat.{ℕ, _+_, _*_, _<_, _≤_}
+use mathlib.Core.Path.{_≡_, refl, sym, _∙_}
 use mathlib.Core.List.{List}
-use mathlib.Core.Bool.{Bool, true, false, not, cond, _&&_, _||_}
+use mathlib.Core.Bool.{Bool, true, false, not, _&&_}
 use native.Mathlib.Omega.{arith}
 use native.Mathlib.Numerals.{add-one}
 use lib.IntN.{ℤ}
 use lib.ListN.{getD}
-use lib.Dec.{ltb, leb, eqb}
-use borrow.Author.Tests.{eq-eqb, ne-eqb, lt-ltb, le-ltb, le-leb, lt-leb}
+use lib.Dec.{ltb, eqb}
+use borrow.Author.Tests.{eq-eqb, ne-eqb, lt-ltb, le-ltb}
 use Rattle.model.specs.Lists.{every}
 use Rattle.model.specs.Turns.{Turns, turnsIn}
 use Rattle.model.specs.Steps.{isOpen, left}
 use Rattle.model.specs.Rules.{noEarlier, right}
-use Rattle.model.specs.Pick.{sooner, better, best, pick}
 use Rattle.ratio.specs.Below.{earliestBelow}
 use Rattle.ratio.specs.Columns.{turnsBy, Columns}
 use Rattle.ratio.proofs.ByColumn.{same-earliest}
@@ -65,41 +64,3 @@ pub open-left-so : {o : Bool} (s : List ℤ) (t : ℕ) → o ≡ isOpen s t → 
 open-left-so s t e f = sym e ∙ f
 
 pub ruleset right-cases = (right-outside, right-closed, right-amount, right-earliest, open-left-so)
-
--- ---- the pick
-
-module _ (n : ℕ) (table : List ℕ) (s : List ℤ) (b i : ℕ) {o : Bool} (e : o ≡ isOpen s i) where
-  pub better-closed : o ≡ false → b ≡ cond (better (turnsIn n table) s b i) i b
-  unfolding better
-  better-closed f = rw (← e, f)
-
-  module _ (f : o ≡ true) where
-    pub better-first : n ≤ b → i ≡ cond (better (turnsIn n table) s b i) i b
-    unfolding better
-    better-first h = rw (← e, f, count-is n table, le-leb n b h)
-
-    module _ {x y : ℕ} (h : b < n) (p : x ≡ turnsIn n table .end i) (q : y ≡ turnsIn n table .end b) where
-      pub better-sooner : x < y → i ≡ cond (better (turnsIn n table) s b i) i b
-      unfolding better sooner
-      better-sooner l = rw (← e, f, count-is n table, lt-leb n b h, ← p, ← q, lt-ltb x y l)
-
-      pub better-later : y ≤ x → b ≡ cond (better (turnsIn n table) s b i) i b
-      unfolding better sooner
-      better-later l = rw (← e, f, count-is n table, lt-leb n b h, ← p, ← q, le-ltb x y l)
-
-pub ruleset better-cases = (better-closed, better-first, better-sooner, better-later)
-
-module _ (n : ℕ) (table : List ℕ) (s : List ℤ) where
-  pub best-start : n ≡ best (turnsIn n table) s 0
-  unfolding best
-  best-start = sym (count-is n table)
-
-  pub best-more : (i : ℕ) {b r : ℕ} → r ≡ cond (better (turnsIn n table) s b i) i b → b ≡ best (turnsIn n table) s i → r ≡ best (turnsIn n table) s (i + 1)
-  unfolding best
-  best-more i e h = rw (add-one, ← h) e
-
-  pub best-done : (i : ℕ) {b : ℕ} → n ≤ i → i ≤ n → b ≡ best (turnsIn n table) s i → b ≡ pick (turnsIn n table) s
-  unfolding pick
-  best-done i h l e = let q : i ≡ turnsIn n table .count = omega (arith, count-is n table) in rw q at e
-
-pub ruleset best-cases = (best-start, best-more, best-done)

@@ -3,6 +3,7 @@
 mod choices;
 mod choosing;
 mod columns;
+mod links;
 mod orders;
 mod residuals;
 mod rows;
@@ -15,7 +16,6 @@ pub use choices::is_maximal;
 pub use choosing::choose_turns;
 pub use columns::put_columns;
 pub use orders::is_right;
-pub use orders::pick_turn;
 pub use residuals::apply_step;
 pub use residuals::left_of;
 pub use residuals::none_open;

@@ -1,17 +1,14 @@
-// The order of steps: which open turn the planner picks, and which the check lets a step be about.
+// The order of steps: which open turn the check lets a step be about.
 ghost use mathlib.Core.Path.{_≡_};
-ghost use mathlib.Core.Bool.{true, cond};
-ghost use Prim.Native.Nat.{ℕ, _+_, _*_, _≤_, _<_};
+ghost use Prim.Native.Nat.{_*_, _≤_, _<_};
 ghost use lib.ListN.{length};
 ghost use Rattle.model.specs.Turns.{turnsIn};
 ghost use Rattle.model.specs.Rules.{noEarlier, right};
-ghost use Rattle.model.specs.Pick.{better, best, pick};
-ghost use Rattle.ratio.specs.Bounds.{Bounded, Held};
+ghost use Rattle.ratio.specs.Bounds.{Bounded};
 ghost use Rattle.ratio.specs.Below.{earliestBelow};
 ghost use Rattle.ratio.specs.Columns.{turnsBy, Columns};
 use super::residuals::is_open;
 use super::residuals::left_of;
-use super::rows::end_of;
 
 // Whether turn t is not an open turn of j's groomer with an earlier end. All three tests are always
 // done: a jump a turn would be guessed wrong too often.
@@ -55,34 +52,4 @@ pub fn is_right(rest: &[i32], table: &[u16], cols: &[u32], n: usize, turn: u16, 
         }
     }
     false
-}
-
-// The better of turn i and the best turn so far, n for none.
-fn better_of(rest: &[i32], table: &[u16], n: usize, b: usize, i: usize) -> usize
-    requires { ⌜ (i < n) × (b ≤ n) × Held n (now rest) (now table) ⌝ }
-    ensures { λ r. ⌜ (r ≡ cond (better (turnsIn n (now (table .entry))) (now (rest .entry)) b i) i b) × (r ≤ n) ⌝ }
-{
-    if is_open(rest, i) {
-        if n <= b {
-            return i;
-        }
-        if end_of(table, n, i) < end_of(table, n, b) {
-            return i;
-        }
-    }
-    b
-}
-
-// The open turn that ends first, of several the one with the lowest number; n where none is open.
-pub fn pick_turn(rest: &[i32], table: &[u16], n: usize) -> usize
-    requires { ⌜ Held n (now rest) (now table) ⌝ }
-    ensures { λ r. ⌜ (r ≡ pick (turnsIn n (now (table .entry))) (now (rest .entry))) × (r ≤ n) ⌝ }
-{
-    let mut b = n;
-    let mut i = 0;
-    while i < n {
-        b = better_of(rest, table, n, b, i);
-        i += 1;
-    }
-    b
 }
