@@ -1,7 +1,7 @@
 pub mod Turns
 pub mod Signed
 pub mod ByColumn
-pub mod RowValues
+pub mod SharedMinutes
 pub mod Steps
 pub mod Chosen
 pub mod Order

@@ -13,6 +13,14 @@ unfolding turnsIn
 count-is n table = refl
 
 module _ (n : ℕ) (table : List ℕ) (t : ℕ) where
+  pub slope-is : {r : ℕ} → r ≡ getD table (t * 5) 0 → r ≡ turnsIn n table .slope t
+  unfolding turnsIn
+  slope-is e = e
+
+  pub driver-is : {r : ℕ} → r ≡ getD table (t * 5 + 1) 0 → r ≡ turnsIn n table .groomer t
+  unfolding turnsIn
+  driver-is e = e
+
   pub start-is : {r : ℕ} → r ≡ getD table (t * 5 + 2) 0 → r ≡ turnsIn n table .start t
   unfolding turnsIn
   start-is e = e
@@ -25,7 +33,7 @@ module _ (n : ℕ) (table : List ℕ) (t : ℕ) where
   unfolding turnsIn
   worth-is e = e
 
-pub ruleset value-cases = (start-is, end-is, worth-is)
+pub ruleset value-cases = (slope-is, driver-is, start-is, end-is, worth-is)
 
 module _ (n : ℕ) (table : List ℕ) (x y : ℕ) where
   pub groomer-is : eqb (getD table (x * 5 + 1) 0) (getD table (y * 5 + 1) 0) ≡ eqb (turnsIn n table .groomer x) (turnsIn n table .groomer y)

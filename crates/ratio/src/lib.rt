@@ -22,6 +22,8 @@ pub use residuals::none_open;
 pub use residuals::set_initial;
 pub use rows::conflicts;
 pub use rows::end_of;
+pub use rows::groomer_of;
+pub use rows::slope_of;
 pub use rows::start_of;
 pub use rows::worth_of;
 pub use stepping::plan_steps;

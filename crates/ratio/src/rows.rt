@@ -15,6 +15,20 @@ fn wide(x: u16) -> u32
     x as u32
 }
 
+pub fn slope_of(table: &[u16], n: usize, t: usize) -> u32
+    requires { ⌜ (t < n) × (5 * n ≤ length (now table)) ⌝ }
+    ensures { λ r. ⌜ (r ≡ turnsIn n (now (table .entry)) .slope t) × (r < 65536) ⌝ }
+{
+    wide(table[t * 5])
+}
+
+pub fn groomer_of(table: &[u16], n: usize, t: usize) -> u32
+    requires { ⌜ (t < n) × (5 * n ≤ length (now table)) ⌝ }
+    ensures { λ r. ⌜ (r ≡ turnsIn n (now (table .entry)) .groomer t) × (r < 65536) ⌝ }
+{
+    wide(table[t * 5 + 1])
+}
+
 pub fn start_of(table: &[u16], n: usize, t: usize) -> u32
     requires { ⌜ (t < n) × (5 * n ≤ length (now table)) ⌝ }
     ensures { λ r. ⌜ (r ≡ turnsIn n (now (table .entry)) .start t) × (r < 65536) ⌝ }
@@ -71,24 +85,11 @@ pub fn conflicts(table: &[u16], n: usize, x: usize, y: usize) -> bool
     }
 }
 
-pub fn slope_of(table: &[u16], n: usize, t: usize) -> u32
-    requires { ⌜ (t < n) × (5 * n ≤ length (now table)) ⌝ }
-    ensures { λ r. ⌜ (r ≡ turnsIn n (now (table .entry)) .slope t) × (r < 65536) ⌝ }
-{
-    wide(table[t * 5])
-}
-
-pub fn groomer_of(table: &[u16], n: usize, t: usize) -> u32
-    requires { ⌜ (t < n) × (5 * n ≤ length (now table)) ⌝ }
-    ensures { λ r. ⌜ (r ≡ turnsIn n (now (table .entry)) .groomer t) × (r < 65536) ⌝ }
-{
-    wide(table[t * 5 + 1])
-}
-
 // Whether a turn from one minute until another and one from start to end share a minute, the gap
 // counted to each. It has no jumps: where every turn is tested, one a turn would be guessed wrong
 // too often.
 pub fn share_minute(from: u32, until: u32, start: u32, end: u32) -> bool
+    requires { ⌜ (until < 131072) × (end < 131072) ⌝ }
     ensures { λ r. ⌜ r ≡ (ltb from (end + gap) && ltb start (until + gap)) ⌝ }
 {
     (from < end + GAP) & (start < until + GAP)

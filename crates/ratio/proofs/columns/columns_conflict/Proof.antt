@@ -82,7 +82,7 @@ shared-slice-read-share-minute-4 : tie.Need-shared-slice-read-share-minute-4
 shared-slice-read-share-minute-4 c = search needs
 
 share-minute-requires : tie.Need-share-minute-requires
-share-minute-requires c κs = search needs
+share-minute-requires c κs = search (needs, column-cases)
 
 returns : tie.Need-returns
 returns c = search (needs, column-cases)

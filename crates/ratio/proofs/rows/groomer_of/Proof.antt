@@ -1,4 +1,4 @@
-use Rattle.ratio.proofs.RowValues.{row-cases}
+use Rattle.ratio.proofs.Turns.{value-cases}
 use borrow.Author.Needs.{needs}
 use Rattle.ratio.proofs.rows.groomer_of.Statement.{statement}
 use Rattle.ratio.proofs.rows.groomer_of.Tie as tie
@@ -19,7 +19,7 @@ wide-requires : tie.Need-wide-requires
 wide-requires c κs = search needs
 
 returns : tie.Need-returns
-returns c = (search row-cases, search needs)
+returns c = (search value-cases, search needs)
 
 pub groomer-of-spec : {M : Type 1} → statement M
 groomer-of-spec =

@@ -1,4 +1,4 @@
-use Rattle.ratio.proofs.RowValues.{row-cases}
+use Rattle.ratio.proofs.Turns.{value-cases}
 use borrow.Author.Needs.{needs}
 use Rattle.ratio.proofs.rows.slope_of.Statement.{statement}
 use Rattle.ratio.proofs.rows.slope_of.Tie as tie
@@ -16,7 +16,7 @@ wide-requires : tie.Need-wide-requires
 wide-requires c κs = search needs
 
 returns : tie.Need-returns
-returns c = (search row-cases, search needs)
+returns c = (search value-cases, search needs)
 
 pub slope-of-spec : {M : Type 1} → statement M
 slope-of-spec =
