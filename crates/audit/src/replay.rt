@@ -9,31 +9,39 @@ ghost use Rattle.model.specs.Steps.{afterStep, afterSteps, tally};
 ghost use Rattle.model.specs.Rules.{right, allRight};
 ghost use Rattle.board.specs.Board.{stepAt, stepsIn};
 ghost use Rattle.ratio.specs.Bounds.{Bounded, Held};
+ghost use Rattle.ratio.specs.Columns.{Columns};
 ghost use Rattle.audit.specs.Check.{stepCauses};
 
 // Step i, if it is right where it stands; else nothing is changed.
-fn replay_one(rest: &mut [i32], table: &[u16], n: usize, steps: &[u8], i: usize) -> bool
-    requires { ⌜ Bounded (now rest) × Held n (now rest) (now table) × (4 * i + 4 ≤ length (now steps)) ⌝ }
+fn replay_one(
+    rest: &mut [i32],
+    table: &[u16],
+    cols: &[u32],
+    n: usize,
+    steps: &[u8],
+    i: usize,
+) -> bool
+    requires { ⌜ Bounded (now rest) × Held n (now rest) (now table) × Columns n (now table) (now cols) × (4 * i + 4 ≤ length (now steps)) ⌝ }
     ensures { λ r. ⌜ (r ≡ right (turnsIn n (now (table .entry))) (now (rest .entry)) (stepAt (now (steps .entry)) i)) × (now (rest .exit) ≡ cond r (afterStep (turnsIn n (now (table .entry))) (now (rest .entry)) (stepAt (now (steps .entry)) i)) (now (rest .entry))) × Bounded (now (rest .exit)) ⌝ }
 {
     let at = 4 * i;
     let turn = wire::word_at(steps, at);
     let amount = wire::word_at(steps, at + 2);
-    if ratio::is_right(&*rest, table, n, turn, amount) {
-        ratio::apply_step(&mut *rest, table, n, turn as usize, amount);
+    if ratio::is_right(&*rest, table, cols, n, turn, amount) {
+        ratio::apply_step(&mut *rest, table, cols, n, turn as usize, amount);
         return true;
     }
     false
 }
 
 // Whether each of m steps in order is right where it stands; if so, the residuals are those after the last.
-fn replay(rest: &mut [i32], table: &[u16], n: usize, steps: &[u8], m: usize) -> bool
-    requires { ⌜ Bounded (now rest) × Held n (now rest) (now table) × (4 * m ≤ length (now steps)) ⌝ }
+fn replay(rest: &mut [i32], table: &[u16], cols: &[u32], n: usize, steps: &[u8], m: usize) -> bool
+    requires { ⌜ Bounded (now rest) × Held n (now rest) (now table) × Columns n (now table) (now cols) × (4 * m ≤ length (now steps)) ⌝ }
     ensures { λ r. ⌜ (r ≡ allRight (turnsIn n (now (table .entry))) (now (rest .entry)) (stepsIn m (now (steps .entry)))) × (r ≡ true → now (rest .exit) ≡ afterSteps (turnsIn n (now (table .entry))) (now (rest .entry)) (stepsIn m (now (steps .entry)))) × (length (now (rest .exit)) ≡ n) ⌝ }
 {
     let mut i = 0;
     while i < m {
-        if replay_one(&mut *rest, table, n, steps, i) {
+        if replay_one(&mut *rest, table, cols, n, steps, i) {
             i += 1;
         } else {
             return false;
@@ -44,11 +52,13 @@ fn replay(rest: &mut [i32], table: &[u16], n: usize, steps: &[u8], m: usize) -> 
 
 // The first cause to refuse m steps, 0 if none. The residuals are for this function to use.
 pub fn steps_fault(rest: &mut [i32], table: &[u16], n: usize, steps: &[u8], m: usize) -> u8
-    requires { ⌜ Held n (now rest) (now table) × RowsBounded n (now table) × (4 * m ≤ length (now steps)) ⌝ }
+    requires { ⌜ (n ≤ 400) × Held n (now rest) (now table) × RowsBounded n (now table) × (4 * m ≤ length (now steps)) ⌝ }
     ensures { λ r. ⌜ r ≡ firstOf (stepCauses (turnsIn n (now (table .entry))) (stepsIn m (now (steps .entry)))) ⌝ }
 {
     ratio::set_initial(&mut *rest, table, n);
-    if replay(&mut *rest, table, n, steps, m) {
+    let mut cols = [0u32; 1600];
+    ratio::put_columns(&mut cols, table, n);
+    if replay(&mut *rest, table, &cols, n, steps, m) {
         if ratio::none_open(&*rest) {
             0
         } else {

@@ -1,8 +1,11 @@
 pub mod Turns
 pub mod Signed
+pub mod ByColumn
+pub mod SharedMinutes
 pub mod Steps
 pub mod Chosen
 pub mod Order
+pub mod Linking
 pub mod Planning
 pub mod Fitting
 pub mod Padded

@@ -1,65 +1,43 @@
 -- The order of steps by its cases, each premise in the form in which the code's calls and tests leave it. Assumes nothing.
-use Prim.Native.Nat.{ℕ, zero, suc, _+_, _-_, _*_, _<_, _≤_}
-use mathlib.Core.Path.{_≡_, refl, sym, _∙_, ap}
+use Prim.Native.Nat.{ℕ, _+_, _*_, _<_, _≤_}
+use mathlib.Core.Path.{_≡_, refl, sym, _∙_}
 use mathlib.Core.List.{List}
-use mathlib.Core.Bool.{Bool, true, false, not, cond, _&&_, _||_}
+use mathlib.Core.Bool.{Bool, true, false, not, _&&_}
 use native.Mathlib.Omega.{arith}
 use native.Mathlib.Numerals.{add-one}
 use lib.IntN.{ℤ}
-use lib.Dec.{ltb, leb, eqb}
-use borrow.Author.Tests.{eq-eqb, ne-eqb, lt-ltb, le-ltb, le-leb, lt-leb, leb-true, leb-false}
+use lib.ListN.{getD}
+use lib.Dec.{ltb, eqb}
+use borrow.Author.Tests.{eq-eqb, ne-eqb, lt-ltb, le-ltb}
 use Rattle.model.specs.Lists.{every}
 use Rattle.model.specs.Turns.{Turns, turnsIn}
 use Rattle.model.specs.Steps.{isOpen, left}
 use Rattle.model.specs.Rules.{noEarlier, right}
-use Rattle.model.specs.Pick.{sooner, better, best, pick}
-use Rattle.model.proofs.Bools.{every-fails}
 use Rattle.ratio.specs.Below.{earliestBelow}
-use Rattle.ratio.proofs.Chosen.{every-more, every-done}
+use Rattle.ratio.specs.Columns.{turnsBy, Columns}
+use Rattle.ratio.proofs.ByColumn.{same-earliest}
 use Rattle.ratio.proofs.Turns.{count-is}
 
 -- ---- one turn
 
-module _ (T : Turns) (s : List ℤ) (j t : ℕ) {o : Bool} (e : o ≡ isOpen s t) where
-  pub earlier-closed : o ≡ false → true ≡ noEarlier T s j t
-  unfolding noEarlier
-  earlier-closed f = rw (← e, f)
-
-  module _ {g : Bool} (f : o ≡ true) (h : g ≡ eqb (T .groomer j) (T .groomer t)) where
-    pub earlier-other : g ≡ false → true ≡ noEarlier T s j t
-    unfolding noEarlier
-    earlier-other k = rw (← e, f, ← h, k)
-
-    pub earlier-end : {a b : ℕ} → g ≡ true → a ≡ T .end j → b ≡ T .end t → leb a b ≡ noEarlier T s j t
-    unfolding noEarlier
-    earlier-end {a} {b} k p q = rw (← e, f, ← h, k, ← p, ← q) (turned (leb a b) refl)
-      where
-        turned : (c : Bool) → leb a b ≡ c → c ≡ not (ltb b a)
-        turned true m = rw (le-ltb b a (leb-true a b m))
-        turned false m = rw (lt-ltb b a (leb-false a b m))
-
-pub ruleset earlier-cases = (earlier-closed, earlier-other, earlier-end)
+pub earlier-is : (n : ℕ) (cols : List ℕ) (s : List ℤ) (j t : ℕ) {o : Bool} → o ≡ isOpen s t → not (o && eqb (getD cols (n + j) 0) (getD cols (n + t) 0) && ltb (getD cols (3 * n + t) 0) (getD cols (3 * n + j) 0)) ≡ noEarlier (turnsBy n cols) s j t
+unfolding noEarlier turnsBy
+earlier-is n cols s j t e = rw e
 
 -- ---- all turns
 
-module _ (T : Turns) (s : List ℤ) (j : ℕ) where
-  pub earliest-start : earliestBelow T s j 0 ≡ true
-  unfolding earliestBelow every
-  earliest-start = refl
+pub earliest-start : (T : Turns) (s : List ℤ) (j : ℕ) → true ≡ earliestBelow T s j 0
+unfolding earliestBelow every
+earliest-start T s j = refl
 
-  pub earliest-more : (t : ℕ) {r : Bool} → r ≡ noEarlier T s j t → r ≡ true → earliestBelow T s j t ≡ true → earliestBelow T s j (t + 1) ≡ true
-  unfolding earliestBelow
-  earliest-more t e f h = every-more (noEarlier T s j) t (sym e ∙ f) h
+pub earliest-more : (T : Turns) (s : List ℤ) (j t : ℕ) {r all : Bool} → r ≡ noEarlier T s j t → all ≡ earliestBelow T s j t → (r && all) ≡ earliestBelow T s j (t + 1)
+unfolding earliestBelow every
+earliest-more T s j t e f = rw (add-one, e, f)
 
-  pub earliest-not : (t : ℕ) {n : ℕ} {r : Bool} → r ≡ noEarlier T s j t → r ≡ false → t < n → false ≡ earliestBelow T s j n
-  unfolding earliestBelow
-  earliest-not t {n} e f h = sym (every-fails (noEarlier T s j) n t h (sym e ∙ f))
+pub earliest-done : (n : ℕ) (table cols : List ℕ) (s : List ℤ) (j t : ℕ) {all : Bool} → Columns n table cols → j < n → n ≤ t → t ≤ n → all ≡ earliestBelow (turnsBy n cols) s j t → all ≡ earliestBelow (turnsIn n table) s j n
+earliest-done n table cols s j t k h l m e = let q : t ≡ n = omega arith in rw q at e ∙ same-earliest n table cols k s j h
 
-  pub earliest-done : {t n : ℕ} → n ≤ t → t ≤ n → earliestBelow T s j t ≡ true → true ≡ earliestBelow T s j n
-  unfolding earliestBelow
-  earliest-done {t} h l i = every-done (noEarlier T s j) t h l i
-
-pub ruleset earliest-cases = (earliest-start, earliest-more, earliest-not, earliest-done)
+pub ruleset earliest-cases = (earlier-is, earliest-start, earliest-more, earliest-done)
 
 -- ---- a step
 
@@ -86,41 +64,3 @@ pub open-left-so : {o : Bool} (s : List ℤ) (t : ℕ) → o ≡ isOpen s t → 
 open-left-so s t e f = sym e ∙ f
 
 pub ruleset right-cases = (right-outside, right-closed, right-amount, right-earliest, open-left-so)
-
--- ---- the pick
-
-module _ (n : ℕ) (table : List ℕ) (s : List ℤ) (b i : ℕ) {o : Bool} (e : o ≡ isOpen s i) where
-  pub better-closed : o ≡ false → b ≡ cond (better (turnsIn n table) s b i) i b
-  unfolding better
-  better-closed f = rw (← e, f)
-
-  module _ (f : o ≡ true) where
-    pub better-first : n ≤ b → i ≡ cond (better (turnsIn n table) s b i) i b
-    unfolding better
-    better-first h = rw (← e, f, count-is n table, le-leb n b h)
-
-    module _ {x y : ℕ} (h : b < n) (p : x ≡ turnsIn n table .end i) (q : y ≡ turnsIn n table .end b) where
-      pub better-sooner : x < y → i ≡ cond (better (turnsIn n table) s b i) i b
-      unfolding better sooner
-      better-sooner l = rw (← e, f, count-is n table, lt-leb n b h, ← p, ← q, lt-ltb x y l)
-
-      pub better-later : y ≤ x → b ≡ cond (better (turnsIn n table) s b i) i b
-      unfolding better sooner
-      better-later l = rw (← e, f, count-is n table, lt-leb n b h, ← p, ← q, le-ltb x y l)
-
-pub ruleset better-cases = (better-closed, better-first, better-sooner, better-later)
-
-module _ (n : ℕ) (table : List ℕ) (s : List ℤ) where
-  pub best-start : n ≡ best (turnsIn n table) s 0
-  unfolding best
-  best-start = sym (count-is n table)
-
-  pub best-more : (i : ℕ) {b r : ℕ} → r ≡ cond (better (turnsIn n table) s b i) i b → b ≡ best (turnsIn n table) s i → r ≡ best (turnsIn n table) s (i + 1)
-  unfolding best
-  best-more i e h = rw (add-one, ← h) e
-
-  pub best-done : (i : ℕ) {b : ℕ} → n ≤ i → i ≤ n → b ≡ best (turnsIn n table) s i → b ≡ pick (turnsIn n table) s
-  unfolding pick
-  best-done i h l e = let q : i ≡ turnsIn n table .count = omega (arith, count-is n table) in rw q at e
-
-pub ruleset best-cases = (best-start, best-more, best-done)

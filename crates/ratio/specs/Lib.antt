@@ -1,2 +1,4 @@
 pub mod Bounds
 pub mod Below
+pub mod Columns
+pub mod Links

@@ -1,7 +1,9 @@
 // The engine of the local ratio method: residuals, steps, choices. It knows turns only as rows of a
-// table, and what conflicts only through one function.
+// table, or as columns made of it, and what conflicts only through one function for each.
 mod choices;
 mod choosing;
+mod columns;
+mod links;
 mod orders;
 mod residuals;
 mod rows;
@@ -12,8 +14,8 @@ pub use choices::has_room;
 pub use choices::is_independent;
 pub use choices::is_maximal;
 pub use choosing::choose_turns;
+pub use columns::put_columns;
 pub use orders::is_right;
-pub use orders::pick_turn;
 pub use residuals::apply_step;
 pub use residuals::left_of;
 pub use residuals::none_open;

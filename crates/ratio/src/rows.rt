@@ -2,7 +2,8 @@
 ghost use mathlib.Core.Path.{_≡_};
 ghost use Prim.Native.Nat.{_+_, _*_, _≤_, _<_};
 ghost use lib.ListN.{length};
-ghost use lib.Dec.{eqb};
+ghost use mathlib.Core.Bool.{_&&_};
+ghost use lib.Dec.{eqb, ltb};
 ghost use Rattle.model.specs.Turns.{turnsIn, gap, overlap, byGroomer, conflict};
 
 // The free minutes that a groomer needs between two turns.
@@ -82,4 +83,14 @@ pub fn conflicts(table: &[u16], n: usize, x: usize, y: usize) -> bool
     } else {
         false
     }
+}
+
+// Whether a turn from one minute until another and one from start to end share a minute, the gap
+// counted to each. It has no jumps: where every turn is tested, one a turn would be guessed wrong
+// too often.
+pub fn share_minute(from: u32, until: u32, start: u32, end: u32) -> bool
+    requires { ⌜ (until < 131072) × (end < 131072) ⌝ }
+    ensures { λ r. ⌜ r ≡ (ltb from (end + gap) && ltb start (until + gap)) ⌝ }
+{
+    (from < end + GAP) & (start < until + GAP)
 }

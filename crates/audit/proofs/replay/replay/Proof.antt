@@ -12,10 +12,10 @@ use Rattle.audit.proofs.replay.replay.Statement.{statement}
 use Rattle.audit.proofs.replay.replay.Tie as tie
 
 abbrev Inv-loop : tie.InvT-loop
-Inv-loop rest₀ table n steps m i₀ rest i = (i ≤ m) × (length rest ≡ n) × Bounded rest × (allRight (turnsIn n table) rest (stepsFrom (m - i) i steps) ≡ allRight (turnsIn n table) rest₀ (stepsIn m steps)) × (afterSteps (turnsIn n table) rest (stepsFrom (m - i) i steps) ≡ afterSteps (turnsIn n table) rest₀ (stepsIn m steps))
+Inv-loop rest₀ table cols n steps m i₀ rest i = (i ≤ m) × (length rest ≡ n) × Bounded rest × (allRight (turnsIn n table) rest (stepsFrom (m - i) i steps) ≡ allRight (turnsIn n table) rest₀ (stepsIn m steps)) × (afterSteps (turnsIn n table) rest (stepsFrom (m - i) i steps) ≡ afterSteps (turnsIn n table) rest₀ (stepsIn m steps))
 
 abbrev μ-loop : tie.MeasureT-loop
-μ-loop rest₀ table n steps m i₀ rest i = m - i
+μ-loop rest₀ table cols n steps m i₀ rest i = m - i
 
 loop-holds : tie.Need-loop-holds Inv-loop μ-loop
 loop-holds c = search (needs, replay-cases)

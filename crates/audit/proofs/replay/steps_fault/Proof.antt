@@ -4,28 +4,37 @@ use Rattle.audit.proofs.replay.steps_fault.Statement.{statement}
 use Rattle.audit.proofs.replay.steps_fault.Tie as tie
 
 set-initial-requires : tie.Need-set-initial-requires
-set-initial-requires c κs = search (needs, fault-cases)
+set-initial-requires c κs = search needs
+
+slice-aggregate-put-columns : tie.Need-slice-aggregate-put-columns
+slice-aggregate-put-columns c = search needs
+
+put-columns-requires : tie.Need-put-columns-requires
+put-columns-requires c κs = search needs
+
+slice-aggregate-replay : tie.Need-slice-aggregate-replay
+slice-aggregate-replay c = search needs
 
 replay-requires : tie.Need-replay-requires
-replay-requires c κs = search (needs, fault-cases)
+replay-requires c κs = search needs
 
 none-open-requires : tie.Need-none-open-requires
-none-open-requires c κs = search (needs, fault-cases)
+none-open-requires c κs = search needs
 
 same-length : tie.Need-same-length
-same-length c = search (needs, fault-cases)
+same-length c = search needs
 
 returns : tie.Need-returns
 returns c = search (needs, fault-cases)
 
 same-length-2 : tie.Need-same-length-2
-same-length-2 c = search (needs, fault-cases)
+same-length-2 c = search needs
 
 returns-2 : tie.Need-returns-2
 returns-2 c = search (needs, fault-cases)
 
 same-length-3 : tie.Need-same-length-3
-same-length-3 c = search (needs, fault-cases)
+same-length-3 c = search needs
 
 returns-3 : tie.Need-returns-3
 returns-3 c = search (needs, fault-cases)
@@ -35,6 +44,9 @@ steps-fault-spec =
     tie.close
     (tie.spec
     set-initial-requires
+    slice-aggregate-put-columns
+    put-columns-requires
+    slice-aggregate-replay
     replay-requires
     none-open-requires
     same-length

@@ -1,7 +1,6 @@
 use Rattle.ratio.proofs.Order.{earliest-cases}
 use Rattle.ratio.specs.Below.{earliestBelow}
-use Rattle.model.specs.Turns.{turnsIn}
-use mathlib.Core.Bool.{true}
+use Rattle.ratio.specs.Columns.{turnsBy}
 use mathlib.Core.Path.{_≡_}
 use Prim.Native.Nat.{_-_, _≤_}
 use borrow.Author.Needs.{needs}
@@ -9,22 +8,22 @@ use Rattle.ratio.proofs.orders.is_earliest.Statement.{statement}
 use Rattle.ratio.proofs.orders.is_earliest.Tie as tie
 
 abbrev Inv-loop : tie.InvT-loop
-Inv-loop rest table n j t₀ t = (t ≤ n) × (earliestBelow (turnsIn n table) rest j t ≡ true)
+Inv-loop rest table cols n j all₀ t₀ all t = (t ≤ n) × (all ≡ earliestBelow (turnsBy n cols) rest j t)
 
 abbrev μ-loop : tie.MeasureT-loop
-μ-loop rest table n j t₀ t = n - t
+μ-loop rest table cols n j all₀ t₀ all t = n - t
 
 loop-holds : tie.Need-loop-holds Inv-loop μ-loop
 loop-holds c = search (needs, earliest-cases)
 
 is-no-earlier-requires : tie.Need-is-no-earlier-requires Inv-loop μ-loop
-is-no-earlier-requires c κs = search (needs, earliest-cases)
+is-no-earlier-requires c κs = search needs
 
 add-t : tie.Need-add-t Inv-loop μ-loop
-add-t c = search (needs, earliest-cases)
+add-t c = search needs
 
 loop-less : tie.Need-loop-less Inv-loop μ-loop
-loop-less c = search (needs, earliest-cases)
+loop-less c = search needs
 
 loop-again : tie.Need-loop-again Inv-loop μ-loop
 loop-again c = search (needs, earliest-cases)
@@ -32,19 +31,7 @@ loop-again c = search (needs, earliest-cases)
 returns : tie.Need-returns Inv-loop μ-loop
 returns c = search (needs, earliest-cases)
 
-returns-2 : tie.Need-returns-2 Inv-loop μ-loop
-returns-2 c = search (needs, earliest-cases)
-
 pub is-earliest-spec : {M : Type 1} → statement M
 is-earliest-spec =
     tie.close
-    (tie.spec
-    Inv-loop
-    μ-loop
-    loop-holds
-    is-no-earlier-requires
-    add-t
-    loop-less
-    loop-again
-    returns
-    returns-2)
+    (tie.spec Inv-loop μ-loop loop-holds is-no-earlier-requires add-t loop-less loop-again returns)
