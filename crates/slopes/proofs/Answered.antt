@@ -1,0 +1,104 @@
+-- What the program prints, by the listing's answer; each premise in the form in which the code's calls and tests leave it. Assumes nothing.
+use Prim.Native.Nat.{ℕ, _<_, _≤_}
+use mathlib.Core.Path.{_≡_, refl, sym, _∙_, ap}
+use mathlib.Core.List.{List, [], _∷_, _++_}
+use native.Mathlib.Omega.{arith}
+use native.Mathlib.Decide.{ℕ-discrete}
+use lib.Dec.{ltb}
+use lib.ListN.{length, take, drop, length-append, length-drop}
+use lib.Seq.{take-at}
+use borrow.Author.Tests.{eq-eqb, ne-eqb, le-ltb}
+use Rattle.refusal.specs.Number.{bufferTooSmall}
+use Rattle.refusal.specs.Cause.{_when_, firstOf}
+use Rattle.refusal.proofs.Order.{first-stops, first-goes}
+use Rattle.wire.specs.Number.{puts}
+use Rattle.wire.proofs.Puts.{puts-front, puts-length}
+use Rattle.sheet.specs.Read.{sheetCauses}
+use Rattle.sheet.proofs.Readings.{sheet-numbered}
+use Rattle.sheet.proofs.Prefix.{prefix-refusal, prefix-same}
+use Rattle.listing.specs.declared.ListAnswer.{ListAnswer}
+use Rattle.listing.specs.Text.{refusedLine}
+use Rattle.listing.specs.Limits.{inputBytes, listingBytes}
+use Rattle.listing.specs.List.{Listed, sheetListing, listCauses, listOf}
+use Rattle.listing.specs.Answer.{listed}
+use Rattle.listing.proofs.Bytes.{listing-bytes}
+use Rattle.slopes.specs.Printed.{printed}
+
+-- ---- the two answers that there are, with room for every listing
+
+module _ (s lent : List ℕ) (room : listingBytes ≤ length lent) where
+  list-fits : firstOf (sheetCauses s) ≡ 0 → listOf s lent ≡ record { refusal = 0; bytes = length (sheetListing s); lent = sheetListing s ++ drop (length (sheetListing s)) lent }
+  unfolding listOf listCauses firstOf
+  list-fits z =
+      let l : length (sheetListing s) ≤ length lent = omega (arith, listing-bytes s z) in
+      let c : firstOf (sheetCauses s ++ bufferTooSmall when ltb (length lent) (length (sheetListing s)) ∷ []) ≡ 0 =
+      first-goes (sheetCauses s) (bufferTooSmall when ltb (length lent) (length (sheetListing s)) ∷ []) (sheet-numbered s) z ∙ rw (le-ltb (length lent) (length (sheetListing s)) l) in
+      rw c
+
+  list-refuses : (firstOf (sheetCauses s) ≡ 0 → ⊥) → listOf s lent ≡ record { refusal = firstOf (sheetCauses s); bytes = 0; lent = lent }
+  unfolding listOf listCauses
+  list-refuses z = rw (first-stops (sheetCauses s) (bufferTooSmall when _ ∷ []) (firstOf (sheetCauses s)) refl z, ne-eqb (firstOf (sheetCauses s)) 0 z)
+
+  module _ {a : ListAnswer} {text : List ℕ} (e : listed a text ≡ listOf s lent) where
+    accepted : a .refusal ≡ 0 → firstOf (sheetCauses s) ≡ 0
+    accepted f = go (ℕ-discrete (firstOf (sheetCauses s)) 0)
+      where
+        go : Dec (firstOf (sheetCauses s) ≡ 0) → firstOf (sheetCauses s) ≡ 0
+        go (yes z) = z
+        go (no z) = absurd (z (sym (ap (λ (x : Listed). x .refusal) (e ∙ list-refuses z)) ∙ f))
+
+    module _ (f : a .refusal ≡ 0) where
+      found : listed a text ≡ record { refusal = 0; bytes = length (sheetListing s); lent = sheetListing s ++ drop (length (sheetListing s)) lent }
+      found = e ∙ list-fits (accepted f)
+
+      bytes-are : a .bytes ≡ length (sheetListing s)
+      bytes-are = ap (λ (x : Listed). x .bytes) found
+
+      text-is : text ≡ sheetListing s ++ drop (length (sheetListing s)) lent
+      text-is = ap (λ (x : Listed). x .lent) found
+
+      pub answer-fits : a .bytes ≤ length text
+      answer-fits = rw text-is (omega (arith, bytes-are, length-append (sheetListing s) (drop (length (sheetListing s)) lent)))
+
+      pub answer-listing : take (a .bytes) text ≡ printed s
+      unfolding printed
+      answer-listing = rw (text-is, eq-eqb (firstOf (sheetCauses s)) 0 (accepted f)) (take-at (sheetListing s) (drop (length (sheetListing s)) lent) (a .bytes) (sym bytes-are))
+
+    module _ (f : a .refusal ≡ 0 → ⊥) where
+      refused : firstOf (sheetCauses s) ≡ 0 → ⊥
+      refused z = f (ap (λ (x : Listed). x .refusal) (e ∙ list-fits z))
+
+      left : listed a text ≡ record { refusal = firstOf (sheetCauses s); bytes = 0; lent = lent }
+      left = e ∙ list-refuses refused
+
+      number-is : a .refusal ≡ firstOf (sheetCauses s)
+      number-is = ap (λ (x : Listed). x .refusal) left
+
+      text-left : text ≡ lent
+      text-left = ap (λ (x : Listed). x .lent) left
+
+      module _ {r : ℕ} {text′ : List ℕ} (n : r ≡ length (refusedLine (a .refusal))) (m : r ≤ 266) (p : text′ ≡ puts text 0 (refusedLine (a .refusal))) where
+        pub line-fits : r ≤ length text′
+        line-fits = rw p (omega (arith, puts-length (refusedLine (a .refusal)) text 0, ap length text-left))
+
+        pub answer-refused : take r text′ ≡ printed s
+        unfolding printed
+        answer-refused =
+            let l : length (refusedLine (a .refusal)) ≤ length text = omega (arith, n, m, ap length text-left) in
+            rw (p, puts-front (refusedLine (a .refusal)) text l, ne-eqb (firstOf (sheetCauses s)) 0 refused)
+            (take-at (refusedLine (a .refusal)) (drop (length (refusedLine (a .refusal))) text) r (sym n) ∙ ap refusedLine number-is)
+
+pub ruleset answer-cases = (answer-fits, answer-listing, line-fits, answer-refused)
+
+-- ---- what is printed depends on the bytes alone that are read
+
+refused-prints : (s : List ℕ) (f : ℕ) → firstOf (sheetCauses s) ≡ f → (f ≡ 0 → ⊥) → printed s ≡ refusedLine f
+unfolding printed
+refused-prints s f e z = rw (e, ne-eqb f 0 z)
+
+pub printed-first : (s : List ℕ) → printed (take inputBytes s) ≡ printed s
+printed-first s = go (ℕ-discrete (firstOf (sheetCauses s)) 0)
+  where
+    go : Dec (firstOf (sheetCauses s) ≡ 0) → printed (take inputBytes s) ≡ printed s
+    go (yes e) = ap printed (prefix-same s e)
+    go (no f) = refused-prints (take inputBytes s) (firstOf (sheetCauses s)) (prefix-refusal s) f ∙ sym (refused-prints s (firstOf (sheetCauses s)) refl f)

@@ -1,0 +1,35 @@
+// Plans the sheet on standard input, and prints the drivers' listing, or the line of a refusal.
+ghost use mathlib.Core.Path.{_≡_};
+ghost use Prim.Native.Nat.{_≤_};
+ghost use lib.ListN.{length, take};
+ghost use Rattle.listing.specs.Limits.{listingBytes};
+ghost use Rattle.slopes.specs.Printed.{printed};
+use libc::STDIN_FILENO;
+use libc::STDOUT_FILENO;
+
+// One byte more than the longest sheet has: what is behind it changes no answer.
+const INPUT_BYTES: usize = 3608;
+
+// Places for every listing.
+const TEXT_BYTES: usize = 3806;
+
+// Puts what is to be printed for a sheet to the front of the text; returns its bytes.
+fn answer(sheet: &[u8], text: &mut [u8]) -> usize
+    requires { ⌜ listingBytes ≤ length (now text) ⌝ }
+    ensures { λ r. ⌜ (r ≤ length (now (text .exit))) × (take r (now (text .exit)) ≡ printed (now (sheet .entry))) ⌝ }
+{
+    let a = listing::list(sheet, &mut *text);
+    if a.refusal == 0 {
+        return a.bytes as usize;
+    }
+    listing::refused_line(&mut *text, a.refusal)
+}
+
+// A read that fails counts as the end of the input.
+fn main() {
+    let mut sheet = [0u8; INPUT_BYTES];
+    let got = io::read_full(STDIN_FILENO, &mut sheet);
+    let mut text = [0u8; TEXT_BYTES];
+    let bytes = answer(&sheet[..got], &mut text);
+    io::write_all(STDOUT_FILENO, &text[..bytes]);
+}

@@ -1,0 +1,116 @@
+//! Writes the runs of the program `slopes` into a folder: for each, what it
+//! is given on standard input, `NAME.sheet`, and what it must print,
+//! `NAME.text`.
+//!
+//! ```text
+//! cargo run --release --manifest-path reference/Cargo.toml --bin runs -- tests/slopes
+//! ```
+
+use std::path::Path;
+use std::process::ExitCode;
+use std::{env, fs, io};
+
+use slopeboard_reference::gen::{self, Rng};
+use slopeboard_reference::{listing, refused_line, shapes};
+
+/// The worked example: two groomers, three slopes, four turns.
+const EXAMPLE: [u8; 39] = [
+    0x47, 0x52, 0x4D, 0x02, 0x03, 0x00, 0x04, 0x1F, 0x01, 0x01, 0x00, 0x00, 0x00, 0x3C, 0x00, 0x64,
+    0x15, 0x02, 0x00, 0x1E, 0x00, 0x96, 0x1F, 0x01, 0x02, 0x00, 0x00, 0x00, 0x78, 0x00, 0x50, 0x1D,
+    0x03, 0x00, 0x78, 0x00, 0x3C, 0x00, 0x5A,
+];
+
+/// Room for every listing.
+const MOST_TEXT: usize = 4096;
+
+/// The most that the program reads.
+const MOST_READ: usize = 3608;
+
+/// The example with other bytes from a place on.
+fn example_with(place: usize, bytes: &[u8]) -> Vec<u8> {
+    let mut sheet = EXAMPLE.to_vec();
+    sheet[place..place + bytes.len()].copy_from_slice(bytes);
+    sheet
+}
+
+/// One sheet for each refusal, in the order of their numbers.
+fn refusals() -> [Vec<u8>; 10] {
+    [
+        EXAMPLE[..38].to_vec(),
+        example_with(2, b"B"),
+        example_with(3, &[17]),
+        example_with(5, &[0x01, 0x91]),
+        example_with(7, &[0x3F]),
+        example_with(8, &[4]),
+        example_with(9, &[3]),
+        example_with(10, &[0x03, 0x84, 0x00, 0x3D]),
+        example_with(14, &[0xEA, 0x61]),
+        [&EXAMPLE[..], &[0]].concat(),
+    ]
+}
+
+/// The longest sheet there is, 400 turns with all fields, and so many bytes
+/// behind it.
+fn longest(behind: usize) -> Vec<u8> {
+    let mut rng = Rng::new(3608);
+    let shift = shapes::usual(&mut rng, 400);
+    let mut sheet = gen::encode(&mut rng, &shift, 100).bytes;
+    assert_eq!(sheet.len() + 1, MOST_READ, "every record has every field");
+    sheet.extend((0..behind).map(|place| place as u8));
+    sheet
+}
+
+fn runs() -> Vec<(String, Vec<u8>)> {
+    let mut rng = Rng::new(400);
+    let mut runs: Vec<(String, Vec<u8>)> = refusals()
+        .into_iter()
+        .enumerate()
+        .map(|(index, sheet)| (format!("refused_{:02}", index + 1), sheet))
+        .collect();
+    let mut more = |name: &str, sheet: Vec<u8>| runs.push((name.to_string(), sheet));
+    more("shift", EXAMPLE.to_vec());
+    more("no_bytes", Vec::new());
+    more("sixteen_groomers", b"GRM\x10\x78\x00\x00".to_vec());
+    let shift = shapes::usual(&mut rng, 400);
+    more("four_hundred_turns", gen::encode(&mut rng, &shift, 0).bytes);
+    more("longest", longest(0));
+    more("one_byte_more", longest(1));
+    more("two_bytes_more", longest(2));
+    more("far_more", longest(10_000));
+    let mut cut_early = longest(5_000);
+    cut_early[7] = 0x3F;
+    more("far_more_and_a_bad_map", cut_early);
+    runs
+}
+
+/// What the program must print, from all of its input.
+fn printed(sheet: &[u8]) -> Vec<u8> {
+    let mut text = vec![0; MOST_TEXT];
+    match listing(sheet, &mut text) {
+        Ok(len) => text[..len].to_vec(),
+        Err(number) => refused_line(number).into_bytes(),
+    }
+}
+
+fn write_all(folder: &Path) -> io::Result<()> {
+    fs::create_dir_all(folder)?;
+    for (name, sheet) in runs() {
+        fs::write(folder.join(format!("{name}.text")), printed(&sheet))?;
+        fs::write(folder.join(format!("{name}.sheet")), sheet)?;
+    }
+    Ok(())
+}
+
+fn main() -> ExitCode {
+    let Some(folder) = env::args().nth(1) else {
+        eprintln!("runs FOLDER");
+        return ExitCode::FAILURE;
+    };
+    match write_all(Path::new(&folder)) {
+        Ok(()) => ExitCode::SUCCESS,
+        Err(error) => {
+            eprintln!("{folder}: {error}");
+            ExitCode::FAILURE
+        }
+    }
+}
