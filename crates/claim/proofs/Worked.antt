@@ -20,7 +20,11 @@ use Rattle.board.specs.Board.{boardMap, boardChoice, stepsIn, writtenSteps, ste
 use Rattle.board.specs.Open.{badSizes, malformed, openOf, stepsPart}
 use Rattle.audit.specs.Check.{choiceCauses, stepCauses, ruleCauses, sumCauses, boardCauses, checkCauses, checkOf, checked}
 use Rattle.planner.specs.Plan.{boardFor, plannedBoard, planCauses, planOf}
-use Rattle.claim.specs.Shift.{shift, shiftTable, shiftBoard, shiftSteps, wrongWorth, leavesRoom, header, emptyBoard, lateTurn}
+use Rattle.text.specs.Decimal.{decimalIn, decimal}
+use Rattle.listing.specs.Round.{startsAt, startsBelow, roundFrom, roundOf}
+use Rattle.listing.specs.Text.{labelled, twoLabelled, headingOf, lineOf, linesOf, groomerText, groomersFrom, sumsLine, listingOf}
+use Rattle.listing.specs.List.{listingFor, sheetListing, listCauses, listOf}
+use Rattle.claim.specs.Shift.{shift, shiftTable, shiftBoard, shiftSteps, shiftListing, wrongWorth, leavesRoom, header, emptyBoard, lateTurn}
 use Rattle.claim.specs.Cases.{WorkedCases, lent, shiftCounts}
 
 shift-read : readOf shift (lent 22) ≡ outcome (record { refusal = 0; groomers = 2; slopes = 3; turns = 4 }) (shiftTable ++ lent 2)
@@ -34,6 +38,10 @@ shift-written = refl
 shift-planned : planOf shift (lent 33) ≡ record { refusal = 0; bytes = 28; lent = shiftBoard ++ lent 5 }
 unfolding firstOf opensWith field turnFrom badMapFor endAt turnAt cursorAfter recordCauses firstCursor countCauses headerCauses recordsCauses turnsFrom rows sheetCauses turnsOf tableOf readCauses readOf outsideRange pastShift turnCauses turnsIn gap overlap bySlope byGroomer conflict every tab isOpen left initial reduced change afterStep afterSteps tally sooner better best pick nextStep plan steps chosen fits choose back fill goBack choice bitOf chosenIn choiceIn clearPast byteOf mapOf boardMap boardChoice stepsIn writtenSteps stepBytes boardOf badSizes malformed openOf stepsPart boardFor plannedBoard planCauses planOf
 shift-planned = refl
+
+shift-listed : listOf shift (lent 113) ≡ record { refusal = 0; bytes = 112; lent = shiftListing ++ lent 1 }
+unfolding firstOf opensWith field turnFrom badMapFor endAt turnAt cursorAfter recordCauses firstCursor countCauses headerCauses recordsCauses turnsFrom rows sheetCauses turnsOf tableOf outsideRange pastShift turnCauses turnsIn gap overlap bySlope byGroomer conflict every tab isOpen left initial reduced change afterStep afterSteps tally sooner better best pick nextStep plan steps chosen fits choose back fill goBack choice decimalIn decimal startsAt startsBelow roundFrom roundOf labelled twoLabelled headingOf lineOf linesOf groomerText groomersFrom sumsLine listingOf listingFor sheetListing listCauses listOf
+shift-listed = refl
 
 shift-opened : openOf shiftBoard ≡ 0
 unfolding firstOf opensWith every tab bitOf chosenIn choiceIn clearPast byteOf mapOf boardMap boardChoice stepsIn writtenSteps stepBytes boardOf badSizes malformed openOf stepsPart
@@ -120,4 +128,30 @@ unfolding firstOf opensWith field turnFrom badMapFor endAt turnAt cursorAfter re
 leaves-room = refl
 
 pub worked-cases : WorkedCases
-worked-cases = record { shift-read = shift-read; shift-written = shift-written; shift-planned = shift-planned; shift-opened = shift-opened; shift-steps = shift-steps; shift-checked = shift-checked; nothing-read = nothing-read; nothing-planned = nothing-planned; nothing-checked = nothing-checked; empty-read = empty-read; empty-planned = empty-planned; empty-checked = empty-checked; most-read = most-read; most-planned = most-planned; most-checked = most-checked; many-read = many-read; many-planned = many-planned; many-checked = many-checked; end-read = end-read; late-read = late-read; worth-read = worth-read; dear-read = dear-read; wrong-worth = wrong-worth; leaves-room = leaves-room }
+worked-cases = record {
+  shift-read = shift-read;
+  shift-written = shift-written;
+  shift-planned = shift-planned;
+  shift-opened = shift-opened;
+  shift-steps = shift-steps;
+  shift-checked = shift-checked;
+  shift-listed = shift-listed;
+  nothing-read = nothing-read;
+  nothing-planned = nothing-planned;
+  nothing-checked = nothing-checked;
+  empty-read = empty-read;
+  empty-planned = empty-planned;
+  empty-checked = empty-checked;
+  most-read = most-read;
+  most-planned = most-planned;
+  most-checked = most-checked;
+  many-read = many-read;
+  many-planned = many-planned;
+  many-checked = many-checked;
+  end-read = end-read;
+  late-read = late-read;
+  worth-read = worth-read;
+  dear-read = dear-read;
+  wrong-worth = wrong-worth;
+  leaves-room = leaves-room;
+}

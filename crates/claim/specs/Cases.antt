@@ -9,7 +9,8 @@ use Rattle.writer.specs.Write.{writeOf}
 use Rattle.board.specs.Open.{openOf, stepsPart}
 use Rattle.audit.specs.Check.{checkOf, checked}
 use Rattle.planner.specs.Plan.{planOf}
-use Rattle.claim.specs.Shift.{shift, shiftTable, shiftBoard, shiftSteps, wrongWorth, leavesRoom, header, emptyBoard, lateTurn}
+use Rattle.listing.specs.List.{listOf}
+use Rattle.claim.specs.Shift.{shift, shiftTable, shiftBoard, shiftSteps, shiftListing, wrongWorth, leavesRoom, header, emptyBoard, lateTurn}
 
 -- lent places hold 9 before
 abbrev pub lent : ℕ → List ℕ
@@ -26,6 +27,7 @@ pub record WorkedCases : Type 0 where
   pub shift-opened : openOf shiftBoard ≡ 0
   pub shift-steps : stepsPart shiftBoard ≡ shiftSteps
   pub shift-checked : checkOf shift shiftBoard ≡ checked 0 240 320
+  pub shift-listed : listOf shift (lent 113) ≡ record { refusal = 0; bytes = 112; lent = shiftListing ++ lent 1 }
   -- no bytes
   pub nothing-read : readOf [] (lent 3) ≡ outcome (refusedWith 1) (lent 3)
   pub nothing-planned : planOf [] (lent 3) ≡ record { refusal = 1; bytes = 0; lent = lent 3 }

@@ -1,6 +1,6 @@
 -- The worked shift and the other inputs of the proved cases. Assumes nothing.
 use Prim.Native.Nat.{ℕ}
-use mathlib.Core.List.{List, [], _∷_}
+use mathlib.Core.List.{List, [], _∷_, _++_}
 
 -- two groomers, three slopes, four turns
 abbrev pub shift : List ℕ
@@ -35,3 +35,13 @@ emptyBoard = 0x47 ∷ 0x52 ∷ 0x42 ∷ 0x00 ∷ 0x00 ∷ 0x00 ∷ 0x00 ∷ 0x00
 -- one turn, from minute 900 on: its length and its worth, the latter in two bytes
 abbrev pub lateTurn : ℕ → ℕ → ℕ → List ℕ
 lateTurn len high low = 0x47 ∷ 0x52 ∷ 0x4D ∷ 0x01 ∷ 0x01 ∷ 0x00 ∷ 0x01 ∷ 0x1F ∷ 0x01 ∷ 0x01 ∷ 0x03 ∷ 0x84 ∷ 0x00 ∷ len ∷ high ∷ low ∷ []
+
+-- its listing as characters, a list for each line
+abbrev pub shiftListing : List ℕ
+shiftListing =
+    (103 ∷ 114 ∷ 111 ∷ 111 ∷ 109 ∷ 101 ∷ 114 ∷ 32 ∷ 49 ∷ 10 ∷ [])
+    ++ ((51 ∷ 48 ∷ 45 ∷ 57 ∷ 48 ∷ 32 ∷ 115 ∷ 108 ∷ 111 ∷ 112 ∷ 101 ∷ 32 ∷ 50 ∷ 32 ∷ 119 ∷ 111 ∷ 114 ∷ 116 ∷ 104 ∷ 32 ∷ 49 ∷ 53 ∷ 48 ∷ 10 ∷ [])
+    ++ ((103 ∷ 114 ∷ 111 ∷ 111 ∷ 109 ∷ 101 ∷ 114 ∷ 32 ∷ 50 ∷ 10 ∷ [])
+    ++ ((48 ∷ 45 ∷ 49 ∷ 50 ∷ 48 ∷ 32 ∷ 115 ∷ 108 ∷ 111 ∷ 112 ∷ 101 ∷ 32 ∷ 49 ∷ 32 ∷ 119 ∷ 111 ∷ 114 ∷ 116 ∷ 104 ∷ 32 ∷ 56 ∷ 48 ∷ 10 ∷ [])
+    ++ ((49 ∷ 50 ∷ 48 ∷ 45 ∷ 49 ∷ 56 ∷ 48 ∷ 32 ∷ 115 ∷ 108 ∷ 111 ∷ 112 ∷ 101 ∷ 32 ∷ 51 ∷ 32 ∷ 119 ∷ 111 ∷ 114 ∷ 116 ∷ 104 ∷ 32 ∷ 57 ∷ 48 ∷ 10 ∷ [])
+    ++ ((119 ∷ 111 ∷ 114 ∷ 116 ∷ 104 ∷ 32 ∷ 51 ∷ 50 ∷ 48 ∷ 32 ∷ 116 ∷ 97 ∷ 108 ∷ 108 ∷ 121 ∷ 32 ∷ 50 ∷ 52 ∷ 48 ∷ 10 ∷ []))))))
