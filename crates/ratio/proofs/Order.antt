@@ -15,8 +15,8 @@ use Rattle.model.specs.Rules.{noEarlier, right}
 use Rattle.model.specs.Pick.{sooner, better, best, pick}
 use Rattle.model.proofs.Bools.{every-fails}
 use Rattle.ratio.specs.Below.{earliestBelow}
-use Rattle.ratio.proofs.Chosen.{every-more, every-done}
-use Rattle.ratio.proofs.Turns.{count-is}
+use Rattle.rows.proofs.Every.{every-more, every-done}
+use Rattle.rows.proofs.Turns.{count-is}
 
 -- ---- one turn
 

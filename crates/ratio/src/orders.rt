@@ -10,8 +10,8 @@ ghost use Rattle.ratio.specs.Bounds.{Bounded, Held};
 ghost use Rattle.ratio.specs.Below.{earliestBelow};
 use super::residuals::is_open;
 use super::residuals::left_of;
-use super::rows::end_of;
-use super::rows::same_groomer;
+use rows::end_of;
+use rows::same_groomer;
 
 // Whether turn t is not an open turn of j's groomer with an earlier end.
 fn is_no_earlier(rest: &[i32], table: &[u16], n: usize, j: usize, t: usize) -> bool
