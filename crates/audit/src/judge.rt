@@ -25,7 +25,7 @@ pub struct CheckAnswer {
 }
 
 fn choice_fault(table: &[u16], n: usize, map: &[u8]) -> u8
-    requires { ⌜ Lent n (now table) (now map) ⌝ }
+    requires { ⌜ (n ≤ 400) × Lent n (now table) (now map) × RowsBounded n (now table) ⌝ }
     ensures { λ r. ⌜ r ≡ firstOf (choiceCauses (turnsIn n (now (table .entry))) (choiceIn n (now (map .entry)))) ⌝ }
 {
     if choices::is_independent(table, n, map) {

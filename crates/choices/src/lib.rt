@@ -2,9 +2,9 @@
 // ask of a choice. It knows turns only as rows of a table.
 mod choosing;
 mod rules;
+mod selection;
 
 pub use choosing::choose_turns;
 pub use rules::chosen_worth;
-pub use rules::has_room;
 pub use rules::is_independent;
 pub use rules::is_maximal;

@@ -1,11 +1,11 @@
 -- A turn's values and conflicts by their cases, each premise in the form in which the code's calls and tests leave it. Assumes nothing.
-use Prim.Native.Nat.{ℕ, _+_, _*_, _<_, _≤_}
-use mathlib.Core.Path.{_≡_, refl, sym, _∙_}
-use mathlib.Core.Bool.{Bool, true, false, _&&_, _||_}
+use Prim.Native.Nat.{ℕ, _+_, _*_}
+use mathlib.Core.Path.{_≡_, refl}
+use mathlib.Core.Bool.{Bool, true, false, _&&_}
 use mathlib.Core.List.{List}
 use lib.ListN.{getD}
 use lib.Dec.{eqb, ltb}
-use borrow.Author.Tests.{eq-eqb, ne-eqb, lt-ltb, le-ltb}
+use borrow.Author.Tests.{eq-eqb, ne-eqb}
 use Rattle.model.specs.Turns.{turnsIn, gap, overlap, bySlope, byGroomer, conflict}
 
 pub count-is : (n : ℕ) (table : List ℕ) → turnsIn n table .count ≡ n
@@ -13,6 +13,14 @@ unfolding turnsIn
 count-is n table = refl
 
 module _ (n : ℕ) (table : List ℕ) (t : ℕ) where
+  pub slope-is : {r : ℕ} → r ≡ getD table (t * 5) 0 → r ≡ turnsIn n table .slope t
+  unfolding turnsIn
+  slope-is e = e
+
+  pub driver-is : {r : ℕ} → r ≡ getD table (t * 5 + 1) 0 → r ≡ turnsIn n table .groomer t
+  unfolding turnsIn
+  driver-is e = e
+
   pub start-is : {r : ℕ} → r ≡ getD table (t * 5 + 2) 0 → r ≡ turnsIn n table .start t
   unfolding turnsIn
   start-is e = e
@@ -25,21 +33,17 @@ module _ (n : ℕ) (table : List ℕ) (t : ℕ) where
   unfolding turnsIn
   worth-is e = e
 
-pub ruleset value-cases = (start-is, end-is, worth-is)
+pub ruleset value-cases = (slope-is, driver-is, start-is, end-is, worth-is)
 
 module _ (n : ℕ) (table : List ℕ) (x y : ℕ) where
   pub groomer-is : eqb (getD table (x * 5 + 1) 0) (getD table (y * 5 + 1) 0) ≡ eqb (turnsIn n table .groomer x) (turnsIn n table .groomer y)
   unfolding turnsIn
   groomer-is = refl
 
-  module _ {a b : ℕ} (p : a ≡ turnsIn n table .start x) (q : b ≡ turnsIn n table .end y) where
-    pub overlap-not : b + 0 ≤ a → false ≡ overlap (turnsIn n table) x y
-    unfolding overlap gap
-    overlap-not h = rw (← p, ← q, le-ltb a (b + 0) h)
-
-    pub overlap-then : {c d : ℕ} → a < b + 0 → c ≡ turnsIn n table .start y → d ≡ turnsIn n table .end x → ltb c (d + 0) ≡ overlap (turnsIn n table) x y
-    unfolding overlap gap
-    overlap-then {c} {d} h r s = rw (← p, ← q, lt-ltb a (b + 0) h, ← r, ← s)
+  pub overlap-is : {a b c d : ℕ} {r : Bool} → a ≡ turnsIn n table .start x → b ≡ turnsIn n table .end x → c ≡ turnsIn n table .start y → d ≡ turnsIn n table .end y → r ≡ (ltb a (d + gap) && ltb c (b + gap))
+      → r ≡ overlap (turnsIn n table) x y
+  unfolding overlap
+  overlap-is p q o s e = rw (← p, ← q, ← o, ← s) e
 
   pub conflict-slope : getD table (x * 5) 0 ≡ getD table (y * 5) 0 → true ≡ conflict (turnsIn n table) x y
   unfolding conflict bySlope turnsIn
@@ -58,4 +62,8 @@ module _ (n : ℕ) (table : List ℕ) (x y : ℕ) where
     unfolding conflict byGroomer
     conflict-overlap f k = rw (slopes, ← e, f) k
 
-pub ruleset conflict-cases = (groomer-is, overlap-not, overlap-then, conflict-slope, conflict-none, conflict-overlap)
+pub share-is : (a b c d : ℕ) → (ltb a (d + 0) && ltb c (b + 0)) ≡ (ltb a (d + gap) && ltb c (b + gap))
+unfolding gap
+share-is a b c d = refl
+
+pub ruleset conflict-cases = (groomer-is, overlap-is, conflict-slope, conflict-none, conflict-overlap)

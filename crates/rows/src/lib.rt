@@ -2,8 +2,9 @@
 ghost use mathlib.Core.Path.{_≡_};
 ghost use Prim.Native.Nat.{_+_, _*_, _≤_, _<_};
 ghost use lib.ListN.{length};
-ghost use lib.Dec.{eqb};
-ghost use Rattle.model.specs.Turns.{turnsIn, gap, overlap, byGroomer, conflict};
+ghost use mathlib.Core.Bool.{_&&_};
+ghost use lib.Dec.{eqb, ltb};
+ghost use Rattle.model.specs.Turns.{turnsIn, gap, overlap, conflict};
 
 // The free minutes that a groomer needs between two turns.
 const GAP: u32 = 0;
@@ -12,6 +13,20 @@ fn wide(x: u16) -> u32
     ensures { λ r. ⌜ (r ≡ x) × (r < 65536) ⌝ }
 {
     x as u32
+}
+
+pub fn slope_of(table: &[u16], n: usize, t: usize) -> u32
+    requires { ⌜ (t < n) × (5 * n ≤ length (now table)) ⌝ }
+    ensures { λ r. ⌜ (r ≡ turnsIn n (now (table .entry)) .slope t) × (r < 65536) ⌝ }
+{
+    wide(table[t * 5])
+}
+
+pub fn groomer_of(table: &[u16], n: usize, t: usize) -> u32
+    requires { ⌜ (t < n) × (5 * n ≤ length (now table)) ⌝ }
+    ensures { λ r. ⌜ (r ≡ turnsIn n (now (table .entry)) .groomer t) × (r < 65536) ⌝ }
+{
+    wide(table[t * 5 + 1])
 }
 
 pub fn start_of(table: &[u16], n: usize, t: usize) -> u32
@@ -35,16 +50,25 @@ pub fn worth_of(table: &[u16], n: usize, t: usize) -> u32
     wide(table[t * 5 + 4])
 }
 
-// Whether two turns share a minute, the gap counted to each.
+// Whether two turns with these starts and ends share a minute, the gap counted to each. It has no
+// jumps: where every turn is tested, one a turn would be guessed wrong too often.
+pub fn share_minute(start: u32, end: u32, from: u32, until: u32) -> bool
+    ensures { λ r. ⌜ r ≡ (ltb start (until + gap) && ltb from (end + gap)) ⌝ }
+{
+    (start < until + GAP) & (from < end + GAP)
+}
+
+// Whether two turns share a minute.
 fn overlaps(table: &[u16], n: usize, x: usize, y: usize) -> bool
     requires { ⌜ (x < n) × (y < n) × (5 * n ≤ length (now table)) ⌝ }
     ensures { λ r. ⌜ r ≡ overlap (turnsIn n (now (table .entry))) x y ⌝ }
 {
-    if start_of(table, n, x) < end_of(table, n, y) + GAP {
-        start_of(table, n, y) < end_of(table, n, x) + GAP
-    } else {
-        false
-    }
+    share_minute(
+        start_of(table, n, x),
+        end_of(table, n, x),
+        start_of(table, n, y),
+        end_of(table, n, y),
+    )
 }
 
 // Whether two turns have the same groomer.

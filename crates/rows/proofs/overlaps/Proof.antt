@@ -9,23 +9,17 @@ start-of-requires c κs = search needs
 end-of-requires : tie.Need-end-of-requires
 end-of-requires c κs = search needs
 
-add-if1 : tie.Need-add-if1
-add-if1 c = search needs
-
 start-of-requires-2 : tie.Need-start-of-requires-2
 start-of-requires-2 c κs = search needs
 
 end-of-requires-2 : tie.Need-end-of-requires-2
 end-of-requires-2 c κs = search needs
 
-add-result : tie.Need-add-result
-add-result c = search needs
+share-minute-requires : tie.Need-share-minute-requires
+share-minute-requires c κs = search needs
 
 returns : tie.Need-returns
 returns c = search (needs, conflict-cases)
-
-returns-2 : tie.Need-returns-2
-returns-2 c = search (needs, conflict-cases)
 
 pub overlaps-spec : {M : Type 1} → statement M
 overlaps-spec =
@@ -33,9 +27,7 @@ overlaps-spec =
     (tie.spec
     start-of-requires
     end-of-requires
-    add-if1
     start-of-requires-2
     end-of-requires-2
-    add-result
-    returns
-    returns-2)
+    share-minute-requires
+    returns)
