@@ -20,7 +20,7 @@ use Rattle.model.specs.Rules.{independent, maximal, sums}
 use Rattle.board.specs.Choice.{mapBytes, choiceIn}
 use Rattle.board.specs.Board.{boardHeader, boardTurns, boardSteps, boardTally, boardWorth, stepsPlace, boardMap, boardChoice, stepsIn, writtenSteps}
 use Rattle.board.specs.Open.{malformed, openOf}
-use Rattle.ratio.specs.Below.{apartBelow, independentBelow, maximalBelow, chosenBelow}
+use Rattle.choices.specs.Below.{apartBelow, independentBelow, maximalBelow, chosenBelow}
 use Rattle.audit.specs.Check.{choiceCauses, stepCauses, ruleCauses, sumCauses, boardCauses}
 
 -- ---- the choice

@@ -21,7 +21,7 @@ use Rattle.board.specs.Board.{stepAt, stepsIn}
 use Rattle.ratio.specs.Bounds.{Bounded}
 use Rattle.ratio.specs.Below.{closedBelow}
 use Rattle.ratio.proofs.Signed.{bounded-at}
-use Rattle.ratio.proofs.Turns.{count-is}
+use Rattle.rows.proofs.Turns.{count-is}
 use Rattle.audit.specs.Check.{stepCauses}
 
 -- ---- one step

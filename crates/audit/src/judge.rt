@@ -9,7 +9,7 @@ ghost use Rattle.refusal.specs.Cause.{firstOf};
 ghost use Rattle.model.specs.Turns.{turnsIn, RowsBounded};
 ghost use Rattle.board.specs.Choice.{choiceIn};
 ghost use Rattle.board.specs.Board.{boardHeader, boardSteps, boardTally, boardWorth, stepsIn};
-ghost use Rattle.ratio.specs.Bounds.{Lent};
+ghost use Rattle.choices.specs.Bounds.{Lent};
 ghost use Rattle.audit.specs.Check.{choiceCauses, ruleCauses, sumCauses, boardCauses, checkOf};
 use super::replay::steps_fault;
 use super::replay::tally_of;
@@ -25,11 +25,11 @@ pub struct CheckAnswer {
 }
 
 fn choice_fault(table: &[u16], n: usize, map: &[u8]) -> u8
-    requires { ⌜ Lent n (now table) (now map) ⌝ }
+    requires { ⌜ (n ≤ 400) × Lent n (now table) (now map) × RowsBounded n (now table) ⌝ }
     ensures { λ r. ⌜ r ≡ firstOf (choiceCauses (turnsIn n (now (table .entry))) (choiceIn n (now (map .entry)))) ⌝ }
 {
-    if ratio::is_independent(table, n, map) {
-        if ratio::is_maximal(table, n, map) {
+    if choices::is_independent(table, n, map) {
+        if choices::is_maximal(table, n, map) {
             0
         } else {
             refusal::NOT_MAXIMAL
@@ -73,7 +73,7 @@ fn sums_fault(b: &[u8], table: &[u16], n: usize, map: &[u8], steps: &[u8], m: us
     let tally = wire::quad_at(b, 7);
     let worth = wire::quad_at(b, 11);
     let paid = tally_of(steps, m);
-    let earned = ratio::chosen_worth(table, n, map);
+    let earned = choices::chosen_worth(table, n, map);
     if are_wrong(tally, worth, paid, earned) {
         refusal::WRONG_SUMS
     } else {

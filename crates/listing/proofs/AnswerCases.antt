@@ -30,7 +30,7 @@ use Rattle.sheet.proofs.Unrefused.{few-groomers}
 use Rattle.sheet.proofs.Whole.{whole-refusal, whole-accepted, whole-answer, whole-few}
 use Rattle.board.specs.Choice.{mapBytes, choiceIn}
 use Rattle.board.specs.Board.{boardHeader, boardTurns, boardTally, boardWorth, boardMap, boardChoice, boardLength, stepsPlace}
-use Rattle.ratio.proofs.Turns.{count-is}
+use Rattle.rows.proofs.Turns.{count-is}
 use Rattle.planner.specs.Plan.{boardFor}
 use Rattle.planner.proofs.Boards.{board-size, board-most, board-back}
 use Rattle.planner.proofs.Answers.{plan-ample, plan-rows, plan-bounded, plan-turns}

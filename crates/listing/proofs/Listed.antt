@@ -21,7 +21,7 @@ use Rattle.sheet.proofs.Unrefused.{few-turns, row-in-range, rows-bounded}
 use Rattle.board.specs.Choice.{mapOf, onesIn}
 use Rattle.board.specs.Board.{boardMap}
 use Rattle.board.proofs.Written.{map-read}
-use Rattle.ratio.proofs.Turns.{count-is}
+use Rattle.rows.proofs.Turns.{count-is}
 use Rattle.planner.specs.Plan.{boardFor, plannedBoard}
 use Rattle.planner.proofs.Boards.{choice-count}
 use Rattle.listing.specs.Round.{roundOf, Round, StartsApart, shiftMinutes}

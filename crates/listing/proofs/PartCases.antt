@@ -16,7 +16,7 @@ use Rattle.model.specs.Choice.{has}
 use Rattle.model.proofs.Residuals.{tab-at}
 use Rattle.model.proofs.Sums.{tab-length}
 use Rattle.board.specs.Choice.{choiceIn}
-use Rattle.ratio.proofs.Turns.{count-is}
+use Rattle.rows.proofs.Turns.{count-is}
 use Rattle.listing.specs.Round.{startsAt, startsBelow, roundFrom, roundOf, shiftMinutes, StartsApart}
 use Rattle.listing.specs.Text.{lineOf, linesOf, headingOf, groomerText, groomersFrom, sumsLine, listingOf}
 use Rattle.listing.specs.Notes.{noteOf, notesOf, noteText, notesText, NotesBelow}

@@ -15,7 +15,7 @@ use Rattle.model.specs.Choice.{chosen, choice}
 use Rattle.model.proofs.Planned.{steps-right}
 use Rattle.model.proofs.Limits.{sums-limits}
 use Rattle.model.proofs.Sums.{tab-length}
-use Rattle.ratio.proofs.Turns.{count-is}
+use Rattle.rows.proofs.Turns.{count-is}
 use Rattle.listing.specs.Round.{roundOf, shiftMinutes, StartsApart}
 use Rattle.listing.specs.Text.{labelled, twoLabelled, headingOf, lineOf, linesOf, groomerText, groomersFrom, sumsLine, listingOf, refusedLine, groomerWord, slopeWord, worthWord, sumWord, tallyWord, refusedWord, hyphen, lineFeed}
 use Rattle.listing.specs.Notes.{notesOf, noteText, notesText, NotesBelow}

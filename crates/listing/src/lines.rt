@@ -61,15 +61,15 @@ pub fn put_line(out: &mut [u8], at: usize, table: &[u16], n: usize, u: usize) ->
     let hyphen = HYPHEN;
     let slope = SLOPE;
     let worth = WORTH;
-    let next = text::put_number(&mut *out, at, ratio::start_of(table, n, u));
-    let last = put_labelled(&mut *out, next, &hyphen, ratio::end_of(table, n, u));
+    let next = text::put_number(&mut *out, at, rows::start_of(table, n, u));
+    let last = put_labelled(&mut *out, next, &hyphen, rows::end_of(table, n, u));
     put_two(
         &mut *out,
         last,
         &slope,
-        ratio::slope_of(table, n, u),
+        rows::slope_of(table, n, u),
         &worth,
-        ratio::worth_of(table, n, u),
+        rows::worth_of(table, n, u),
     )
 }
 

@@ -20,8 +20,8 @@ use Rattle.sheet.proofs.Tables.{table-length}
 use Rattle.sheet.proofs.Unrefused.{few-turns, rows-bounded}
 use Rattle.sheet.proofs.Whole.{whole-refusal, whole-accepted, whole-turns, whole-few}
 use Rattle.board.specs.Board.{stepsPlace, boardLength}
-use Rattle.ratio.proofs.Turns.{count-is}
-use Rattle.ratio.proofs.Padded.{padded-turns, bounded-padded, drop-zeros}
+use Rattle.rows.proofs.Turns.{count-is}
+use Rattle.planner.proofs.Padded.{padded-turns, bounded-padded, drop-zeros}
 use Rattle.planner.specs.declared.PlanAnswer.{PlanAnswer}
 use Rattle.planner.specs.Plan.{boardFor, plannedBoard, planCauses, planOf}
 use Rattle.planner.specs.Answer.{planned, refusedWith}

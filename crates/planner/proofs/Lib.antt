@@ -1,3 +1,4 @@
+pub mod Padded
 pub mod Boards
 pub mod Parts
 pub mod Answers

@@ -1,11 +1,6 @@
-pub mod Turns
 pub mod Signed
 pub mod ByColumn
-pub mod SharedMinutes
 pub mod Steps
-pub mod Chosen
 pub mod Order
 pub mod Linking
 pub mod Planning
-pub mod Fitting
-pub mod Padded

@@ -16,7 +16,8 @@ use Rattle.model.specs.Rules.{noEarlier, right}
 use Rattle.ratio.specs.Below.{earliestBelow}
 use Rattle.ratio.specs.Columns.{turnsBy, Columns}
 use Rattle.ratio.proofs.ByColumn.{same-earliest}
-use Rattle.ratio.proofs.Turns.{count-is}
+use Rattle.rows.proofs.Turns.{count-is}
+use Rattle.rows.proofs.Every.{every-more, every-done}
 
 -- ---- one turn
 

@@ -5,11 +5,11 @@ ghost use Prim.Native.Nat.{_+_, _*_, _≤_, _<_};
 ghost use lib.ListN.{length};
 ghost use Rattle.model.specs.Turns.{conflict};
 ghost use Rattle.ratio.specs.Columns.{turnsBy, SameBelow, EndsSmall, Columns};
-use super::rows::end_of;
-use super::rows::groomer_of;
-use super::rows::share_minute;
-use super::rows::slope_of;
-use super::rows::start_of;
+use rows::end_of;
+use rows::groomer_of;
+use rows::share_minute;
+use rows::slope_of;
+use rows::start_of;
 
 // Turn t's row goes into the columns.
 fn put_row(cols: &mut [u32], table: &[u16], n: usize, t: usize)

@@ -1,0 +1,4 @@
+pub mod Chosen
+pub mod Columns
+pub mod Fitting
+pub mod Selecting

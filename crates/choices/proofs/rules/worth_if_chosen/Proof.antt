@@ -1,0 +1,19 @@
+use Rattle.choices.proofs.Chosen.{one-cases}
+use borrow.Author.Needs.{needs}
+use Rattle.choices.proofs.rules.worth_if_chosen.Statement.{statement}
+use Rattle.choices.proofs.rules.worth_if_chosen.Tie as tie
+
+is-chosen-requires : tie.Need-is-chosen-requires
+is-chosen-requires c κs = search needs
+
+worth-of-requires : tie.Need-worth-of-requires
+worth-of-requires c κs = search needs
+
+returns : tie.Need-returns
+returns c = (search one-cases, search needs)
+
+returns-2 : tie.Need-returns-2
+returns-2 c = (search one-cases, search needs)
+
+pub worth-if-chosen-spec : {M : Type 1} → statement M
+worth-if-chosen-spec = tie.close (tie.spec is-chosen-requires worth-of-requires returns returns-2)
