@@ -41,10 +41,20 @@ pub fn check(sheet: &[u8], board: &[u8]) {
     tools::put_last(answer.worth);
 }
 
+// Planning a sheet into the lent bytes.
 pub fn plan(sheet: &[u8], board: &mut [u8]) {
     let answer = planner::plan(sheet, &mut *board);
     tools::put_name(b"plan");
     tools::put(answer.refusal as u64);
     tools::put(answer.bytes as u64);
     tools::put_last(tools::byte_sum(board));
+}
+
+// Listing the plan of a sheet into the lent bytes.
+pub fn list(sheet: &[u8], text: &mut [u8]) {
+    let answer = listing::list(sheet, &mut *text);
+    tools::put_name(b"list");
+    tools::put(answer.refusal as u64);
+    tools::put(answer.bytes as u64);
+    tools::put_last(tools::byte_sum(text));
 }

@@ -61,6 +61,7 @@ fn run_entry(entry: u8, front: &[u8], rest: &[u8], numbers: &mut [u16], bytes: &
         3 => entries::plan(front, bytes),
         4 => entries::open(front),
         5 => entries::check(front, rest),
+        6 => entries::list(front, bytes),
         _ => {
             return false;
         }

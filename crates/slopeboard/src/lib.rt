@@ -7,8 +7,11 @@ ghost use Rattle.board.specs.Open.{openOf, stepsPart};
 ghost use Rattle.audit.specs.Check.{checkOf};
 ghost use Rattle.planner.specs.Answer.{planned};
 ghost use Rattle.planner.specs.Plan.{planOf};
+ghost use Rattle.listing.specs.Answer.{listed};
+ghost use Rattle.listing.specs.List.{listOf};
 ghost use Rattle.slopeboard.specs.Part.{stepsPartAt};
 use audit::CheckAnswer;
+use listing::ListAnswer;
 use planner::PlanAnswer;
 use sheet::ReadAnswer;
 use writer::WriteAnswer;
@@ -79,4 +82,11 @@ pub extern "C" fn slopeboard_plan(sheet: &[u8], board: &mut [u8]) -> PlanAnswer
     ensures { λ r. ⌜ planned r (now (board .exit)) ≡ planOf (now (sheet .entry)) (now (board .entry)) ⌝ }
 {
     planner::plan(sheet, &mut *board)
+}
+
+#[no_mangle]
+pub extern "C" fn slopeboard_list(sheet: &[u8], text: &mut [u8]) -> ListAnswer
+    ensures { λ r. ⌜ listed r (now (text .exit)) ≡ listOf (now (sheet .entry)) (now (text .entry)) ⌝ }
+{
+    listing::list(sheet, &mut *text)
 }
