@@ -44,7 +44,7 @@ impl Job {
             sheet,
             board,
             numbers: vec![0; 5 * shift.turns.len()],
-            bytes: vec![0; slopeboard::MOST_SHEET_BYTES],
+            bytes: vec![0; slopeboard::MOST_TEXT_BYTES],
         }
     }
 
@@ -60,7 +60,7 @@ struct Entry {
     reference: fn(&mut Job) -> bool,
 }
 
-const ENTRIES: [Entry; 3] = [
+const ENTRIES: [Entry; 4] = [
     Entry {
         name: "read",
         library: |job| slopeboard::read(&job.sheet, &mut job.numbers).is_ok(),
@@ -75,6 +75,11 @@ const ENTRIES: [Entry; 3] = [
         name: "check",
         library: |job| slopeboard::check(&job.sheet, &job.board).is_ok(),
         reference: |job| reference::check(&job.sheet, &job.board).is_ok(),
+    },
+    Entry {
+        name: "list",
+        library: |job| slopeboard::list(&job.sheet, &mut job.bytes).is_ok(),
+        reference: |job| reference::listing(&job.sheet, &mut job.bytes).is_ok(),
     },
 ];
 

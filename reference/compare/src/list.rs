@@ -1,16 +1,21 @@
 //! The drivers' listing.
 
+use slopeboard::MOST_TEXT_BYTES;
 use slopeboard_reference as reference;
-use slopeboard_reference::gen::Rng;
+use slopeboard_reference::boards;
+use slopeboard_reference::gen::{self, Rng, Shift};
 
 use crate::bytes::{answer, Lent};
 use crate::foreign;
 use crate::placed::Placed;
-use crate::report::Report;
+use crate::report::{show, Report};
 use crate::sheets;
 
-/// No listing is longer: sixteen headings, 120 turns and a last line.
-const LONGEST: usize = 4000;
+/// The most bytes of a listing, as the C header counts them.
+const LONGEST: usize = 3687;
+
+/// How many of the sheets with the longest listing are compared.
+const LONGEST_SHEETS: u32 = 300;
 
 /// Compares the two listings on all sheets.
 pub fn run() -> bool {
@@ -21,7 +26,34 @@ pub fn run() -> bool {
         placed: Placed::default(),
     };
     sheets::each(&mut rng, |rng, sheet| run.rooms(rng, sheet));
+    for _ in 0..LONGEST_SHEETS {
+        let shift = longest(&mut rng);
+        let sheet = gen::encode(&mut rng, &shift, 10).bytes;
+        run.rooms(&mut rng, &sheet);
+    }
     run.report.finish(1..=11)
+}
+
+/// A turn on each of 120 slopes, for each groomer one behind the other, with
+/// as many digits as a start, an end and a worth can have.
+fn longest(rng: &mut Rng) -> Shift {
+    let slopes = boards::shuffled(rng, 120);
+    let turns = slopes.iter().enumerate().map(|(turn, slope)| {
+        let start = 100 * (1 + turn as u32 / 16) + rng.below(50);
+        [
+            *slope as u16 + 1,
+            turn as u16 % 16 + 1,
+            start as u16,
+            rng.between(1, 50) as u16,
+            rng.between(10_000, 60_000) as u16,
+        ]
+    });
+    let turns = turns.collect();
+    Shift {
+        groomers: 16,
+        slopes: 120,
+        turns,
+    }
 }
 
 struct Run {
@@ -34,7 +66,11 @@ impl Run {
     /// The sheet with room for any listing, and if it is accepted also with
     /// the room that its listing needs, one byte less or one byte more.
     fn rooms(&mut self, rng: &mut Rng, sheet: &[u8]) {
-        if let Some(len) = self.case(rng, sheet, LONGEST) {
+        if let Some(len) = self.case(rng, sheet, MOST_TEXT_BYTES) {
+            if len > LONGEST {
+                let text = || format!("a listing of {len} bytes: {}", show(sheet, len));
+                self.report.differs(text);
+            }
             let room = rng.pick(&[len - 1, len, len, len + 1]);
             self.case(rng, sheet, room);
         }
@@ -70,5 +106,6 @@ fn note_properties(report: &mut Report, text: &[u8], exact: bool) {
     }
     report.property("listed with a groomer that has no turn", empty);
     report.property("listed with over 5 turns of a groomer", most > 5);
+    report.property("listed with the most bytes", text.len() == LONGEST);
     report.property("listed into exact room", exact);
 }

@@ -1,4 +1,7 @@
-//! Takes a small shift through the whole library and prints the board's steps and sums.
+//! Takes a small shift through the whole library and prints the board's
+//! steps, its choice, its sums and the drivers' listing.
+
+use std::io::{self, Write};
 
 /// Slope, groomer, start, length, worth of each turn.
 const TURNS: [[u16; slopeboard::NUMBERS_PER_TURN]; 4] = [
@@ -35,6 +38,10 @@ fn main() -> Result<(), Box<dyn std::error::Error>> {
             println!("turn {turn} is driven");
         }
     }
-    println!("worth {} tally {}", sums.worth, sums.tally);
+    println!("checked: worth {} tally {}", sums.worth, sums.tally);
+
+    let mut text = [0; slopeboard::MOST_TEXT_BYTES];
+    let len = slopeboard::list(sheet, &mut text)?;
+    io::stdout().write_all(&text[..len])?;
     Ok(())
 }

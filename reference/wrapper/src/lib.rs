@@ -1,7 +1,7 @@
 //! Safe functions over the C interface of the slope board library.
 //!
 //! The library reads and writes shift sheets, plans boards, opens and checks
-//! them. Every buffer is the caller's: on a
+//! them, and writes the drivers' listing. Every buffer is the caller's: on a
 //! refusal it holds what it held before, and on success so do its places past
 //! the last one written. The order in which refusals are looked for is in
 //! `include/slopeboard.h`.
@@ -9,7 +9,7 @@
 //! To build, the environment variable `SLOPEBOARD_LIB_DIR` names the folder of
 //! `libslopeboard.a`.
 
-mod ffi;
+pub mod raw;
 mod refusal;
 
 pub use refusal::Refusal;
@@ -20,6 +20,8 @@ pub const NUMBERS_PER_TURN: usize = 5;
 pub const MOST_TURNS: usize = 400;
 /// Bytes that hold any sheet.
 pub const MOST_SHEET_BYTES: usize = 7 + 9 * MOST_TURNS;
+/// Bytes that hold any listing: the longest has 3,687, as the header counts.
+pub const MOST_TEXT_BYTES: usize = 4096;
 
 /// Bytes that [`plan`] asks for, for a sheet of so many turns.
 pub const fn board_bytes(turns: usize) -> usize {
@@ -42,10 +44,15 @@ pub struct Sums {
     pub worth: u32,
 }
 
+// SAFETY, for each call below: a slice gives a pointer to as many elements as
+// its length says, aligned for their type; what is borrowed to be written
+// overlaps nothing else; and the library keeps no pointer.
+
 /// Reads a sheet into a turn table, which needs [`NUMBERS_PER_TURN`] places
 /// a turn.
 pub fn read(sheet: &[u8], table: &mut [u16]) -> Result<Counts, Refusal> {
-    let answer = ffi::read(sheet, table);
+    let (table, table_len) = (table.as_mut_ptr(), table.len());
+    let answer = unsafe { raw::slopeboard_read(sheet.as_ptr(), sheet.len(), table, table_len) };
     refusal::none(answer.refusal)?;
     Ok(Counts {
         groomers: answer.groomers,
@@ -62,30 +69,34 @@ pub fn write(
     table: &[u16],
     sheet: &mut [u8],
 ) -> Result<usize, Refusal> {
-    length(ffi::write(groomers, slopes, table, sheet))
+    let (table, table_len) = (table.as_ptr(), table.len());
+    let (sheet, sheet_len) = (sheet.as_mut_ptr(), sheet.len());
+    length(unsafe { raw::slopeboard_write(groomers, slopes, table, table_len, sheet, sheet_len) })
 }
 
 /// Plans the turns of a sheet, writes the board and gives its length. The
 /// room asked for is [`board_bytes`] of the sheet's turns.
 pub fn plan(sheet: &[u8], board: &mut [u8]) -> Result<usize, Refusal> {
-    length(ffi::plan(sheet, board))
+    let (board, board_len) = (board.as_mut_ptr(), board.len());
+    length(unsafe { raw::slopeboard_plan(sheet.as_ptr(), sheet.len(), board, board_len) })
 }
 
 /// Finds out whether the bytes have the shape of a board.
 pub fn open(board: &[u8]) -> Result<(), Refusal> {
-    refusal::none(ffi::open(board))
+    refusal::none(unsafe { raw::slopeboard_open(board.as_ptr(), board.len()) })
 }
 
 /// The part of a board's own bytes that holds its steps, four bytes each;
 /// empty if the board does not open.
 pub fn steps(board: &[u8]) -> &[u8] {
-    let part = ffi::steps(board);
+    let part = unsafe { raw::slopeboard_steps(board.as_ptr(), board.len()) };
     &board[part.start..][..part.length]
 }
 
 /// Checks a board, whoever made it, against a sheet.
 pub fn check(sheet: &[u8], board: &[u8]) -> Result<Sums, Refusal> {
-    let answer = ffi::check(sheet, board);
+    let (board, board_len) = (board.as_ptr(), board.len());
+    let answer = unsafe { raw::slopeboard_check(sheet.as_ptr(), sheet.len(), board, board_len) };
     refusal::none(answer.refusal)?;
     Ok(Sums {
         tally: answer.tally,
@@ -93,7 +104,14 @@ pub fn check(sheet: &[u8], board: &[u8]) -> Result<Sums, Refusal> {
     })
 }
 
-fn length(answer: ffi::BytesAnswer) -> Result<usize, Refusal> {
+/// Plans the turns of a sheet, writes the drivers' listing of that board, in
+/// ASCII, and gives its length. [`MOST_TEXT_BYTES`] are enough for it.
+pub fn list(sheet: &[u8], text: &mut [u8]) -> Result<usize, Refusal> {
+    let (text, text_len) = (text.as_mut_ptr(), text.len());
+    length(unsafe { raw::slopeboard_list(sheet.as_ptr(), sheet.len(), text, text_len) })
+}
+
+fn length(answer: raw::BytesAnswer) -> Result<usize, Refusal> {
     refusal::none(answer.refusal)?;
     Ok(answer.bytes as usize)
 }

@@ -1,0 +1,80 @@
+//! The library's functions as `include/slopeboard.h` declares them. What a
+//! caller owes is said there.
+
+/// What reading a sheet gives. All counts are 0 on a refusal.
+#[repr(C)]
+#[derive(Clone, Copy, Debug, PartialEq, Eq)]
+pub struct ReadAnswer {
+    pub refusal: u8,
+    pub groomers: u16,
+    pub slopes: u16,
+    pub turns: u16,
+}
+
+/// What a function gives that writes bytes; 0 bytes on a refusal.
+#[repr(C)]
+#[derive(Clone, Copy, Debug, PartialEq, Eq)]
+pub struct BytesAnswer {
+    pub refusal: u8,
+    pub bytes: u32,
+}
+
+/// Where the steps stand in a board; 0 and 0 if it does not open.
+#[repr(C)]
+#[derive(Clone, Copy, Debug, PartialEq, Eq)]
+pub struct Part {
+    pub start: usize,
+    pub length: usize,
+}
+
+/// What checking a board gives. Both sums are 0 on a refusal.
+#[repr(C)]
+#[derive(Clone, Copy, Debug, PartialEq, Eq)]
+pub struct CheckAnswer {
+    pub refusal: u8,
+    pub tally: u32,
+    pub worth: u32,
+}
+
+extern "C" {
+    pub fn slopeboard_read(
+        sheet: *const u8,
+        sheet_len: usize,
+        table: *mut u16,
+        table_len: usize,
+    ) -> ReadAnswer;
+
+    pub fn slopeboard_write(
+        groomers: u32,
+        slopes: u32,
+        table: *const u16,
+        table_len: usize,
+        bytes: *mut u8,
+        bytes_len: usize,
+    ) -> BytesAnswer;
+
+    pub fn slopeboard_plan(
+        sheet: *const u8,
+        sheet_len: usize,
+        board: *mut u8,
+        board_len: usize,
+    ) -> BytesAnswer;
+
+    pub fn slopeboard_open(board: *const u8, board_len: usize) -> u8;
+
+    pub fn slopeboard_steps(board: *const u8, board_len: usize) -> Part;
+
+    pub fn slopeboard_check(
+        sheet: *const u8,
+        sheet_len: usize,
+        board: *const u8,
+        board_len: usize,
+    ) -> CheckAnswer;
+
+    pub fn slopeboard_list(
+        sheet: *const u8,
+        sheet_len: usize,
+        text: *mut u8,
+        text_len: usize,
+    ) -> BytesAnswer;
+}
