@@ -1,5 +1,6 @@
 /* Takes a small shift through the whole library: writes its sheet from a turn table, reads the sheet
- * back, plans it, opens and checks the board, and prints its steps, its choice and its sums.
+ * back, plans it, opens and checks the board, and prints its steps, its choice, its sums and the
+ * drivers' listing.
  *
  * With the library in target/staticlib (rt staticlib slopeboard), at the top of the repository:
  *
@@ -60,6 +61,11 @@ int main(void) {
     for (unsigned turn = 0; turn < TURNS; turn++) {
         if (board[15 + turn / 8] >> turn % 8 & 1) printf("turn %u is driven\n", turn);
     }
-    printf("worth %u tally %u\n", (unsigned)checked.worth, (unsigned)checked.tally);
+    printf("checked: worth %u tally %u\n", (unsigned)checked.worth, (unsigned)checked.tally);
+
+    uint8_t text[SLOPEBOARD_MOST_TEXT_BYTES];
+    slopeboard_list_answer listed = slopeboard_list(sheet, written.bytes, text, sizeof text);
+    if (listed.refusal != 0) return refused("list", listed.refusal);
+    fwrite(text, 1, listed.bytes, stdout);
     return 0;
 }

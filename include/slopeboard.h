@@ -1,5 +1,5 @@
-/* Slope board: reads and writes shift sheets, plans boards, opens and checks them.
- * Link libslopeboard.a; nothing else is needed.
+/* Slope board: reads and writes shift sheets, plans boards, opens and checks them, and writes the
+ * drivers' listing. Link libslopeboard.a; nothing else is needed.
  *
  * What holds for every function:
  *
@@ -63,6 +63,12 @@ enum {
 /* What slopeboard_plan asks for, for a sheet of so many turns. */
 #define SLOPEBOARD_BOARD_BYTES(turns) (15 + ((turns) + 7) / 8 + 4 * (turns))
 #define SLOPEBOARD_MOST_BOARD_BYTES SLOPEBOARD_BOARD_BYTES(SLOPEBOARD_MOST_TURNS)
+/* Enough for every listing. The longest has 3,687 bytes, counted by hand and not proved. Of the turns of
+ * a slope at most one is chosen, so there are at most 120 lines such as "959-960 slope 120 worth 60000",
+ * of 30 bytes with the line feed. Nine slopes have two digits less and 90 have one less, which leaves
+ * 120 * 30 - 108 = 3,492. Nine headings have 10 bytes and seven have 11: 167. Worth and tally are at
+ * most 120 * 60,000, so the last line has at most 28. */
+#define SLOPEBOARD_MOST_TEXT_BYTES 4096
 
 typedef struct {
     uint8_t refusal;
@@ -77,6 +83,7 @@ typedef struct {
 } slopeboard_write_answer;
 
 typedef slopeboard_write_answer slopeboard_plan_answer;
+typedef slopeboard_write_answer slopeboard_list_answer;
 
 typedef struct {
     size_t start;
@@ -125,6 +132,17 @@ slopeboard_part slopeboard_steps(const uint8_t *board, size_t board_len);
  * Refusals: those of slopeboard_read up to 10, in their order; then 12 if the board does not open or is
  * not for as many turns as the sheet has; then 13, 14, 15, 16, 17. */
 slopeboard_check_answer slopeboard_check(const uint8_t *sheet, size_t sheet_len, const uint8_t *board, size_t board_len);
+
+/* Plans the turns of a sheet and writes the drivers' listing of that board, as ASCII text. A line feed
+ * ends every line, and no 0 byte stands behind the last. For each groomer of the sheet, by number, there
+ * is a heading, such as "groomer 1", even if nothing is chosen for it; below it stands a line for each of
+ * its chosen turns, the earliest start first, with start and end, slope and worth: "30-90 slope 2 worth
+ * 150". The last line has the board's worth and tally: "worth 320 tally 240".
+ *
+ * Refusals: those of slopeboard_read up to 10, in their order; then, last of all, 11 if text_len is below
+ * the bytes of this very listing. On a refusal nothing is written, not even a part of the listing.
+ * SLOPEBOARD_MOST_TEXT_BYTES are enough for every sheet. */
+slopeboard_list_answer slopeboard_list(const uint8_t *sheet, size_t sheet_len, uint8_t *text, size_t text_len);
 
 #ifdef __cplusplus
 }
