@@ -63,11 +63,12 @@ enum {
 /* What slopeboard_plan asks for, for a sheet of so many turns. */
 #define SLOPEBOARD_BOARD_BYTES(turns) (15 + ((turns) + 7) / 8 + 4 * (turns))
 #define SLOPEBOARD_MOST_BOARD_BYTES SLOPEBOARD_BOARD_BYTES(SLOPEBOARD_MOST_TURNS)
-/* Enough for every listing. The longest has 3,687 bytes, counted by hand and not proved. Of the turns of
- * a slope at most one is chosen, so there are at most 120 lines such as "959-960 slope 120 worth 60000",
- * of 30 bytes with the line feed. Nine slopes have two digits less and 90 have one less, which leaves
- * 120 * 30 - 108 = 3,492. Nine headings have 10 bytes and seven have 11: 167. Worth and tally are at
- * most 120 * 60,000, so the last line has at most 28. */
+/* Enough for every listing: it is proved that none has more than 3,806 bytes. Of the turns of a slope at
+ * most one is chosen, so there are at most 120 lines, of at most 30 bytes with the line feed, such as
+ * "959-960 slope 120 worth 60000"; there are at most 16 headings, of at most 11 bytes, and a last line. The
+ * longest listing of all has 3,687, by a count that is not proved: nine slopes have two digits less and
+ * 90 have one less, nine headings have 10 bytes, and the last line has at most 28, since worth and tally
+ * are at most 120 * 60,000. So 120 * 30 - 108 + 9 * 10 + 7 * 11 + 28. */
 #define SLOPEBOARD_MOST_TEXT_BYTES 4096
 
 typedef struct {

@@ -20,7 +20,7 @@ pub const NUMBERS_PER_TURN: usize = 5;
 pub const MOST_TURNS: usize = 400;
 /// Bytes that hold any sheet.
 pub const MOST_SHEET_BYTES: usize = 7 + 9 * MOST_TURNS;
-/// Bytes that hold any listing: the longest has 3,687, as the header counts.
+/// Bytes that hold any listing: no listing has more than 3,806.
 pub const MOST_TEXT_BYTES: usize = 4096;
 
 /// Bytes that [`plan`] asks for, for a sheet of so many turns.
