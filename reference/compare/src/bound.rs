@@ -74,12 +74,10 @@ impl Run {
                 self.board(&sheet, &bytes, best);
             }
         }
-        #[cfg(feature = "plan")]
         self.plan(&sheet, best);
     }
 
     /// The library's own board of the sheet must pass.
-    #[cfg(feature = "plan")]
     fn plan(&mut self, sheet: &[u8], best: u32) {
         let mut board = [0; 64];
         let answer = foreign::plan(sheet, &mut board);

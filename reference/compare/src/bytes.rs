@@ -49,7 +49,6 @@ impl Lent {
     }
 
     /// What the reference wrote at the front of its lent bytes.
-    #[cfg(any(feature = "plan", feature = "list"))]
     pub fn written(&self, bytes: usize) -> &[u8] {
         &self.ours[GUARD..GUARD + bytes]
     }

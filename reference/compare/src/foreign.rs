@@ -2,13 +2,7 @@
 //! interface.
 
 use slopeboard::raw;
-#[cfg(any(feature = "write", feature = "plan", feature = "list"))]
-pub use slopeboard::raw::BytesAnswer;
-#[cfg(feature = "check")]
-pub use slopeboard::raw::CheckAnswer;
-#[cfg(feature = "steps")]
-pub use slopeboard::raw::Part;
-pub use slopeboard::raw::ReadAnswer;
+pub use slopeboard::raw::{BytesAnswer, CheckAnswer, Part, ReadAnswer};
 
 /// A slice as the library takes it. An empty one may come with any pointer,
 /// so it comes with the worst.
@@ -38,42 +32,36 @@ pub fn read(sheet: &[u8], table: &mut [u16]) -> ReadAnswer {
 }
 
 /// Writes a turn table as a sheet.
-#[cfg(feature = "write")]
 pub fn write(groomers: u32, slopes: u32, table: &[u16], out: &mut [u8]) -> BytesAnswer {
     let ((table, table_len), (out, out_len)) = (parts(table), parts_mut(out));
     unsafe { raw::slopeboard_write(groomers, slopes, table, table_len, out, out_len) }
 }
 
 /// Plans the board of a sheet.
-#[cfg(feature = "plan")]
 pub fn plan(sheet: &[u8], out: &mut [u8]) -> BytesAnswer {
     let ((sheet, sheet_len), (out, out_len)) = (parts(sheet), parts_mut(out));
     unsafe { raw::slopeboard_plan(sheet, sheet_len, out, out_len) }
 }
 
 /// Opens a board.
-#[cfg(feature = "open")]
 pub fn open(board: &[u8]) -> u8 {
     let (board, board_len) = parts(board);
     unsafe { raw::slopeboard_open(board, board_len) }
 }
 
 /// Finds the steps of a board.
-#[cfg(feature = "steps")]
 pub fn steps(board: &[u8]) -> Part {
     let (board, board_len) = parts(board);
     unsafe { raw::slopeboard_steps(board, board_len) }
 }
 
 /// Checks a board against a sheet.
-#[cfg(feature = "check")]
 pub fn check(sheet: &[u8], board: &[u8]) -> CheckAnswer {
     let ((sheet, sheet_len), (board, board_len)) = (parts(sheet), parts(board));
     unsafe { raw::slopeboard_check(sheet, sheet_len, board, board_len) }
 }
 
 /// Writes the listing of a sheet's plan.
-#[cfg(feature = "list")]
 pub fn list(sheet: &[u8], out: &mut [u8]) -> BytesAnswer {
     let ((sheet, sheet_len), (out, out_len)) = (parts(sheet), parts_mut(out));
     unsafe { raw::slopeboard_list(sheet, sheet_len, out, out_len) }

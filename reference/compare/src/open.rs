@@ -151,7 +151,6 @@ impl Run {
             let text = || format!("{ours} but {theirs}: {}", show(board, 0));
             self.report.differs(text);
         }
-        #[cfg(feature = "steps")]
         compare_steps(&mut self.report, board, ours == 0);
         if ours == 0 {
             let (turns, steps) = (&board[3..5], &board[5..7]);
@@ -164,7 +163,6 @@ impl Run {
 }
 
 /// The steps must be the board's own bytes, at the very place.
-#[cfg(feature = "steps")]
 fn compare_steps(report: &mut Report, board: &[u8], opens: bool) {
     let steps = reference::steps(board);
     let ours = foreign::Part {
