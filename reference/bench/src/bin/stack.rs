@@ -1,0 +1,95 @@
+//! Prints how much stack each exported function needs, in bytes, as read off
+//! the compiled library: its own frame with the return address, and the
+//! deepest of the library's functions below it. What memset and memcpy of the
+//! C library need comes on top.
+//!
+//! ```text
+//! SLOPEBOARD_LIB_DIR=$PWD/target/staticlib cargo run --release --manifest-path reference/bench/Cargo.toml --bin stack
+//! ```
+
+use std::collections::BTreeMap;
+use std::env;
+use std::process::{Command, ExitCode};
+
+#[derive(Default)]
+struct Function {
+    /// Bytes that it takes itself, with the address it returns to.
+    frame: usize,
+    /// The functions whose addresses it uses.
+    callees: Vec<String>,
+}
+
+/// The name in a line that begins a function: `0000000000000000 <name>:`.
+fn begun(line: &str) -> Option<&str> {
+    let (place, name) = line.split_once(" <")?;
+    let hex = !place.is_empty() && place.bytes().all(|byte| byte.is_ascii_hexdigit());
+    hex.then_some(name.strip_suffix(">:")?)
+}
+
+/// The bytes that an instruction takes from the stack.
+fn taken(line: &str) -> usize {
+    let mut words = line.split_whitespace().skip(1);
+    match (words.next(), words.next()) {
+        (Some("push"), Some(_)) => 8,
+        (Some("sub"), Some(operands)) => operands
+            .strip_suffix(",%rsp")
+            .and_then(|value| value.strip_prefix("$0x"))
+            .and_then(|digits| usize::from_str_radix(digits, 16).ok())
+            .unwrap_or(0),
+        _ => 0,
+    }
+}
+
+/// The function that a relocation names, if it names one.
+fn named(line: &str) -> Option<String> {
+    let (_, rest) = line.split_once("R_X86_64_")?;
+    let symbol = rest.split_whitespace().nth(1)?;
+    let symbol = symbol.strip_prefix(".text.").unwrap_or(symbol);
+    let end = symbol.find(['-', '+']).unwrap_or(symbol.len());
+    Some(symbol[..end].to_string())
+}
+
+fn functions(listing: &str) -> BTreeMap<String, Function> {
+    let mut found: BTreeMap<String, Function> = BTreeMap::new();
+    let mut name = String::new();
+    for line in listing.lines() {
+        if let Some(next) = begun(line) {
+            name = next.to_string();
+            found.entry(name.clone()).or_default().frame = 8;
+        } else if let Some(function) = found.get_mut(&name) {
+            function.frame += taken(line);
+            function.callees.extend(named(line));
+        }
+    }
+    found
+}
+
+/// The library calls nothing in a circle, so this ends.
+fn need(found: &BTreeMap<String, Function>, name: &str) -> usize {
+    let Some(function) = found.get(name) else {
+        return 0;
+    };
+    let below = function.callees.iter().map(|callee| need(found, callee));
+    function.frame + below.max().unwrap_or(0)
+}
+
+fn main() -> ExitCode {
+    let folder = env::var("SLOPEBOARD_LIB_DIR").unwrap_or_else(|_| "target/staticlib".to_string());
+    let archive = format!("{folder}/libslopeboard.a");
+    let output = Command::new("objdump")
+        .args(["-dr", "--no-show-raw-insn", &archive])
+        .output();
+    let Ok(output) = output else {
+        eprintln!("objdump is not installed");
+        return ExitCode::FAILURE;
+    };
+    let found = functions(&String::from_utf8_lossy(&output.stdout));
+    for name in found.keys().filter(|name| name.starts_with("slopeboard_")) {
+        println!("{name:18}{:>8}", need(&found, name));
+    }
+    if found.is_empty() {
+        eprintln!("no function in {archive}");
+        return ExitCode::FAILURE;
+    }
+    ExitCode::SUCCESS
+}
