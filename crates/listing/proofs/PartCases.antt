@@ -6,7 +6,7 @@ use mathlib.Core.List.{List, [], _∷_, _++_}
 use native.Mathlib.Omega.{arith}
 use native.Mathlib.Decide.{ℕ-discrete, decLt}
 use lib.Dec.{eqb}
-use lib.ListN.{length, getD, drop, replicate}
+use lib.ListN.{length, getD, drop, replicate, length-replicate}
 use borrow.Author.Tests.{eqb-true}
 use Rattle.wire.specs.Number.{puts}
 use Rattle.text.specs.Place.{lastPlace}
@@ -16,13 +16,14 @@ use Rattle.model.specs.Choice.{has}
 use Rattle.model.proofs.Residuals.{tab-at}
 use Rattle.model.proofs.Sums.{tab-length}
 use Rattle.board.specs.Choice.{choiceIn}
+use Rattle.board.proofs.Clean.{zeros-at, zeros-clean}
 use Rattle.rows.proofs.Turns.{count-is}
 use Rattle.listing.specs.Round.{startsAt, startsBelow, roundFrom, roundOf, shiftMinutes, StartsApart}
 use Rattle.listing.specs.Text.{lineOf, linesOf, headingOf, groomerText, groomersFrom, sumsLine, listingOf}
-use Rattle.listing.specs.Notes.{noteOf, notesOf, noteText, notesText, NotesBelow}
+use Rattle.listing.specs.Notes.{noteOf, notesOf, noteText, notesText, NotesBelow, Marked}
 use Rattle.listing.specs.Ready.{Ready}
 use Rattle.listing.proofs.Pieces.{first-fits, second-fits, both-place, both-put, piece-fits, rest-place, rest-put}
-use Rattle.listing.proofs.NoteCases.{tab-same, getD-past}
+use Rattle.listing.proofs.NoteCases.{false-not-true, tab-same, getD-past}
 
 plus-none : (k : ℕ) → k ≡ 0 + k
 plus-none k = omega arith
@@ -49,9 +50,6 @@ note-none T = refl
 note-alone : (T : Turns) (u : ℕ) → noteText T (suc u) ≡ linesOf T (u ∷ [])
 unfolding noteText linesOf
 note-alone T u = sym (append-nil (lineOf T u))
-
-false-not-true : false ≡ true → ⊥
-false-not-true e = let q : _≡_ {A = ℕ} 0 1 = ap {B = ℕ} (λ b. cond b 1 0) e in omega (arith, q)
 
 module _ (T : Turns) (S : List Bool) (h minute : ℕ) where
   starts-nothing : (i : ℕ) → ((u : ℕ) → u < i → startsAt T S h minute u ≡ false) → startsBelow T S h minute i ≡ []
@@ -152,6 +150,9 @@ module _ (T : Turns) (S : List Bool) (h : ℕ) where
 
 -- ---- a groomer's part
 
+pub marked-none : Marked (replicate 120 0) (replicate 960 0)
+marked-none = record { clean = zeros-clean 960 120 refl; size = length-replicate {A = ℕ} 960 0; others = λ k l e. zeros-at 960 k }
+
 module _ (n : ℕ) (table map : List ℕ) (h : ℕ) where
   pub notes-start : replicate 960 0 ≡ notesOf (turnsIn n table) (choiceIn n map) h 0
   notes-start = notes-zero (turnsIn n table) (choiceIn n map) h
@@ -180,7 +181,7 @@ module _ (n : ℕ) (table map : List ℕ) (h : ℕ) where
       unfolding groomerText
       groomer-put l p q = both-put (headingOf h) (linesOf (turnsIn n table) (roundOf (turnsIn n table) (choiceIn n map) h)) at f l p (rw lines-are at q)
 
-pub ruleset groomer-cases = (notes-start, notes-inside, head-fits, round-fits, groomer-place, groomer-put)
+pub ruleset groomer-cases = (marked-none, notes-start, notes-inside, head-fits, round-fits, groomer-place, groomer-put)
 
 -- ---- all groomers
 

@@ -26,9 +26,10 @@ fn put_groomer(
     ensures { λ r. ⌜ (r ≡ at + length (groomerText (turnsIn n (now (table .entry))) (choiceIn n (now (map .entry))) groomer)) × (now (out .exit) ≡ puts (now (out .entry)) at (groomerText (turnsIn n (now (table .entry))) (choiceIn n (now (map .entry))) groomer)) ⌝ }
 {
     let next = put_heading(&mut *out, at, groomer);
+    let mut minutes = [0u8; 120];
     let mut notes = [0u16; 960];
-    note_round(table, n, map, groomer, &mut notes);
-    put_notes(&mut *out, next, table, n, &notes)
+    note_round(table, n, map, groomer, &mut minutes, &mut notes);
+    put_notes(&mut *out, next, table, n, &minutes, &notes)
 }
 
 // All groomers, by number.
