@@ -1,5 +1,5 @@
 /* Slope board: reads and writes shift sheets, plans boards, opens and checks them, and writes the
- * drivers' listing. Link libslopeboard.a; nothing else is needed.
+ * drivers' listing. Link libslopeboard.a; all that it asks for beside is memcpy and memset.
  *
  * What holds for every function:
  *
