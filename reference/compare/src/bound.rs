@@ -1,5 +1,6 @@
 //! What a board that passes promises: on small sheets, no choice of turns
-//! without a conflict is worth more than twice its tally. Tried out on every
+//! without a conflict is worth more than twice its tally, and none is worth
+//! more than the board where no slope has two turns. Tried out on every
 //! choice; the reference's check and planner have no part in it.
 
 use slopeboard_reference::boards;
@@ -49,12 +50,41 @@ fn small_shift(rng: &mut Rng) -> Shift {
     }
 }
 
+/// Gives each turn a slope of its own.
+fn one_turn_a_slope(shift: &mut Shift) {
+    shift.slopes = shift.turns.len().max(1) as u8;
+    for (turn, slope) in shift.turns.iter_mut().zip(1..) {
+        turn[0] = slope;
+    }
+}
+
+/// Whether no slope has two turns.
+fn slopes_differ(turns: &[[u16; 5]]) -> bool {
+    let mut slopes: Vec<u16> = turns.iter().map(|turn| turn[0]).collect();
+    slopes.sort_unstable();
+    slopes.windows(2).all(|pair| pair[0] != pair[1])
+}
+
+/// The most that a choice without a conflict is worth, and whether no slope
+/// has two turns.
+#[derive(Clone, Copy)]
+struct Best {
+    worth: u32,
+    one_a_slope: bool,
+}
+
 impl Run {
     fn sheet(&mut self) {
-        let shift = small_shift(&mut self.rng);
+        let mut shift = small_shift(&mut self.rng);
+        if self.rng.percent(25) {
+            one_turn_a_slope(&mut shift);
+        }
         let turns = &shift.turns;
         let sheet = gen::encode(&mut self.rng, &shift, 20).bytes;
-        let best = boards::best_worth(turns);
+        let best = Best {
+            worth: boards::best_worth(turns),
+            one_a_slope: slopes_differ(turns),
+        };
         for round in 0..10 {
             let board = if round % 2 == 0 {
                 boards::right(&mut self.rng, turns)
@@ -78,7 +108,7 @@ impl Run {
     }
 
     /// The library's own board of the sheet must pass.
-    fn plan(&mut self, sheet: &[u8], best: u32) {
+    fn plan(&mut self, sheet: &[u8], best: Best) {
         let mut board = [0; 64];
         let answer = foreign::plan(sheet, &mut board);
         let passes = self.board(sheet, &board[..answer.bytes as usize], best);
@@ -90,7 +120,7 @@ impl Run {
     }
 
     /// Holds a board that passes to the promise, by its own bytes.
-    fn board(&mut self, sheet: &[u8], board: &[u8], best: u32) -> bool {
+    fn board(&mut self, sheet: &[u8], board: &[u8], best: Best) -> bool {
         let answer = foreign::check(sheet, board);
         self.report.count(answer.refusal);
         if answer.refusal != 0 {
@@ -103,11 +133,15 @@ impl Run {
         };
         let (tally, worth) = (sum(7), sum(11));
         let same = (answer.tally, answer.worth) == (tally, worth);
-        let holds = tally <= worth && worth <= best && best <= 2 * tally;
+        let most = best.worth;
+        let holds = tally <= worth && worth <= most && most <= 2 * tally;
+        let exact = !best.one_a_slope || most <= worth;
         self.report
-            .property("best worth above the tally", best > tally);
-        if !same || !holds {
-            let text = || format!("{answer:?}, best {best}: {}", show(sheet, 0));
+            .property("best worth above the tally", most > tally);
+        self.report
+            .property("best worth where no slope has two turns", best.one_a_slope);
+        if !same || !holds || !exact {
+            let text = || format!("{answer:?}, best {most}: {}", show(sheet, 0));
             self.report.differs(text);
         }
         true
