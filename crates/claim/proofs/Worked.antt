@@ -2,6 +2,8 @@
 use Prim.Native.Nat.{ℕ}
 use mathlib.Core.Path.{_≡_, refl}
 use mathlib.Core.List.{List, [], _∷_, _++_}
+use mathlib.Core.Bool.{true, false}
+use lib.IntN.{pos, negsuc}
 use Rattle.refusal.specs.Cause.{firstOf}
 use Rattle.wire.specs.Mark.{opensWith}
 use Rattle.turns.specs.Turn.{outsideRange, pastShift, turnCauses}
@@ -25,7 +27,7 @@ use Rattle.listing.specs.Round.{startsAt, startsBelow, roundFrom, roundOf}
 use Rattle.listing.specs.Text.{labelled, twoLabelled, headingOf, lineOf, linesOf, groomerText, groomersFrom, sumsLine, listingOf}
 use Rattle.listing.specs.List.{listingFor, sheetListing, listCauses, listOf}
 use Rattle.claim.specs.Shift.{shift, shiftTable, shiftBoard, shiftSteps, shiftListing, wrongWorth, leavesRoom, header, emptyBoard, lateTurn}
-use Rattle.claim.specs.Cases.{WorkedCases, lent, shiftCounts}
+use Rattle.claim.specs.Cases.{WorkedCases, lent, shiftTurns, shiftCounts}
 
 shift-read : readOf shift (lent 22) ≡ outcome (record { refusal = 0; groomers = 2; slopes = 3; turns = 4 }) (shiftTable ++ lent 2)
 unfolding firstOf opensWith field turnFrom badMapFor endAt turnAt cursorAfter recordCauses firstCursor countCauses headerCauses recordsCauses turnsFrom rows sheetCauses turnsOf tableOf readCauses readOf outsideRange pastShift turnCauses
@@ -38,6 +40,18 @@ shift-written = refl
 shift-planned : planOf shift (lent 33) ≡ record { refusal = 0; bytes = 28; lent = shiftBoard ++ lent 5 }
 unfolding firstOf opensWith field turnFrom badMapFor endAt turnAt cursorAfter recordCauses firstCursor countCauses headerCauses recordsCauses turnsFrom rows sheetCauses turnsOf tableOf readCauses readOf outsideRange pastShift turnCauses turnsIn gap overlap bySlope byGroomer conflict every tab isOpen left initial reduced change afterStep afterSteps tally sooner better best pick nextStep plan steps chosen fits choose back fill goBack choice bitOf chosenIn choiceIn clearPast byteOf mapOf boardMap boardChoice stepsIn writtenSteps stepBytes boardOf badSizes malformed openOf stepsPart boardFor plannedBoard planCauses planOf
 shift-planned = refl
+
+shift-stepped : afterStep shiftTurns (initial shiftTurns) (record { turn = 0; amount = 100 }) ≡ pos 0 ∷ pos 50 ∷ negsuc 19 ∷ pos 90 ∷ []
+unfolding turnsIn gap overlap bySlope byGroomer conflict every tab isOpen left initial reduced change afterStep afterSteps tally sooner better best pick nextStep plan steps chosen fits choose back fill goBack choice
+shift-stepped = refl
+
+shift-gone-back : goBack shiftTurns (steps shiftTurns) ≡ false ∷ true ∷ false ∷ true ∷ []
+unfolding turnsIn gap overlap bySlope byGroomer conflict every tab isOpen left initial reduced change afterStep afterSteps tally sooner better best pick nextStep plan steps chosen fits choose back fill goBack choice
+shift-gone-back = refl
+
+shift-filled : choice shiftTurns ≡ false ∷ true ∷ true ∷ true ∷ []
+unfolding turnsIn gap overlap bySlope byGroomer conflict every tab isOpen left initial reduced change afterStep afterSteps tally sooner better best pick nextStep plan steps chosen fits choose back fill goBack choice
+shift-filled = refl
 
 shift-listed : listOf shift (lent 113) ≡ record { refusal = 0; bytes = 112; lent = shiftListing ++ lent 1 }
 unfolding firstOf opensWith field turnFrom badMapFor endAt turnAt cursorAfter recordCauses firstCursor countCauses headerCauses recordsCauses turnsFrom rows sheetCauses turnsOf tableOf outsideRange pastShift turnCauses turnsIn gap overlap bySlope byGroomer conflict every tab isOpen left initial reduced change afterStep afterSteps tally sooner better best pick nextStep plan steps chosen fits choose back fill goBack choice decimalIn decimal startsAt startsBelow roundFrom roundOf labelled twoLabelled headingOf lineOf linesOf groomerText groomersFrom sumsLine listingOf listingFor sheetListing listCauses listOf
@@ -135,6 +149,9 @@ worked-cases = record {
   shift-opened = shift-opened;
   shift-steps = shift-steps;
   shift-checked = shift-checked;
+  shift-stepped = shift-stepped;
+  shift-gone-back = shift-gone-back;
+  shift-filled = shift-filled;
   shift-listed = shift-listed;
   nothing-read = nothing-read;
   nothing-planned = nothing-planned;

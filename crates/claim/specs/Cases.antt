@@ -2,7 +2,13 @@
 use Prim.Native.Nat.{ℕ}
 use mathlib.Core.Path.{_≡_}
 use mathlib.Core.List.{List, [], _∷_, _++_}
+use mathlib.Core.Bool.{true, false}
 use lib.ListN.{replicate}
+use lib.IntN.{pos, negsuc}
+use Rattle.model.specs.Turns.{Turns, turnsIn}
+use Rattle.model.specs.Steps.{initial, afterStep}
+use Rattle.model.specs.Pick.{steps}
+use Rattle.model.specs.Choice.{goBack, choice}
 use Rattle.turns.specs.declared.Counts.{Counts}
 use Rattle.sheet.specs.Read.{readOf, outcome, refusedWith}
 use Rattle.writer.specs.Write.{writeOf}
@@ -16,6 +22,10 @@ use Rattle.claim.specs.Shift.{shift, shiftTable, shiftBoard, shiftSteps,
 abbrev pub lent : ℕ → List ℕ
 lent n = replicate n 9
 
+-- the shift's four turns
+abbrev pub shiftTurns : Turns
+shiftTurns = turnsIn 4 shiftTable
+
 abbrev pub shiftCounts : Counts
 shiftCounts = record { groomers = 2; slopes = 3 }
 
@@ -27,6 +37,10 @@ pub record WorkedCases : Type 0 where
   pub shift-opened : openOf shiftBoard ≡ 0
   pub shift-steps : stepsPart shiftBoard ≡ shiftSteps
   pub shift-checked : checkOf shift shiftBoard ≡ checked 0 240 320
+  -- its first step leaves 0, 50, -20 and 90; going back over its steps chooses 3 and 1, and filling adds 2
+  pub shift-stepped : afterStep shiftTurns (initial shiftTurns) (record { turn = 0; amount = 100 }) ≡ pos 0 ∷ pos 50 ∷ negsuc 19 ∷ pos 90 ∷ []
+  pub shift-gone-back : goBack shiftTurns (steps shiftTurns) ≡ false ∷ true ∷ false ∷ true ∷ []
+  pub shift-filled : choice shiftTurns ≡ false ∷ true ∷ true ∷ true ∷ []
   pub shift-listed : listOf shift (lent 113) ≡ record { refusal = 0; bytes = 112; lent = shiftListing ++ lent 1 }
   -- no bytes
   pub nothing-read : readOf [] (lent 3) ≡ outcome (refusedWith 1) (lent 3)
