@@ -9,22 +9,21 @@ use lib.ListN.{length, take, drop, length-append}
 use lib.Seq.{take-append-seam}
 use borrow.Author.Tests.{ne-eqb}
 use Rattle.refusal.specs.Cause.{Cause, _when_, firstOf}
+use Rattle.refusal.specs.Written.{Written, wrote}
 use Rattle.refusal.proofs.Order.{clear-append}
+use Rattle.refusal.proofs.Written.{wrote-all}
 use Rattle.sheet.specs.Read.{sheetCauses}
 use Rattle.sheet.proofs.Readings.{sheet-numbered}
 use Rattle.audit.specs.declared.judge.CheckAnswer.{CheckAnswer}
 use Rattle.audit.specs.Check.{checked, checkOf}
 use Rattle.planner.specs.declared.PlanAnswer.{PlanAnswer}
-use Rattle.planner.specs.Plan.{Planned, planCauses, plannedBoard, planOf}
+use Rattle.planner.specs.Plan.{planCauses, plannedBoard, planOf}
 use Rattle.planner.specs.Answer.{planned}
 use Rattle.planner.proofs.PlanCauses.{plan-number}
 use Rattle.claim.specs.Confirm.{Confirmation, confirmed, plannedSums, confirmOf}
 use Rattle.claim.proofs.Claimed.{planned-answer}
 
 -- ---- what a plan that is not refused has
-
-abbrev wrote : List ℕ → List ℕ → Planned
-wrote board lent = record { refusal = 0; bytes = length board; lent = board ++ drop (length board) lent }
 
 module _ (s lent : List ℕ) (z : planOf s lent .refusal ≡ 0) where
   no-cause : firstOf (planCauses s (length lent)) ≡ 0
@@ -36,11 +35,11 @@ module _ (s lent : List ℕ) (z : planOf s lent .refusal ≡ 0) where
 
   planned-is : planOf s lent ≡ wrote (plannedBoard s) lent
   unfolding planOf
-  planned-is = rw no-cause
+  planned-is = wrote-all (planCauses s (length lent)) (plannedBoard s) lent no-cause
 
 module _ (s lent out : List ℕ) (a : PlanAnswer) (e : planned a out ≡ planOf s lent) where
   number : planOf s lent .refusal ≡ a .refusal
-  number = ap (λ (p : Planned). p .refusal) (sym e)
+  number = ap (λ (p : Written). p .refusal) (sym e)
 
   pub confirm-refused : (a .refusal ≡ 0 → ⊥) → confirmed (record { plan = a; check = record { refusal = a .refusal; tally = 0; worth = 0 } }) out ≡ confirmOf s lent
   unfolding confirmOf
@@ -54,10 +53,10 @@ module _ (s lent out : List ℕ) (a : PlanAnswer) (e : planned a out ≡ planOf 
     same = e ∙ planned-is s lent fine
 
     bytes-are : a .bytes ≡ length (plannedBoard s)
-    bytes-are = ap (λ (p : Planned). p .bytes) same
+    bytes-are = ap (λ (p : Written). p .bytes) same
 
     out-is : out ≡ plannedBoard s ++ drop (length (plannedBoard s)) lent
-    out-is = ap (λ (p : Planned). p .lent) same
+    out-is = ap (λ (p : Written). p .lent) same
 
     pub confirm-room : a .bytes ≤ length out
     confirm-room = rw (bytes-are, out-is) (omega (arith, length-append (plannedBoard s) (drop (length (plannedBoard s)) lent)))

@@ -5,6 +5,7 @@ use mathlib.Core.List.{List, [], _∷_, _++_}
 use mathlib.Core.Bool.{true, false}
 use lib.IntN.{pos, negsuc}
 use Rattle.refusal.specs.Cause.{firstOf}
+use Rattle.refusal.specs.Written.{writtenUnless}
 use Rattle.wire.specs.Mark.{opensWith}
 use Rattle.turns.specs.Turn.{outsideRange, pastShift, turnCauses}
 use Rattle.sheet.specs.Record.{field, turnFrom, badMapFor, endAt, turnAt, cursorAfter, recordCauses, firstCursor}
@@ -34,11 +35,11 @@ unfolding firstOf opensWith field turnFrom badMapFor endAt turnAt cursorAfter re
 shift-read = refl
 
 shift-written : writeOf shiftCounts shiftTable (lent 40) ≡ record { refusal = 0; bytes = 39; lent = shift ++ lent 1 }
-unfolding firstOf opensWith field turnFrom badMapFor endAt turnAt cursorAfter recordCauses firstCursor countCauses headerCauses recordsCauses turnsFrom rows sheetCauses turnsOf tableOf readCauses readOf outsideRange pastShift turnCauses recordOf mapFor recordsOf sheetOf turnsOfTable turnsCauses tableCauses writeCauses writeOf
+unfolding firstOf writtenUnless opensWith field turnFrom badMapFor endAt turnAt cursorAfter recordCauses firstCursor countCauses headerCauses recordsCauses turnsFrom rows sheetCauses turnsOf tableOf readCauses readOf outsideRange pastShift turnCauses recordOf mapFor recordsOf sheetOf turnsOfTable turnsCauses tableCauses writeCauses writeOf
 shift-written = refl
 
 shift-planned : planOf shift (lent 33) ≡ record { refusal = 0; bytes = 28; lent = shiftBoard ++ lent 5 }
-unfolding firstOf opensWith field turnFrom badMapFor endAt turnAt cursorAfter recordCauses firstCursor countCauses headerCauses recordsCauses turnsFrom rows sheetCauses turnsOf tableOf readCauses readOf outsideRange pastShift turnCauses turnsIn gap overlap bySlope byGroomer conflict every tab isOpen left initial reduced change afterStep afterSteps tally sooner better best pick nextStep plan steps chosen fits choose back fill goBack choice bitOf chosenIn choiceIn clearPast byteOf mapOf boardMap boardChoice stepsIn writtenSteps stepBytes boardOf badSizes malformed openOf stepsPart boardFor plannedBoard planCauses planOf
+unfolding firstOf writtenUnless opensWith field turnFrom badMapFor endAt turnAt cursorAfter recordCauses firstCursor countCauses headerCauses recordsCauses turnsFrom rows sheetCauses turnsOf tableOf readCauses readOf outsideRange pastShift turnCauses turnsIn gap overlap bySlope byGroomer conflict every tab isOpen left initial reduced change afterStep afterSteps tally sooner better best pick nextStep plan steps chosen fits choose back fill goBack choice bitOf chosenIn choiceIn clearPast byteOf mapOf boardMap boardChoice stepsIn writtenSteps stepBytes boardOf badSizes malformed openOf stepsPart boardFor plannedBoard planCauses planOf
 shift-planned = refl
 
 shift-stepped : afterStep shiftTurns (initial shiftTurns) (record { turn = 0; amount = 100 }) ≡ pos 0 ∷ pos 50 ∷ negsuc 19 ∷ pos 90 ∷ []
@@ -54,7 +55,7 @@ unfolding turnsIn gap overlap bySlope byGroomer conflict every tab isOpen left i
 shift-filled = refl
 
 shift-listed : listOf shift (lent 113) ≡ record { refusal = 0; bytes = 112; lent = shiftListing ++ lent 1 }
-unfolding firstOf opensWith field turnFrom badMapFor endAt turnAt cursorAfter recordCauses firstCursor countCauses headerCauses recordsCauses turnsFrom rows sheetCauses turnsOf tableOf outsideRange pastShift turnCauses turnsIn gap overlap bySlope byGroomer conflict every tab isOpen left initial reduced change afterStep afterSteps tally sooner better best pick nextStep plan steps chosen fits choose back fill goBack choice decimalIn decimal startsAt startsBelow roundFrom roundOf labelled twoLabelled headingOf lineOf linesOf groomerText groomersFrom sumsLine listingOf listingFor sheetListing listCauses listOf
+unfolding firstOf writtenUnless opensWith field turnFrom badMapFor endAt turnAt cursorAfter recordCauses firstCursor countCauses headerCauses recordsCauses turnsFrom rows sheetCauses turnsOf tableOf outsideRange pastShift turnCauses turnsIn gap overlap bySlope byGroomer conflict every tab isOpen left initial reduced change afterStep afterSteps tally sooner better best pick nextStep plan steps chosen fits choose back fill goBack choice decimalIn decimal startsAt startsBelow roundFrom roundOf labelled twoLabelled headingOf lineOf linesOf groomerText groomersFrom sumsLine listingOf listingFor sheetListing listCauses listOf
 shift-listed = refl
 
 shift-opened : openOf shiftBoard ≡ 0
@@ -74,7 +75,7 @@ unfolding firstOf opensWith field turnFrom badMapFor endAt turnAt cursorAfter re
 nothing-read = refl
 
 nothing-planned : planOf [] (lent 3) ≡ record { refusal = 1; bytes = 0; lent = lent 3 }
-unfolding firstOf opensWith field turnFrom badMapFor endAt turnAt cursorAfter recordCauses firstCursor countCauses headerCauses recordsCauses turnsFrom rows sheetCauses turnsOf tableOf readCauses readOf outsideRange pastShift turnCauses turnsIn gap overlap bySlope byGroomer conflict every tab isOpen left initial reduced change afterStep afterSteps tally sooner better best pick nextStep plan steps chosen fits choose back fill goBack choice bitOf chosenIn choiceIn clearPast byteOf mapOf boardMap boardChoice stepsIn writtenSteps stepBytes boardOf badSizes malformed openOf stepsPart boardFor plannedBoard planCauses planOf
+unfolding firstOf writtenUnless opensWith field turnFrom badMapFor endAt turnAt cursorAfter recordCauses firstCursor countCauses headerCauses recordsCauses turnsFrom rows sheetCauses turnsOf tableOf readCauses readOf outsideRange pastShift turnCauses turnsIn gap overlap bySlope byGroomer conflict every tab isOpen left initial reduced change afterStep afterSteps tally sooner better best pick nextStep plan steps chosen fits choose back fill goBack choice bitOf chosenIn choiceIn clearPast byteOf mapOf boardMap boardChoice stepsIn writtenSteps stepBytes boardOf badSizes malformed openOf stepsPart boardFor plannedBoard planCauses planOf
 nothing-planned = refl
 
 nothing-checked : checkOf [] shiftBoard ≡ checked 1 0 0
@@ -86,7 +87,7 @@ unfolding firstOf opensWith field turnFrom badMapFor endAt turnAt cursorAfter re
 empty-read = refl
 
 empty-planned : planOf (header 0 0) (lent 16) ≡ record { refusal = 0; bytes = 15; lent = emptyBoard ++ lent 1 }
-unfolding firstOf opensWith field turnFrom badMapFor endAt turnAt cursorAfter recordCauses firstCursor countCauses headerCauses recordsCauses turnsFrom rows sheetCauses turnsOf tableOf readCauses readOf outsideRange pastShift turnCauses turnsIn gap overlap bySlope byGroomer conflict every tab isOpen left initial reduced change afterStep afterSteps tally sooner better best pick nextStep plan steps chosen fits choose back fill goBack choice bitOf chosenIn choiceIn clearPast byteOf mapOf boardMap boardChoice stepsIn writtenSteps stepBytes boardOf badSizes malformed openOf stepsPart boardFor plannedBoard planCauses planOf
+unfolding firstOf writtenUnless opensWith field turnFrom badMapFor endAt turnAt cursorAfter recordCauses firstCursor countCauses headerCauses recordsCauses turnsFrom rows sheetCauses turnsOf tableOf readCauses readOf outsideRange pastShift turnCauses turnsIn gap overlap bySlope byGroomer conflict every tab isOpen left initial reduced change afterStep afterSteps tally sooner better best pick nextStep plan steps chosen fits choose back fill goBack choice bitOf chosenIn choiceIn clearPast byteOf mapOf boardMap boardChoice stepsIn writtenSteps stepBytes boardOf badSizes malformed openOf stepsPart boardFor plannedBoard planCauses planOf
 empty-planned = refl
 
 empty-checked : checkOf (header 0 0) emptyBoard ≡ checked 0 0 0
@@ -98,7 +99,7 @@ unfolding firstOf opensWith field turnFrom badMapFor endAt turnAt cursorAfter re
 most-read = refl
 
 most-planned : planOf (header 1 0x90) [] ≡ record { refusal = 1; bytes = 0; lent = [] }
-unfolding firstOf opensWith field turnFrom badMapFor endAt turnAt cursorAfter recordCauses firstCursor countCauses headerCauses recordsCauses turnsFrom rows sheetCauses turnsOf tableOf readCauses readOf outsideRange pastShift turnCauses turnsIn gap overlap bySlope byGroomer conflict every tab isOpen left initial reduced change afterStep afterSteps tally sooner better best pick nextStep plan steps chosen fits choose back fill goBack choice bitOf chosenIn choiceIn clearPast byteOf mapOf boardMap boardChoice stepsIn writtenSteps stepBytes boardOf badSizes malformed openOf stepsPart boardFor plannedBoard planCauses planOf
+unfolding firstOf writtenUnless opensWith field turnFrom badMapFor endAt turnAt cursorAfter recordCauses firstCursor countCauses headerCauses recordsCauses turnsFrom rows sheetCauses turnsOf tableOf readCauses readOf outsideRange pastShift turnCauses turnsIn gap overlap bySlope byGroomer conflict every tab isOpen left initial reduced change afterStep afterSteps tally sooner better best pick nextStep plan steps chosen fits choose back fill goBack choice bitOf chosenIn choiceIn clearPast byteOf mapOf boardMap boardChoice stepsIn writtenSteps stepBytes boardOf badSizes malformed openOf stepsPart boardFor plannedBoard planCauses planOf
 most-planned = refl
 
 most-checked : checkOf (header 1 0x90) emptyBoard ≡ checked 1 0 0
@@ -110,7 +111,7 @@ unfolding firstOf opensWith field turnFrom badMapFor endAt turnAt cursorAfter re
 many-read = refl
 
 many-planned : planOf (header 1 0x91) [] ≡ record { refusal = 4; bytes = 0; lent = [] }
-unfolding firstOf opensWith field turnFrom badMapFor endAt turnAt cursorAfter recordCauses firstCursor countCauses headerCauses recordsCauses turnsFrom rows sheetCauses turnsOf tableOf readCauses readOf outsideRange pastShift turnCauses turnsIn gap overlap bySlope byGroomer conflict every tab isOpen left initial reduced change afterStep afterSteps tally sooner better best pick nextStep plan steps chosen fits choose back fill goBack choice bitOf chosenIn choiceIn clearPast byteOf mapOf boardMap boardChoice stepsIn writtenSteps stepBytes boardOf badSizes malformed openOf stepsPart boardFor plannedBoard planCauses planOf
+unfolding firstOf writtenUnless opensWith field turnFrom badMapFor endAt turnAt cursorAfter recordCauses firstCursor countCauses headerCauses recordsCauses turnsFrom rows sheetCauses turnsOf tableOf readCauses readOf outsideRange pastShift turnCauses turnsIn gap overlap bySlope byGroomer conflict every tab isOpen left initial reduced change afterStep afterSteps tally sooner better best pick nextStep plan steps chosen fits choose back fill goBack choice bitOf chosenIn choiceIn clearPast byteOf mapOf boardMap boardChoice stepsIn writtenSteps stepBytes boardOf badSizes malformed openOf stepsPart boardFor plannedBoard planCauses planOf
 many-planned = refl
 
 many-checked : checkOf (header 1 0x91) emptyBoard ≡ checked 4 0 0

@@ -3,17 +3,18 @@ use Prim.Native.Nat.{ℕ}
 use mathlib.Core.Bool.{cond}
 use mathlib.Core.List.{List}
 use lib.Dec.{eqb}
+use Rattle.refusal.specs.Written.{Written}
 use Rattle.model.specs.Steps.{tally}
 use Rattle.model.specs.Pick.{steps}
 use Rattle.model.specs.Choice.{chosen, choice}
 use Rattle.audit.specs.declared.judge.CheckAnswer.{CheckAnswer}
 use Rattle.audit.specs.Check.{sheetTurns, checked}
-use Rattle.planner.specs.Plan.{Planned, planOf}
+use Rattle.planner.specs.Plan.{planOf}
 use Rattle.planner.specs.Answer.{planned}
 use Rattle.claim.specs.declared.Confirmed.{Confirmed}
 
 pub record Confirmation : Type 0 where
-  pub plan : Planned
+  pub plan : Written
   pub check : CheckAnswer
 
 abbrev pub confirmed : Confirmed → List ℕ → Confirmation

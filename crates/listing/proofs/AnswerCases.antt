@@ -1,16 +1,15 @@
 -- The listing's answer by its cases, each premise in the form in which the code's calls and tests leave it. Assumes nothing.
 use Prim.Native.Nat.{ℕ, _+_, _-_, _*_, _<_, _≤_}
 use mathlib.Core.Path.{_≡_, refl, sym, _∙_, ap}
-use mathlib.Core.Bool.{Bool, true}
 use mathlib.Core.List.{List, [], _∷_, _++_}
 use native.Mathlib.Omega.{arith}
-use native.Mathlib.Decide.{decLt}
 use lib.Dec.{ltb}
 use lib.ListN.{length, take, drop, replicate, length-append, length-replicate, length-take, length-drop}
-use borrow.Author.Tests.{ne-eqb, lt-ltb, le-ltb}
 use Rattle.refusal.specs.Number.{bufferTooSmall}
-use Rattle.refusal.specs.Cause.{Cause, _when_, firstOf}
-use Rattle.refusal.proofs.Order.{numbered, first-stops, first-goes}
+use Rattle.refusal.specs.Cause.{_when_, firstOf}
+use Rattle.refusal.specs.Written.{Written}
+use Rattle.refusal.proofs.Order.{first-goes}
+use Rattle.refusal.proofs.Written.{same-first, kept-before, kept-small, wrote-enough}
 use Rattle.wire.specs.Number.{puts}
 use Rattle.wire.proofs.Puts.{puts-front, puts-length}
 use lib.Seq.{take-at}
@@ -38,7 +37,7 @@ use Rattle.listing.specs.Round.{StartsApart}
 use Rattle.listing.specs.Text.{listingOf}
 use Rattle.listing.specs.Ready.{Ready}
 use Rattle.listing.specs.declared.ListAnswer.{ListAnswer}
-use Rattle.listing.specs.List.{Listed, listingFor, sheetListing, listCauses, listOf}
+use Rattle.listing.specs.List.{listingFor, sheetListing, listCauses, listOf}
 use Rattle.listing.specs.Answer.{listed, refusedWith, textAnswer}
 use Rattle.listing.proofs.Rounds.{apart-starts}
 use Rattle.listing.proofs.Sizes.{listing-short}
@@ -47,12 +46,12 @@ use Rattle.listing.proofs.Sizes.{listing-short}
 
 module _ (text lent : List ℕ) {bytes : ℕ} (e : bytes ≡ length text) where
   pub text-small : {x : ListAnswer} → length lent < bytes → x ≡ refusedWith bufferTooSmall → listed x lent ≡ textAnswer text lent
-  unfolding textAnswer
-  text-small h g = rw (g, lt-ltb (length lent) (length text) (omega arith))
+  unfolding textAnswer firstOf
+  text-small h g = rw g (sym (kept-small [] _ _ lent refl refl (omega arith)))
 
   pub text-done : {lent′ : List ℕ} → bytes ≤ length lent → lent′ ≡ puts lent 0 text → listed (record { refusal = 0; bytes = bytes }) lent′ ≡ textAnswer text lent
-  unfolding textAnswer
-  text-done h g = rw (e, g, le-ltb (length lent) (length text) (omega arith), puts-front text lent (omega arith))
+  unfolding textAnswer firstOf
+  text-done h g = rw (e, g, puts-front text lent (omega arith)) (sym (wrote-enough [] _ text lent refl refl (omega arith)))
 
 pub ruleset text-cases = (text-small, text-done)
 
@@ -124,7 +123,7 @@ module _ (n : ℕ) (table b : List ℕ) (e : b ≡ boardFor (turnsIn n table)) w
           listing-short n table bounded (choice T) (apart-starts T (choice T) (planned-keeps T lengths .apart) lengths) groomers _ _ g (sums .1) (sums .0) in
           rw listing-is short
 
-      pub listing-answer : {x : Listed} (lent : List ℕ) → x ≡ textAnswer (listingOf groomers T (choiceIn n (take (place - 15) (drop 15 b))) worth tallied) lent → x ≡ textAnswer (listingFor groomers T) lent
+      pub listing-answer : {x : Written} (lent : List ℕ) → x ≡ textAnswer (listingOf groomers T (choiceIn n (take (place - 15) (drop 15 b))) worth tallied) lent → x ≡ textAnswer (listingFor groomers T) lent
       listing-answer lent g = rw listing-is at g
 
 pub ruleset board-cases = (board-header, board-sums, board-part, board-ready, listing-fits, listing-answer)
@@ -151,40 +150,17 @@ pub ruleset space-cases = (space-fits, space-holds, space-front, space-part)
 
 -- ---- the entry
 
-module _ (cs : List Cause) (places need : ℕ) (n : numbered cs ≡ true) (z : firstOf cs ≡ 0) where
-  too-few : places < need → firstOf (cs ++ bufferTooSmall when ltb places need ∷ []) ≡ bufferTooSmall
-  unfolding firstOf
-  too-few h = first-goes cs (bufferTooSmall when ltb places need ∷ []) n z ∙ rw (lt-ltb places need h)
-
-  enough : need ≤ places → firstOf (cs ++ bufferTooSmall when ltb places need ∷ []) ≡ 0
-  unfolding firstOf
-  enough h = first-goes cs (bufferTooSmall when ltb places need ∷ []) n z ∙ rw (le-ltb places need h)
-
 -- a sheet that is not refused: what is left to refuse is too few lent bytes
-module _ (s lent : List ℕ) (z : firstOf (sheetCauses s) ≡ 0) where
-  list-small : length lent < length (sheetListing s) → textAnswer (sheetListing s) lent ≡ listOf s lent
-  unfolding textAnswer listOf listCauses
-  list-small l =
-      let c : firstOf (sheetCauses s ++ bufferTooSmall when ltb (length lent) (length (sheetListing s)) ∷ []) ≡ bufferTooSmall = too-few (sheetCauses s) (length lent) (length (sheetListing s)) (sheet-numbered s) z l in
-      rw (c, lt-ltb (length lent) (length (sheetListing s)) l)
-
-  list-enough : length (sheetListing s) ≤ length lent → textAnswer (sheetListing s) lent ≡ listOf s lent
-  unfolding textAnswer listOf listCauses
-  list-enough l =
-      let c : firstOf (sheetCauses s ++ bufferTooSmall when ltb (length lent) (length (sheetListing s)) ∷ []) ≡ 0 = enough (sheetCauses s) (length lent) (length (sheetListing s)) (sheet-numbered s) z l in
-      rw (c, le-ltb (length lent) (length (sheetListing s)) l)
-
-  list-text : textAnswer (sheetListing s) lent ≡ listOf s lent
-  list-text = go (decLt (length lent) (length (sheetListing s)))
-    where
-      go : Dec (length lent < length (sheetListing s)) → textAnswer (sheetListing s) lent ≡ listOf s lent
-      go (yes l) = list-small l
-      go (no l) = list-enough (omega arith)
+list-text : (s lent : List ℕ) → firstOf (sheetCauses s) ≡ 0 → textAnswer (sheetListing s) lent ≡ listOf s lent
+unfolding textAnswer listOf listCauses
+list-text s lent z =
+    let last = bufferTooSmall when ltb (length lent) (length (sheetListing s)) ∷ [] in
+    same-first last (sheetListing s) lent (sheetCauses s ++ last) (sym (first-goes (sheetCauses s) last (sheet-numbered s) z))
 
 module _ (s lent : List ℕ) {r : ReadAnswer} (e : r ≡ answerOf s) where
   pub list-fault : {x : ListAnswer} → (r .refusal ≡ 0 → ⊥) → x ≡ refusedWith (r .refusal) → listed x lent ≡ listOf s lent
   unfolding listOf listCauses
-  list-fault f g = rw (g, first-stops (sheetCauses s) (bufferTooSmall when _ ∷ []) (r .refusal) (sym (whole-refusal s e)) f, ne-eqb (r .refusal) 0 f)
+  list-fault f g = rw g (sym (kept-before (sheetCauses s) _ _ lent (r .refusal) (sym (whole-refusal s e)) f))
 
   module _ (f : r .refusal ≡ 0) where
     pub list-few : r .turns ≤ 400
@@ -200,7 +176,7 @@ module _ (s lent : List ℕ) {r : ReadAnswer} (e : r ≡ answerOf s) where
       pub list-bounded : RowsBounded (r .turns) t
       list-bounded = plan-bounded s [] e f w z
 
-      pub list-done : {x : Listed} → x ≡ textAnswer (listingFor (r .groomers) (turnsIn (r .turns) t)) lent → x ≡ listOf s lent
+      pub list-done : {x : Written} → x ≡ textAnswer (listingFor (r .groomers) (turnsIn (r .turns) t)) lent → x ≡ listOf s lent
       unfolding sheetListing
       list-done g =
           let groomers : r .groomers ≡ countsIn s .groomers = ap (λ (a : ReadAnswer). a .groomers) (whole-answer s e f) in

@@ -1,14 +1,12 @@
 -- The listing of every sheet that is not refused: what its rounds have, how many turn lines there are; and its refusals. Assumes nothing.
 use Prim.Native.Nat.{ℕ, _+_, _<_, _≤_}
-use mathlib.Core.Path.{_≡_, refl, sym, _∙_, ap}
-use mathlib.Core.Bool.{Bool, true, false, cond}
-use mathlib.Core.List.{List, _++_}
+use mathlib.Core.Path.{_≡_, sym, _∙_, ap}
+use mathlib.Core.List.{List}
 use mathlib.Core.Logic.{_↔_}
 use native.Mathlib.Omega.{arith}
-use lib.Dec.{eqb}
-use lib.ListN.{length, drop}
-use borrow.Author.Tests.{eqb-true}
+use lib.ListN.{length}
 use Rattle.refusal.specs.Cause.{There, firstOf}
+use Rattle.refusal.proofs.Written.{number-first}
 use Rattle.model.specs.Lists.{sum, below}
 use Rattle.model.specs.Turns.{Turns, turnsIn, PositiveLengths}
 use Rattle.model.specs.Choice.{choice}
@@ -25,7 +23,7 @@ use Rattle.rows.proofs.Turns.{count-is}
 use Rattle.planner.specs.Plan.{boardFor, plannedBoard}
 use Rattle.planner.proofs.Boards.{choice-count}
 use Rattle.listing.specs.Round.{roundOf, Round, StartsApart, shiftMinutes}
-use Rattle.listing.specs.List.{Listed, sheetListing, listCauses, listOf, ListCause, FirstListCause}
+use Rattle.listing.specs.List.{sheetListing, listCauses, listOf, ListCause, FirstListCause}
 use Rattle.listing.proofs.Rounds.{apart-starts, round-is, rounds-ones}
 
 module _ (s : List ℕ) (z : firstOf (sheetCauses s) ≡ 0) where
@@ -66,17 +64,9 @@ module _ (s : List ℕ) (z : firstOf (sheetCauses s) ≡ 0) where
 
 -- ---- refused
 
-answer-number : (f : ℕ) (text lent : List ℕ)
-    → cond {A = Listed} (eqb f 0) (record { refusal = 0; bytes = length text; lent = text ++ drop (length text) lent }) (record { refusal = f; bytes = 0; lent = lent }) .refusal ≡ f
-answer-number f text lent = go (eqb f 0) refl
-  where
-    go : (b : Bool) → eqb f 0 ≡ b → cond {A = Listed} b (record { refusal = 0; bytes = length text; lent = text ++ drop (length text) lent }) (record { refusal = f; bytes = 0; lent = lent }) .refusal ≡ f
-    go true e = sym (eqb-true f 0 e)
-    go false e = refl
-
 pub list-number : (s lent : List ℕ) → listOf s lent .refusal ≡ firstOf (listCauses s (length lent))
 unfolding listOf
-list-number s lent = answer-number (firstOf (listCauses s (length lent))) (sheetListing s) lent
+list-number s lent = number-first (listCauses s (length lent)) (sheetListing s) lent
 
 list-causes-iff : (s : List ℕ) (places k r : ℕ) → ListCause s places k r ↔ There (listCauses s places) k r
 unfolding listCauses

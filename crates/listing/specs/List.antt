@@ -1,11 +1,11 @@
 -- The listing entry: any bytes as a sheet, and lent bytes for the text. Assumes nothing.
 use Prim.Native.Nat.{ℕ}
 use mathlib.Core.List.{List, [], _∷_, _++_}
-use mathlib.Core.Bool.{cond}
-use lib.ListN.{length, drop}
-use lib.Dec.{ltb, eqb}
+use lib.ListN.{length}
+use lib.Dec.{ltb}
 use Rattle.refusal.specs.Number.{bufferTooSmall}
-use Rattle.refusal.specs.Cause.{Cause, _when_, firstOf}
+use Rattle.refusal.specs.Cause.{Cause, _when_}
+use Rattle.refusal.specs.Written.{Written, writtenUnless}
 use Rattle.model.specs.Turns.{Turns, turnsIn}
 use Rattle.model.specs.Steps.{tally}
 use Rattle.model.specs.Pick.{steps}
@@ -26,18 +26,9 @@ sheetListing s = listingFor (countsIn s .groomers) (turnsIn (turnCount s) (table
 unfoldable pub listCauses : List ℕ → ℕ → List Cause
 listCauses s places = sheetCauses s ++ bufferTooSmall when ltb places (length (sheetListing s)) ∷ []
 
--- the refusal, 0 if none, the bytes written, 0 on a refusal, and what the lent bytes hold then
-pub record Listed : Type 0 where
-  pub refusal : ℕ
-  pub bytes : ℕ
-  pub lent : List ℕ
-
 -- on success the listing, then what was there; on a refusal all as before
-unfoldable pub listOf : List ℕ → List ℕ → Listed
-listOf s lent =
-    let f = firstOf (listCauses s (length lent)) in
-    let text = sheetListing s in
-    cond (eqb f 0) (record { refusal = 0; bytes = length text; lent = text ++ drop (length text) lent }) (record { refusal = f; bytes = 0; lent = lent })
+unfoldable pub listOf : List ℕ → List ℕ → Written
+listOf s lent = writtenUnless (listCauses s (length lent)) (sheetListing s) lent
 
 -- ---- as statements
 

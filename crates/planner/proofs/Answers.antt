@@ -1,15 +1,12 @@
 -- The planner's answer by its cases, each premise in the form in which the code's calls and tests leave it. Assumes nothing.
 use Prim.Native.Nat.{ℕ, _+_, _-_, _*_, _<_, _≤_}
 use mathlib.Core.Path.{_≡_, refl, sym, _∙_, ap}
-use mathlib.Core.List.{List, [], _∷_, _++_}
-use mathlib.Core.Bool.{true}
+use mathlib.Core.List.{List, _++_}
 use native.Mathlib.Omega.{arith}
-use lib.Dec.{ltb}
 use lib.ListN.{length, getD, drop, replicate, length-append, length-replicate}
-use borrow.Author.Tests.{ne-eqb, lt-ltb, le-ltb}
 use Rattle.refusal.specs.Number.{bufferTooSmall}
-use Rattle.refusal.specs.Cause.{Cause, _when_, firstOf}
-use Rattle.refusal.proofs.Order.{numbered, first-stops, first-goes}
+use Rattle.refusal.specs.Cause.{firstOf}
+use Rattle.refusal.proofs.Written.{kept-before, kept-small, wrote-enough}
 use Rattle.wire.specs.Number.{puts}
 use Rattle.wire.proofs.Puts.{puts-front}
 use Rattle.model.specs.Turns.{Turns, turnsIn, RowsBounded}
@@ -26,16 +23,6 @@ use Rattle.planner.specs.declared.PlanAnswer.{PlanAnswer}
 use Rattle.planner.specs.Plan.{boardFor, plannedBoard, planCauses, planOf}
 use Rattle.planner.specs.Answer.{planned, refusedWith}
 use Rattle.planner.proofs.Boards.{board-most, ReadsBack, board-back}
-
--- behind causes of which none is there: 11 where the places are too few, 0 where they are enough
-module _ (cs : List Cause) (places need : ℕ) (n : numbered cs ≡ true) (z : firstOf cs ≡ 0) where
-  too-few : places < need → firstOf (cs ++ bufferTooSmall when ltb places need ∷ []) ≡ bufferTooSmall
-  unfolding firstOf
-  too-few h = first-goes cs (bufferTooSmall when ltb places need ∷ []) n z ∙ rw (lt-ltb places need h)
-
-  enough : need ≤ places → firstOf (cs ++ bufferTooSmall when ltb places need ∷ []) ≡ 0
-  unfolding firstOf
-  enough h = first-goes cs (bufferTooSmall when ltb places need ∷ []) n z ∙ rw (le-ltb places need h)
 
 worth-at : (n : ℕ) (table : List ℕ) (i : ℕ) → turnsIn n table .worth i ≡ getD table (i * 5 + 4) 0
 unfolding turnsIn
@@ -72,7 +59,7 @@ module _ (s lent : List ℕ) {r : ReadAnswer} (e : r ≡ answerOf s) where
 
   pub plan-fault : {x : PlanAnswer} → (r .refusal ≡ 0 → ⊥) → x ≡ refusedWith (r .refusal) → planned x lent ≡ planOf s lent
   unfolding planOf planCauses
-  plan-fault f g = rw (g, first-stops (sheetCauses s) (bufferTooSmall when _ ∷ []) (r .refusal) refusal-is f, ne-eqb (r .refusal) 0 f)
+  plan-fault f g = rw g (sym (kept-before (sheetCauses s) _ _ lent (r .refusal) refusal-is f))
 
   module _ (f : r .refusal ≡ 0) where
     count : r .turns ≡ turnCount s
@@ -83,9 +70,7 @@ module _ (s lent : List ℕ) {r : ReadAnswer} (e : r ≡ answerOf s) where
 
     pub plan-small : {x : PlanAnswer} {place : ℕ} → x ≡ refusedWith bufferTooSmall → place ≡ stepsPlace (r .turns) → length lent < place + 4 * r .turns → planned x lent ≡ planOf s lent
     unfolding planOf planCauses
-    plan-small g p h =
-        let c : firstOf (planCauses s (length lent)) ≡ bufferTooSmall = too-few (sheetCauses s) (length lent) _ (sheet-numbered s) sound (omega (arith, p, count)) in
-        rw (g, c)
+    plan-small g p h = rw g (sym (kept-small (sheetCauses s) _ _ lent (sheet-numbered s) sound (omega (arith, p, count))))
 
     -- ---- what the writing asks
 
@@ -112,8 +97,7 @@ module _ (s lent : List ℕ) {r : ReadAnswer} (e : r ≡ answerOf s) where
       unfolding planOf planCauses plannedBoard
       plan-done b l p h =
           let T = turnsIn (turnCount s) (tableOf s) in
-          let c : firstOf (planCauses s (length lent)) ≡ 0 = enough (sheetCauses s) (length lent) _ (sheet-numbered s) sound (omega (arith, p, count)) in
           let room : length (boardFor T) ≤ length lent = omega (arith, board-most T, count-is (turnCount s) (tableOf s), count, p, h) in
-          rw (b, l, plan-turns, c, puts-front (boardFor T) lent room)
+          rw (b, l, plan-turns, puts-front (boardFor T) lent room) (sym (wrote-enough (sheetCauses s) _ (boardFor T) lent (sheet-numbered s) sound (omega (arith, p, count))))
 
 pub ruleset plan-cases = (plan-ample, plan-fault, plan-small, plan-few, plan-rows, plan-bounded, plan-done)

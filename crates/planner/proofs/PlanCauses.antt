@@ -1,30 +1,20 @@
 -- The planner's number: exactly the first cause in the order gives it. Assumes nothing.
 use Prim.Native.Nat.{ℕ}
-use mathlib.Core.Path.{_≡_, refl, sym, _∙_}
-use mathlib.Core.Bool.{Bool, true, false, cond}
-use mathlib.Core.List.{List, _++_}
+use mathlib.Core.Path.{_≡_, sym, _∙_}
+use mathlib.Core.List.{List}
 use mathlib.Core.Logic.{_↔_}
-use lib.Dec.{eqb}
-use lib.ListN.{length, drop}
-use borrow.Author.Tests.{eqb-true}
+use lib.ListN.{length}
 use Rattle.refusal.specs.Cause.{There, firstOf}
+use Rattle.refusal.proofs.Written.{number-first}
 use Rattle.sheet.specs.Read.{turnCount}
 use Rattle.sheet.proofs.Causes.{first-same}
 use Rattle.sheet.proofs.ReadCauses.{lent-causes-iff}
 use Rattle.board.specs.Board.{boardLength}
-use Rattle.planner.specs.Plan.{Planned, plannedBoard, planCauses, planOf, PlanCause, FirstPlanCause}
-
-answer-number : (f : ℕ) (board lent : List ℕ)
-    → cond {A = Planned} (eqb f 0) (record { refusal = 0; bytes = length board; lent = board ++ drop (length board) lent }) (record { refusal = f; bytes = 0; lent = lent }) .refusal ≡ f
-answer-number f board lent = go (eqb f 0) refl
-  where
-    go : (b : Bool) → eqb f 0 ≡ b → cond {A = Planned} b (record { refusal = 0; bytes = length board; lent = board ++ drop (length board) lent }) (record { refusal = f; bytes = 0; lent = lent }) .refusal ≡ f
-    go true e = sym (eqb-true f 0 e)
-    go false e = refl
+use Rattle.planner.specs.Plan.{plannedBoard, planCauses, planOf, PlanCause, FirstPlanCause}
 
 pub plan-number : (s lent : List ℕ) → planOf s lent .refusal ≡ firstOf (planCauses s (length lent))
 unfolding planOf
-plan-number s lent = answer-number (firstOf (planCauses s (length lent))) (plannedBoard s) lent
+plan-number s lent = number-first (planCauses s (length lent)) (plannedBoard s) lent
 
 plan-causes-iff : (s : List ℕ) (places k r : ℕ) → PlanCause s places k r ↔ There (planCauses s places) k r
 unfolding planCauses

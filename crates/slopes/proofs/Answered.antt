@@ -1,16 +1,15 @@
 -- What the program prints, by the listing's answer; each premise in the form in which the code's calls and tests leave it. Assumes nothing.
 use Prim.Native.Nat.{ℕ, _<_, _≤_}
 use mathlib.Core.Path.{_≡_, refl, sym, _∙_, ap}
-use mathlib.Core.List.{List, [], _∷_, _++_}
+use mathlib.Core.List.{List, _++_}
 use native.Mathlib.Omega.{arith}
 use native.Mathlib.Decide.{ℕ-discrete}
-use lib.Dec.{ltb}
 use lib.ListN.{length, take, drop, length-append, length-drop}
 use lib.Seq.{take-at}
-use borrow.Author.Tests.{eq-eqb, ne-eqb, le-ltb}
-use Rattle.refusal.specs.Number.{bufferTooSmall}
-use Rattle.refusal.specs.Cause.{_when_, firstOf}
-use Rattle.refusal.proofs.Order.{first-stops, first-goes}
+use borrow.Author.Tests.{eq-eqb, ne-eqb}
+use Rattle.refusal.specs.Cause.{firstOf}
+use Rattle.refusal.specs.Written.{Written, wrote, kept}
+use Rattle.refusal.proofs.Written.{kept-before, wrote-enough}
 use Rattle.wire.specs.Number.{puts}
 use Rattle.wire.proofs.Puts.{puts-front, puts-length}
 use Rattle.sheet.specs.Read.{sheetCauses}
@@ -19,7 +18,7 @@ use Rattle.sheet.proofs.Prefix.{prefix-refusal, prefix-same}
 use Rattle.listing.specs.declared.ListAnswer.{ListAnswer}
 use Rattle.listing.specs.Text.{refusedLine}
 use Rattle.listing.specs.Limits.{inputBytes, listingBytes}
-use Rattle.listing.specs.List.{Listed, sheetListing, listCauses, listOf}
+use Rattle.listing.specs.List.{sheetListing, listCauses, listOf}
 use Rattle.listing.specs.Answer.{listed}
 use Rattle.listing.proofs.Bytes.{listing-bytes}
 use Rattle.slopes.specs.Printed.{printed}
@@ -27,17 +26,13 @@ use Rattle.slopes.specs.Printed.{printed}
 -- ---- the two answers that there are, with room for every listing
 
 module _ (s lent : List ℕ) (room : listingBytes ≤ length lent) where
-  list-fits : firstOf (sheetCauses s) ≡ 0 → listOf s lent ≡ record { refusal = 0; bytes = length (sheetListing s); lent = sheetListing s ++ drop (length (sheetListing s)) lent }
-  unfolding listOf listCauses firstOf
-  list-fits z =
-      let l : length (sheetListing s) ≤ length lent = omega (arith, listing-bytes s z) in
-      let c : firstOf (sheetCauses s ++ bufferTooSmall when ltb (length lent) (length (sheetListing s)) ∷ []) ≡ 0 =
-      first-goes (sheetCauses s) (bufferTooSmall when ltb (length lent) (length (sheetListing s)) ∷ []) (sheet-numbered s) z ∙ rw (le-ltb (length lent) (length (sheetListing s)) l) in
-      rw c
-
-  list-refuses : (firstOf (sheetCauses s) ≡ 0 → ⊥) → listOf s lent ≡ record { refusal = firstOf (sheetCauses s); bytes = 0; lent = lent }
+  list-fits : firstOf (sheetCauses s) ≡ 0 → listOf s lent ≡ wrote (sheetListing s) lent
   unfolding listOf listCauses
-  list-refuses z = rw (first-stops (sheetCauses s) (bufferTooSmall when _ ∷ []) (firstOf (sheetCauses s)) refl z, ne-eqb (firstOf (sheetCauses s)) 0 z)
+  list-fits z = wrote-enough (sheetCauses s) _ _ lent (sheet-numbered s) z (omega (arith, listing-bytes s z))
+
+  list-refuses : (firstOf (sheetCauses s) ≡ 0 → ⊥) → listOf s lent ≡ kept (firstOf (sheetCauses s)) lent
+  unfolding listOf listCauses
+  list-refuses z = kept-before (sheetCauses s) _ _ lent (firstOf (sheetCauses s)) refl z
 
   module _ {a : ListAnswer} {text : List ℕ} (e : listed a text ≡ listOf s lent) where
     accepted : a .refusal ≡ 0 → firstOf (sheetCauses s) ≡ 0
@@ -45,17 +40,17 @@ module _ (s lent : List ℕ) (room : listingBytes ≤ length lent) where
       where
         go : Dec (firstOf (sheetCauses s) ≡ 0) → firstOf (sheetCauses s) ≡ 0
         go (yes z) = z
-        go (no z) = absurd (z (sym (ap (λ (x : Listed). x .refusal) (e ∙ list-refuses z)) ∙ f))
+        go (no z) = absurd (z (sym (ap (λ (x : Written). x .refusal) (e ∙ list-refuses z)) ∙ f))
 
     module _ (f : a .refusal ≡ 0) where
-      found : listed a text ≡ record { refusal = 0; bytes = length (sheetListing s); lent = sheetListing s ++ drop (length (sheetListing s)) lent }
+      found : listed a text ≡ wrote (sheetListing s) lent
       found = e ∙ list-fits (accepted f)
 
       bytes-are : a .bytes ≡ length (sheetListing s)
-      bytes-are = ap (λ (x : Listed). x .bytes) found
+      bytes-are = ap (λ (x : Written). x .bytes) found
 
       text-is : text ≡ sheetListing s ++ drop (length (sheetListing s)) lent
-      text-is = ap (λ (x : Listed). x .lent) found
+      text-is = ap (λ (x : Written). x .lent) found
 
       pub answer-fits : a .bytes ≤ length text
       answer-fits = rw text-is (omega (arith, bytes-are, length-append (sheetListing s) (drop (length (sheetListing s)) lent)))
@@ -66,16 +61,16 @@ module _ (s lent : List ℕ) (room : listingBytes ≤ length lent) where
 
     module _ (f : a .refusal ≡ 0 → ⊥) where
       refused : firstOf (sheetCauses s) ≡ 0 → ⊥
-      refused z = f (ap (λ (x : Listed). x .refusal) (e ∙ list-fits z))
+      refused z = f (ap (λ (x : Written). x .refusal) (e ∙ list-fits z))
 
-      left : listed a text ≡ record { refusal = firstOf (sheetCauses s); bytes = 0; lent = lent }
+      left : listed a text ≡ kept (firstOf (sheetCauses s)) lent
       left = e ∙ list-refuses refused
 
       number-is : a .refusal ≡ firstOf (sheetCauses s)
-      number-is = ap (λ (x : Listed). x .refusal) left
+      number-is = ap (λ (x : Written). x .refusal) left
 
       text-left : text ≡ lent
-      text-left = ap (λ (x : Listed). x .lent) left
+      text-left = ap (λ (x : Written). x .lent) left
 
       module _ {r : ℕ} {text′ : List ℕ} (n : r ≡ length (refusedLine (a .refusal))) (m : r ≤ 266) (p : text′ ≡ puts text 0 (refusedLine (a .refusal))) where
         pub line-fits : r ≤ length text′

@@ -9,10 +9,12 @@ use native.Mathlib.Nat.{le-trans}
 use lib.ListN.{length, getD, take, drop}
 use lib.Seq.{drop-cons, drop-length, drop-drop, getD-drop, take-append-seam}
 use lib.Dec.{eqb, ltb}
-use borrow.Author.Tests.{le-ltb, ltb-false, eqb-true, eq-eqb, ne-eqb}
+use borrow.Author.Tests.{le-ltb, ltb-false, eq-eqb}
 use Rattle.refusal.specs.Number.{bufferTooSmall}
 use Rattle.refusal.specs.Cause.{_when_, firstOf}
+use Rattle.refusal.specs.Written.{wrote, kept}
 use Rattle.refusal.proofs.Order.{first-goes, clear-append, clear-cons}
+use Rattle.refusal.proofs.Written.{number-first, kept-first, wrote-enough}
 use Rattle.wire.specs.Number.{bytesOf, Bytes, none, more}
 use Rattle.wire.specs.Mark.{sheetMark}
 use Rattle.wire.proofs.Numbers.{bytes-below}
@@ -23,7 +25,7 @@ use Rattle.turns.proofs.Ranges.{inside-iff, fine-iff}
 use Rattle.sheet.specs.Record.{firstCursor}
 use Rattle.sheet.specs.Read.{mostGroomers, mostSlopes, mostTurns, countsIn, turnCount, countCauses, rows, sheetCauses, turnsOf, tableOf, readCauses, Outcome, outcome, refusedWith, readOf, turnIn}
 use Rattle.sheet.specs.Layout.{fieldBytes, recordOf}
-use Rattle.writer.specs.Write.{mapFor, recordsOf, sheetOf, turnsOfTable, tableTurns, turnsCauses, tableCauses, writeCauses, Written, writeOf}
+use Rattle.writer.specs.Write.{mapFor, recordsOf, sheetOf, turnsOfTable, tableTurns, turnsCauses, tableCauses, writeCauses, writeOf}
 use Rattle.sheet.specs.Accepted.{Records, SheetFor, Accepted}
 use Rattle.sheet.specs.Accepted as accepted
 use Rattle.sheet.proofs.Readings.{sheet-numbered, rows-length}
@@ -168,33 +170,21 @@ reading {s} {counts} {ts} f lent =
 
 -- ---- writing
 
--- a sheet written at the front of lent bytes, and a refusal that leaves them as they are
-abbrev pub wrote : List ℕ → List ℕ → Written
-wrote sheet out = record { refusal = 0; bytes = length sheet; lent = sheet ++ drop (length sheet) out }
-
-abbrev pub kept : ℕ → List ℕ → Written
-kept k out = record { refusal = k; bytes = 0; lent = out }
-
 module _ (counts : Counts) (table out : List ℕ) where
   -- nothing is wrong with a table and the lent bytes are enough: its sheet is written
   pub writing : firstOf (tableCauses counts table) ≡ 0 → length (sheetOf counts (tableTurns table)) ≤ length out → writeOf counts table out ≡ wrote (sheetOf counts (tableTurns table)) out
-  unfolding writeOf writeCauses firstOf
-  writing e l = rw (first-goes (tableCauses counts table) (bufferTooSmall when _ ∷ []) (table-numbered counts table) e, le-ltb (length out) (length (sheetOf counts (tableTurns table))) l)
+  unfolding writeOf writeCauses
+  writing e l = wrote-enough (tableCauses counts table) _ _ out (table-numbered counts table) e l
 
   -- the writer's number is that of the first cause
   pub write-number : writeOf counts table out .refusal ≡ firstOf (writeCauses counts table (length out))
   unfolding writeOf
-  write-number = go (eqb (firstOf (writeCauses counts table (length out))) 0) refl
-    where
-      go : (b : Bool) → eqb (firstOf (writeCauses counts table (length out))) 0 ≡ b
-          → cond b (wrote (sheetOf counts (tableTurns table)) out) (kept (firstOf (writeCauses counts table (length out))) out) .refusal ≡ firstOf (writeCauses counts table (length out))
-      go true q = sym (eqb-true (firstOf (writeCauses counts table (length out))) 0 q)
-      go false q = refl
+  write-number = number-first (writeCauses counts table (length out)) (sheetOf counts (tableTurns table)) out
 
   -- on a refusal nothing is written
   pub write-keeps : (k : ℕ) → (k ≡ 0 → ⊥) → writeOf counts table out .refusal ≡ k → writeOf counts table out ≡ kept k out
   unfolding writeOf
-  write-keeps k z e = let n = sym write-number ∙ e in rw (n, ne-eqb k 0 z)
+  write-keeps k z e = kept-first (writeCauses counts table (length out)) (sheetOf counts (tableTurns table)) out k (sym write-number ∙ e) z
 
   pub write-accepts : writeOf counts table out .refusal ≡ 0 → (firstOf (tableCauses counts table) ≡ 0) × (length (sheetOf counts (tableTurns table)) ≤ length out)
   unfolding writeCauses

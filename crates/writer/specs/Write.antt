@@ -2,10 +2,11 @@
 use Prim.Native.Nat.{ℕ, zero, suc, _+_, _*_, _/_, _%_}
 use mathlib.Core.List.{List, [], _∷_, _++_}
 use mathlib.Core.Bool.{Bool, true, false, not, cond}
-use lib.ListN.{length, drop}
+use lib.ListN.{length}
 use lib.Dec.{ltb, eqb}
 use Rattle.refusal.specs.Number.{bufferTooSmall, partialTurn}
-use Rattle.refusal.specs.Cause.{Cause, _when_, firstOf}
+use Rattle.refusal.specs.Cause.{Cause, _when_}
+use Rattle.refusal.specs.Written.{Written, writtenUnless}
 use Rattle.turns.specs.declared.Turn.{Turn}
 use Rattle.turns.specs.declared.Counts.{Counts}
 use Rattle.turns.specs.Turn.{turnCauses}
@@ -64,12 +65,6 @@ tableCauses counts table =
 unfoldable pub writeCauses : Counts → List ℕ → ℕ → List Cause
 writeCauses counts table places = tableCauses counts table ++ bufferTooSmall when ltb places (length (sheetOf counts (tableTurns table))) ∷ []
 
--- the writer's refusal, 0 if none, the bytes written, 0 on a refusal, and what the lent bytes hold then
-pub record Written : Type 0 where
-  pub refusal : ℕ
-  pub bytes : ℕ
-  pub lent : List ℕ
-
 -- the numbers that the writer is handed, as counts
 abbrev pub countsOf : ℕ → ℕ → Counts
 countsOf groomers slopes = record { groomers = groomers; slopes = slopes }
@@ -80,7 +75,4 @@ written answer lent = record { refusal = answer .refusal; bytes = answer .bytes;
 
 -- on success the sheet, then what was there; on a refusal all as before
 unfoldable pub writeOf : Counts → List ℕ → List ℕ → Written
-writeOf counts table lent =
-    let f = firstOf (writeCauses counts table (length lent)) in
-    let sheet = sheetOf counts (tableTurns table) in
-    cond (eqb f 0) (record { refusal = 0; bytes = length sheet; lent = sheet ++ drop (length sheet) lent }) (record { refusal = f; bytes = 0; lent = lent })
+writeOf counts table lent = writtenUnless (writeCauses counts table (length lent)) (sheetOf counts (tableTurns table)) lent

@@ -1,0 +1,56 @@
+-- What is written into lent bytes, by its cases: shown once, for every list of causes and every text. Assumes nothing.
+use Prim.Native.Nat.{ℕ, _<_, _≤_}
+use mathlib.Core.Path.{_≡_, refl, sym, _∙_}
+use mathlib.Core.Bool.{Bool, true, false, cond}
+use mathlib.Core.List.{List, [], _∷_, _++_}
+use native.Mathlib.Omega.{arith}
+use lib.Dec.{eqb, ltb}
+use lib.ListN.{length}
+use borrow.Author.Tests.{eqb-true, ne-eqb, lt-ltb, le-ltb}
+use Rattle.refusal.specs.Number.{bufferTooSmall}
+use Rattle.refusal.specs.Cause.{Cause, _when_, firstOf}
+use Rattle.refusal.specs.Written.{wrote, kept, writtenUnless}
+use Rattle.refusal.proofs.Order.{numbered, first-stops, first-goes}
+
+module _ (cs : List Cause) (text lent : List ℕ) where
+  -- the number is that of the first cause
+  pub number-first : writtenUnless cs text lent .refusal ≡ firstOf cs
+  unfolding writtenUnless
+  number-first = go (eqb (firstOf cs) 0) refl
+    where
+      go : (b : Bool) → eqb (firstOf cs) 0 ≡ b → cond b (wrote text lent) (kept (firstOf cs) lent) .refusal ≡ firstOf cs
+      go true e = sym (eqb-true (firstOf cs) 0 e)
+      go false e = refl
+
+  -- with a cause the lent bytes stay, with none all of the text is written
+  pub kept-first : (k : ℕ) → firstOf cs ≡ k → (k ≡ 0 → ⊥) → writtenUnless cs text lent ≡ kept k lent
+  unfolding writtenUnless
+  kept-first k e z = rw (e, ne-eqb k 0 z)
+
+  pub wrote-all : firstOf cs ≡ 0 → writtenUnless cs text lent ≡ wrote text lent
+  unfolding writtenUnless
+  wrote-all e = rw e
+
+  -- nothing else of the causes matters
+  pub same-first : (ds : List Cause) → firstOf cs ≡ firstOf ds → writtenUnless cs text lent ≡ writtenUnless ds text lent
+  unfolding writtenUnless
+  same-first ds e = rw e
+
+-- ---- where the last cause is that the lent bytes are fewer than needed
+
+module _ (cs : List Cause) (need : ℕ) (text lent : List ℕ) where
+  -- a cause before it is given
+  pub kept-before : (k : ℕ) → firstOf cs ≡ k → (k ≡ 0 → ⊥) → writtenUnless (cs ++ bufferTooSmall when ltb (length lent) need ∷ []) text lent ≡ kept k lent
+  kept-before k e z = kept-first (cs ++ bufferTooSmall when ltb (length lent) need ∷ []) text lent k (first-stops cs (bufferTooSmall when ltb (length lent) need ∷ []) k e z) z
+
+  -- where none is there: too few lent bytes, and enough
+  module _ (n : numbered cs ≡ true) (z : firstOf cs ≡ 0) where
+    alone : {b : Bool} → ltb (length lent) need ≡ b → firstOf (cs ++ bufferTooSmall when ltb (length lent) need ∷ []) ≡ cond b bufferTooSmall 0
+    unfolding firstOf
+    alone e = first-goes cs (bufferTooSmall when ltb (length lent) need ∷ []) n z ∙ rw e
+
+    pub kept-small : length lent < need → writtenUnless (cs ++ bufferTooSmall when ltb (length lent) need ∷ []) text lent ≡ kept bufferTooSmall lent
+    kept-small h = kept-first (cs ++ bufferTooSmall when ltb (length lent) need ∷ []) text lent bufferTooSmall (alone (lt-ltb (length lent) need h)) (omega arith)
+
+    pub wrote-enough : need ≤ length lent → writtenUnless (cs ++ bufferTooSmall when ltb (length lent) need ∷ []) text lent ≡ wrote text lent
+    wrote-enough h = wrote-all (cs ++ bufferTooSmall when ltb (length lent) need ∷ []) text lent (alone (le-ltb (length lent) need h))
