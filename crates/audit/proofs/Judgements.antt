@@ -56,16 +56,16 @@ pub ruleset choice-cases = (choice-conflict, choice-room, choice-fine)
 
 -- ---- the sums
 
-module _ (tallied worth paid earned : ℕ) where
-  pub wrong-tally : (tallied ≡ paid → ⊥) → not true ≡ (eqb tallied paid && (eqb worth earned && leb tallied worth))
-  wrong-tally h = rw (ne-eqb tallied paid h)
+module _ (tallied worth amounts earned : ℕ) where
+  pub wrong-tally : (tallied ≡ amounts → ⊥) → not true ≡ (eqb tallied amounts && (eqb worth earned && leb tallied worth))
+  wrong-tally h = rw (ne-eqb tallied amounts h)
 
-  module _ (h : tallied ≡ paid) where
-    pub wrong-worth : (worth ≡ earned → ⊥) → not true ≡ (eqb tallied paid && (eqb worth earned && leb tallied worth))
-    wrong-worth k = rw (eq-eqb tallied paid h, ne-eqb worth earned k)
+  module _ (h : tallied ≡ amounts) where
+    pub wrong-worth : (worth ≡ earned → ⊥) → not true ≡ (eqb tallied amounts && (eqb worth earned && leb tallied worth))
+    wrong-worth k = rw (eq-eqb tallied amounts h, ne-eqb worth earned k)
 
-    pub wrong-below : worth ≡ earned → not (ltb worth tallied) ≡ (eqb tallied paid && (eqb worth earned && leb tallied worth))
-    wrong-below k = rw (eq-eqb tallied paid h, eq-eqb worth earned k) (turned (ltb worth tallied) refl)
+    pub wrong-below : worth ≡ earned → not (ltb worth tallied) ≡ (eqb tallied amounts && (eqb worth earned && leb tallied worth))
+    wrong-below k = rw (eq-eqb tallied amounts h, eq-eqb worth earned k) (turned (ltb worth tallied) refl)
       where
         turned : (b : Bool) → ltb worth tallied ≡ b → not b ≡ leb tallied worth
         turned true e = sym (lt-leb tallied worth (ltb-true worth tallied e))
@@ -73,7 +73,7 @@ module _ (tallied worth paid earned : ℕ) where
 
 pub ruleset wrong-cases = (wrong-tally, wrong-worth, wrong-below)
 
-module _ (n : ℕ) (table : List ℕ) (S : List Bool) (xs : List Step) (b : List ℕ) {tallied worth paid earned : ℕ} (r : Bool) (u : tallied ≡ valueAt b 7 4) (v : worth ≡ valueAt b 11 4) (p : paid ≡ tally xs) (q : earned ≡ chosenBelow (turnsIn n table) S n) (e : not r ≡ (eqb tallied paid && (eqb worth earned && leb tallied worth))) where
+module _ (n : ℕ) (table : List ℕ) (S : List Bool) (xs : List Step) (b : List ℕ) {tallied worth amounts earned : ℕ} (r : Bool) (u : tallied ≡ valueAt b 7 4) (v : worth ≡ valueAt b 11 4) (p : amounts ≡ tally xs) (q : earned ≡ chosenBelow (turnsIn n table) S n) (e : not r ≡ (eqb tallied amounts && (eqb worth earned && leb tallied worth))) where
   sums-is : sums (turnsIn n table) S xs (boardTally b) (boardWorth b) ≡ not r
   unfolding sums
   sums-is = sym (e ∙ rw (p, q, ← chosen-below n table S, u, v))
