@@ -9,7 +9,7 @@ use lib.Dec.{eqb, leb, ltb}
 use lib.Seq.{take-all, length-take-le}
 use Rattle.board.proofs.Openings.{formed-length}
 use borrow.Author.Tests.{eq-eqb, ne-eqb, lt-ltb, le-ltb, le-leb, lt-leb, ltb-true, ltb-false}
-use Rattle.refusal.specs.Number.{malformedBoard, conflict, notMaximal, wrongSums}
+use Rattle.refusal.specs.Number.{malformedBoard, chosenConflict, notMaximal, wrongSums}
 use Rattle.refusal.specs.Cause.{Cause, _when_, firstOf}
 use Rattle.refusal.proofs.Order.{numbered, first-stops, first-goes}
 use Rattle.wire.specs.Number.{valueAt}
@@ -39,7 +39,7 @@ module _ (n : ℕ) (table : List ℕ) (S : List Bool) where
   chosen-below = refl
 
   module _ {i : Bool} (e : i ≡ independentBelow (turnsIn n table) S n) where
-    pub choice-conflict : i ≡ false → conflict ≡ firstOf (choiceCauses (turnsIn n table) S)
+    pub choice-conflict : i ≡ false → chosenConflict ≡ firstOf (choiceCauses (turnsIn n table) S)
     unfolding choiceCauses firstOf
     choice-conflict f = rw (independent-below, ← e, f)
 

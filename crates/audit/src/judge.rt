@@ -35,7 +35,7 @@ fn choice_fault(table: &[u16], n: usize, map: &[u8]) -> u8
             refusal::NOT_MAXIMAL
         }
     } else {
-        refusal::CONFLICT
+        refusal::CHOSEN_CONFLICT
     }
 }
 

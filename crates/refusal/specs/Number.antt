@@ -41,8 +41,8 @@ bufferTooSmall = 11
 abbrev pub malformedBoard : ℕ
 malformedBoard = 12
 
-abbrev pub conflict : ℕ
-conflict = 13
+abbrev pub chosenConflict : ℕ
+chosenConflict = 13
 
 abbrev pub notMaximal : ℕ
 notMaximal = 14
