@@ -1,10 +1,6 @@
 -- The refusals' numbers; what each is given for stands in src/lib.rt. Assumes nothing.
 use Prim.Native.Nat.{ℕ}
 
--- no refusal
-abbrev pub accepted : ℕ
-accepted = 0
-
 abbrev pub truncated : ℕ
 truncated = 1
 
