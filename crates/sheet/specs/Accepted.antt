@@ -64,8 +64,8 @@ abbrev pub Outside : ℕ → ℕ → Type 0
 Outside x top = (x ≡ 0) ⊎ (top < x)
 
 -- in what record i has: its map, the turn that it resolves to
-abbrev pub mapOf : List ℕ → ℕ → ℕ
-mapOf s i = mapAt s (cursorOf s i)
+abbrev pub recordMap : List ℕ → ℕ → ℕ
+recordMap s i = mapAt s (cursorOf s i)
 
 abbrev pub turnOf : List ℕ → ℕ → Turn
 turnOf s i = turnAt s (cursorOf s i)
@@ -82,8 +82,8 @@ pub data SheetCause (s : List ℕ) : ℕ → ℕ → Type 0 where
   slope-count : Outside (countsIn s .slopes) mostSlopes → SheetCause s badCounts 3
   turn-count : mostTurns < turnCount s → SheetCause s tooManyTurns 4
   no-map : (i : ℕ) → i < turnCount s → length s ≤ cursorOf s i .at → SheetCause s truncated (placeOf i 0)
-  wrong-map : (i : ℕ) → i < turnCount s → (fullMap < mapOf s i) ⊎ ((i ≡ 0) × (mapOf s i ≢ fullMap)) → SheetCause s badMap (placeOf i 1)
-  short-fields : (i : ℕ) → i < turnCount s → length s < cursorOf s i .at + 1 + widthOf (mapOf s i) → SheetCause s truncated (placeOf i 2)
+  wrong-map : (i : ℕ) → i < turnCount s → (fullMap < recordMap s i) ⊎ ((i ≡ 0) × (recordMap s i ≢ fullMap)) → SheetCause s badMap (placeOf i 1)
+  short-fields : (i : ℕ) → i < turnCount s → length s < cursorOf s i .at + 1 + widthOf (recordMap s i) → SheetCause s truncated (placeOf i 2)
   slope : (i : ℕ) → i < turnCount s → Outside (turnOf s i .slope) (countsIn s .slopes) → SheetCause s badSlope (placeOf i 3)
   groomer : (i : ℕ) → i < turnCount s → Outside (turnOf s i .groomer) (countsIn s .groomers) → SheetCause s badGroomer (placeOf i 4)
   time : (i : ℕ) → i < turnCount s → (turnOf s i .length ≡ 0) ⊎ (shiftMinutes < turnOf s i .start + turnOf s i .length) → SheetCause s badTime (placeOf i 5)
