@@ -6,6 +6,7 @@ use mathlib.Core.List.{List, [], _∷_, _++_}
 use mathlib.Core.Bool.{Bool, true, false}
 use lib.ListN.{length, take}
 use Rattle.refusal.specs.Number.{truncated, badMagic, badCounts, tooManyTurns, badMap, badSlope, badGroomer, badTime, badWorth, trailingBytes, bufferTooSmall}
+pub use Rattle.refusal.specs.Cause.{FirstAmong}
 use Rattle.wire.specs.Mark.{sheetMark}
 use Rattle.turns.specs.declared.Turn.{Turn}
 use Rattle.turns.specs.declared.Counts.{Counts}
@@ -99,12 +100,7 @@ pub data LentCause (s : List ℕ) (need places : ℕ) : ℕ → ℕ → Type 0 w
 abbrev pub ReadCause : List ℕ → ℕ → ℕ → ℕ → Type 0
 ReadCause s places = LentCause s (5 * turnCount s) places
 
--- of causes at their places, the first has number k
-pub record FirstAmong (Causes : ℕ → ℕ → Type 0) (k : ℕ) : Type 0 where
-  pub place : ℕ
-  pub cause : Causes k place
-  pub none-before : (j r : ℕ) → r < place → Causes j r → ⊥
-
+-- the first cause to refuse a sheet, or what the reader is given, has number k
 abbrev pub FirstCause : List ℕ → ℕ → Type 0
 FirstCause s k = FirstAmong (SheetCause s) k
 
