@@ -9,7 +9,7 @@ use lib.Dec.{eqb, leb, ltb}
 use lib.Seq.{take-all, length-take-le}
 use Rattle.board.proofs.Openings.{formed-length}
 use borrow.Author.Tests.{eq-eqb, ne-eqb, lt-ltb, le-ltb, le-leb, lt-leb, ltb-true, ltb-false}
-use Rattle.refusal.specs.Number.{malformedBoard, conflict, notMaximal, wrongSums}
+use Rattle.refusal.specs.Number.{malformedBoard, chosenConflict, notMaximal, wrongSums}
 use Rattle.refusal.specs.Cause.{Cause, _when_, firstOf}
 use Rattle.refusal.proofs.Order.{numbered, first-stops, first-goes}
 use Rattle.wire.specs.Number.{valueAt}
@@ -39,7 +39,7 @@ module _ (n : ℕ) (table : List ℕ) (S : List Bool) where
   chosen-below = refl
 
   module _ {i : Bool} (e : i ≡ independentBelow (turnsIn n table) S n) where
-    pub choice-conflict : i ≡ false → conflict ≡ firstOf (choiceCauses (turnsIn n table) S)
+    pub choice-conflict : i ≡ false → chosenConflict ≡ firstOf (choiceCauses (turnsIn n table) S)
     unfolding choiceCauses firstOf
     choice-conflict f = rw (independent-below, ← e, f)
 
@@ -56,16 +56,16 @@ pub ruleset choice-cases = (choice-conflict, choice-room, choice-fine)
 
 -- ---- the sums
 
-module _ (tallied worth paid earned : ℕ) where
-  pub wrong-tally : (tallied ≡ paid → ⊥) → not true ≡ (eqb tallied paid && (eqb worth earned && leb tallied worth))
-  wrong-tally h = rw (ne-eqb tallied paid h)
+module _ (tallied worth amounts earned : ℕ) where
+  pub wrong-tally : (tallied ≡ amounts → ⊥) → not true ≡ (eqb tallied amounts && (eqb worth earned && leb tallied worth))
+  wrong-tally h = rw (ne-eqb tallied amounts h)
 
-  module _ (h : tallied ≡ paid) where
-    pub wrong-worth : (worth ≡ earned → ⊥) → not true ≡ (eqb tallied paid && (eqb worth earned && leb tallied worth))
-    wrong-worth k = rw (eq-eqb tallied paid h, ne-eqb worth earned k)
+  module _ (h : tallied ≡ amounts) where
+    pub wrong-worth : (worth ≡ earned → ⊥) → not true ≡ (eqb tallied amounts && (eqb worth earned && leb tallied worth))
+    wrong-worth k = rw (eq-eqb tallied amounts h, ne-eqb worth earned k)
 
-    pub wrong-below : worth ≡ earned → not (ltb worth tallied) ≡ (eqb tallied paid && (eqb worth earned && leb tallied worth))
-    wrong-below k = rw (eq-eqb tallied paid h, eq-eqb worth earned k) (turned (ltb worth tallied) refl)
+    pub wrong-below : worth ≡ earned → not (ltb worth tallied) ≡ (eqb tallied amounts && (eqb worth earned && leb tallied worth))
+    wrong-below k = rw (eq-eqb tallied amounts h, eq-eqb worth earned k) (turned (ltb worth tallied) refl)
       where
         turned : (b : Bool) → ltb worth tallied ≡ b → not b ≡ leb tallied worth
         turned true e = sym (lt-leb tallied worth (ltb-true worth tallied e))
@@ -73,7 +73,7 @@ module _ (tallied worth paid earned : ℕ) where
 
 pub ruleset wrong-cases = (wrong-tally, wrong-worth, wrong-below)
 
-module _ (n : ℕ) (table : List ℕ) (S : List Bool) (xs : List Step) (b : List ℕ) {tallied worth paid earned : ℕ} (r : Bool) (u : tallied ≡ valueAt b 7 4) (v : worth ≡ valueAt b 11 4) (p : paid ≡ tally xs) (q : earned ≡ chosenBelow (turnsIn n table) S n) (e : not r ≡ (eqb tallied paid && (eqb worth earned && leb tallied worth))) where
+module _ (n : ℕ) (table : List ℕ) (S : List Bool) (xs : List Step) (b : List ℕ) {tallied worth amounts earned : ℕ} (r : Bool) (u : tallied ≡ valueAt b 7 4) (v : worth ≡ valueAt b 11 4) (p : amounts ≡ tally xs) (q : earned ≡ chosenBelow (turnsIn n table) S n) (e : not r ≡ (eqb tallied amounts && (eqb worth earned && leb tallied worth))) where
   sums-is : sums (turnsIn n table) S xs (boardTally b) (boardWorth b) ≡ not r
   unfolding sums
   sums-is = sym (e ∙ rw (p, q, ← chosen-below n table S, u, v))

@@ -5,7 +5,7 @@ use mathlib.Core.List.{List, [], _∷_, _++_}
 use mathlib.Core.Bool.{Bool, true, false, not, cond, _||_}
 use mathlib.Core.Logic.{_≢_, _⊎_}
 use lib.Dec.{eqb}
-use Rattle.refusal.specs.Number.{malformedBoard, conflict, notMaximal, wrongStep, turnLeftOpen, wrongSums}
+use Rattle.refusal.specs.Number.{malformedBoard, chosenConflict, notMaximal, wrongStep, turnLeftOpen, wrongSums}
 use Rattle.refusal.specs.Cause.{Cause, _when_, firstOf}
 use Rattle.model.specs.Turns.{Turns, turnsIn, Conflict}
 use Rattle.model.specs.Steps.{Step, isOpen, initial, afterStep, afterSteps, tally}
@@ -23,7 +23,7 @@ sheetTurns s = turnsIn (turnCount s) (tableOf s)
 
 -- what may be wrong with a board for these turns, in the order of refusal: its choice, its steps, its sums, and before all that its form
 unfoldable pub choiceCauses : Turns → List Bool → List Cause
-choiceCauses T S = conflict when not (independent T S) ∷ notMaximal when not (maximal T S) ∷ []
+choiceCauses T S = chosenConflict when not (independent T S) ∷ notMaximal when not (maximal T S) ∷ []
 
 -- the residuals after the last step are asked only where every step is right, since a wrong step is given before
 unfoldable pub stepCauses : Turns → List Step → List Cause
@@ -67,7 +67,7 @@ pub record BoardKeeps (s b : List ℕ) : Type 0 where
 -- a cause to refuse b as a board for these turns is there: its number, and its place in the order
 pub data BoardCause (T : Turns) (b : List ℕ) : ℕ → ℕ → Type 0 where
   form : (WellFormed b (T .count) (boardSteps b) → ⊥) → BoardCause T b malformedBoard 0
-  two-conflict : (x y : ℕ) → x < T .count → y < T .count → x ≢ y → has (boardChoice b) x ≡ true → has (boardChoice b) y ≡ true → Conflict T x y → BoardCause T b conflict 1
+  two-conflict : (x y : ℕ) → x < T .count → y < T .count → x ≢ y → has (boardChoice b) x ≡ true → has (boardChoice b) y ≡ true → Conflict T x y → BoardCause T b chosenConflict 1
   room-left : (t : ℕ) → t < T .count → has (boardChoice b) t ≡ false → ((u : ℕ) → u < T .count → has (boardChoice b) u ≡ true → Conflict T u t → ⊥) → BoardCause T b notMaximal 2
   step-wrong : (Each (afterStep T) (Right T) (initial T) (writtenSteps b) → ⊥) → BoardCause T b wrongStep 3
   turn-open : (t : ℕ) → t < T .count → isOpen (afterSteps T (initial T) (writtenSteps b)) t ≡ true → BoardCause T b turnLeftOpen 4

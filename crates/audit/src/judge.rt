@@ -35,15 +35,15 @@ fn choice_fault(table: &[u16], n: usize, map: &[u8]) -> u8
             refusal::NOT_MAXIMAL
         }
     } else {
-        refusal::CONFLICT
+        refusal::CHOSEN_CONFLICT
     }
 }
 
 // Whether the sums that a board names are not those of its steps and its choice.
-fn are_wrong(tally: u32, worth: u32, paid: u32, earned: u32) -> bool
-    ensures { λ r. ⌜ not r ≡ (eqb tally paid && (eqb worth earned && leb tally worth)) ⌝ }
+fn are_wrong(tally: u32, worth: u32, amounts: u32, earned: u32) -> bool
+    ensures { λ r. ⌜ not r ≡ (eqb tally amounts && (eqb worth earned && leb tally worth)) ⌝ }
 {
-    if tally != paid {
+    if tally != amounts {
         return true;
     }
     if worth != earned {
@@ -72,9 +72,9 @@ fn sums_fault(b: &[u8], table: &[u16], n: usize, map: &[u8], steps: &[u8], m: us
 {
     let tally = wire::quad_at(b, 7);
     let worth = wire::quad_at(b, 11);
-    let paid = tally_of(steps, m);
+    let amounts = tally_of(steps, m);
     let earned = choices::chosen_worth(table, n, map);
-    if are_wrong(tally, worth, paid, earned) {
+    if are_wrong(tally, worth, amounts, earned) {
         refusal::WRONG_SUMS
     } else {
         0

@@ -11,8 +11,7 @@ use lib.Bits.{bitOr}
 use lib.ListN.{length, getD}
 use lib.Count as count
 use Rattle.model.specs.Lists.{sum, below, tab}
-use Rattle.model.proofs.Sums.{tab-length}
-use Rattle.model.proofs.Residuals.{tab-at}
+use Rattle.model.proofs.Sums.{tab-length, tab-at}
 use Rattle.board.specs.Choice.{bitOf, withBit, onesOf, lowAmong}
 
 -- f at every number below n

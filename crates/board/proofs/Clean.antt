@@ -14,8 +14,7 @@ use Rattle.wire.proofs.Numbers.{byte-below}
 use Rattle.model.specs.Lists.{tab, sum, below}
 use Rattle.model.specs.Choice.{has}
 use Rattle.model.proofs.Bools.{every-at, every-of}
-use Rattle.model.proofs.Sums.{tab-length}
-use Rattle.model.proofs.Residuals.{tab-at}
+use Rattle.model.proofs.Sums.{tab-length, tab-at}
 use Rattle.board.specs.Choice.{bitOf, mapBytes, chosenIn, choiceIn, withBit, withTurn, clearPast, byteOf, mapOf, Clean}
 use Rattle.board.proofs.Bytes as byte
 

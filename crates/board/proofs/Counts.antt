@@ -1,34 +1,21 @@
 -- The ones in a choice map are as many as the turns that it chooses. Assumes nothing.
-use Prim.Native.Nat.{ℕ, zero, suc, _+_, _-_, _*_, _/_, _%_, _<_, _≤_}
-use mathlib.Core.Path.{_≡_, refl, sym, _∙_, ap}
-use mathlib.Core.Bool.{Bool, true, false, not, cond}
+use Prim.Native.Nat.{ℕ, suc, _+_, _-_, _*_, _/_, _%_, _<_}
+use mathlib.Core.Path.{_≡_, refl, _∙_, ap}
+use mathlib.Core.Bool.{Bool, true, not, cond}
 use mathlib.Core.List.{List, [], _∷_}
 use native.Mathlib.Omega.{arith}
-use lib.ListN.{length, getD}
+use lib.ListN.{length}
 use borrow.Author.Tests.{not-true}
-use Rattle.model.specs.Lists.{every, sum, below}
+use Rattle.model.specs.Lists.{sum, below}
 use Rattle.model.specs.Choice.{has, chosen}
 use Rattle.model.proofs.Bools.{every-at}
+use Rattle.model.proofs.Sums.{sum-same, sum-split, sum-zero, all-below}
 use Rattle.board.specs.Choice.{bitOf, mapBytes, chosenIn, choiceIn, onesOf, onesIn, clearPast}
 use Rattle.board.proofs.Clean.{choice-has}
 
 -- 1 for a bit that stands
 abbrev one : Bool → ℕ
 one b = cond b 1 0
-
--- ---- sums over the numbers below a bound
-
-sum-same : (f g : ℕ → ℕ) (n : ℕ) → ((t : ℕ) → t < n → f t ≡ g t) → sum f (below n) ≡ sum g (below n)
-sum-same f g zero h = refl
-sum-same f g (suc n) h = omega (arith, h n (omega arith), sum-same f g n (λ t l. h t (omega arith)))
-
-sum-split : (f : ℕ → ℕ) (k m : ℕ) → sum f (below (k + m)) ≡ sum f (below k) + sum (λ u. f (k + u)) (below m)
-sum-split f k zero = let e : k + 0 ≡ k = omega arith in rw e (omega arith)
-sum-split f k (suc m) = let e : k + suc m ≡ suc (k + m) = omega arith in rw e (omega (arith, sum-split f k m))
-
-sum-none : (f : ℕ → ℕ) (m : ℕ) → ((t : ℕ) → t < m → f t ≡ 0) → sum f (below m) ≡ 0
-sum-none f zero h = refl
-sum-none f (suc m) h = omega (arith, h m (omega arith), sum-none f m (λ t l. h t (omega arith)))
 
 -- ---- byte by byte
 
@@ -55,6 +42,6 @@ pub ones-turns : (n : ℕ) (map : List ℕ) → length map ≡ mapBytes n → cl
 unfolding chosen clearPast
 ones-turns n map s c =
     let k : 8 * length map ≡ n + (8 * mapBytes n - n) = omega arith in
-    let past : sum (λ u. one (chosenIn map (n + u))) (below (8 * mapBytes n - n)) ≡ 0 = sum-none _ _ (λ u h. ap one (not-true (chosenIn map (n + u)) (every-at (λ k. not (chosenIn map (n + k))) (8 * mapBytes n - n) c u h))) in
+    let past : sum (λ u. one (chosenIn map (n + u))) (below (8 * mapBytes n - n)) ≡ 0 = sum-zero _ (all-below (8 * mapBytes n - n) (λ u h. ap one (not-true (chosenIn map (n + u)) (every-at (λ k. not (chosenIn map (n + k))) (8 * mapBytes n - n) c u h)))) in
     let inside : sum (λ t. one (has (choiceIn n map) t)) (below n) ≡ sum (λ t. one (chosenIn map t)) (below n) = sum-same _ _ n (λ t h. ap one (choice-has n map t h)) in
     ones-bits map ∙ rw k (omega (arith, past, inside, sum-split (λ t. one (chosenIn map t)) n (8 * mapBytes n - n)))

@@ -6,4 +6,5 @@ pub mod StepBytes
 pub mod Fronts
 pub mod Written
 pub mod Next
+pub mod NextChosen
 pub mod Counts

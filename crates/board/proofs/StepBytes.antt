@@ -11,8 +11,7 @@ use Rattle.wire.proofs.Numbers.{value-front}
 use Rattle.wire.proofs.Puts.{puts-append}
 use Rattle.model.specs.Lists.{tab}
 use Rattle.model.specs.Steps.{Step, tally}
-use Rattle.model.proofs.Sums.{tab-length}
-use Rattle.model.proofs.Residuals.{tab-at}
+use Rattle.model.proofs.Sums.{tab-length, tab-at, tab-same}
 use Rattle.board.specs.Board.{stepAt, stepsIn, stepBytes}
 
 -- steps whose numbers fit two bytes
@@ -40,11 +39,6 @@ bytesAt-drop : (d : ℕ) (l : List ℕ) (at k : ℕ) → bytesAt (drop d l) at k
 bytesAt-drop d l at zero = refl
 bytesAt-drop d l at (suc k) = let e : d + at + 1 ≡ d + (at + 1) = omega arith in ap₂ _∷_ (getD-drop d l at 0) (rw e (bytesAt-drop d l (at + 1) k))
 
-tab-same : {A : Type 0} (n : ℕ) (f g : ℕ → A) → ((i : ℕ) → f i ≡ g i) → tab n f ≡ tab n g
-unfolding tab
-tab-same zero f g h = refl
-tab-same (suc n) f g h = ap₂ _∷_ (h zero) (tab-same n (λ k. f (suc k)) (λ k. g (suc k)) (λ i. h (suc i)))
-
 -- a step of what is left behind the first
 step-behind : (l : List ℕ) (i : ℕ) → stepAt l (suc i) ≡ stepAt (drop 4 l) i
 step-behind l i =
@@ -61,7 +55,7 @@ steps-read (more {x = x} {xs = xs} h k r) l rest e =
     let t : valueAt l 0 2 ≡ x .turn = value-front 2 (x .turn) l 0 (bytesOf 2 (x .amount) ++ (stepBytes xs ++ rest)) h e in
     let m : valueAt l 2 2 ≡ x .amount = value-front 2 (x .amount) l 2 (stepBytes xs ++ rest) k (ap (drop 2) e) in
     let head : stepAt l 0 ≡ x = λ j. record { turn = t j; amount = m j } in
-    let tail : tab (length xs) (λ i. stepAt l (suc i)) ≡ xs = tab-same (length xs) (λ i. stepAt l (suc i)) (stepAt (drop 4 l)) (step-behind l) ∙ steps-read r (drop 4 l) rest (ap (drop 4) e) in
+    let tail : tab (length xs) (λ i. stepAt l (suc i)) ≡ xs = tab-same (length xs) (λ i. stepAt l (suc i)) (stepAt (drop 4 l)) (λ i h. step-behind l i) ∙ steps-read r (drop 4 l) rest (ap (drop 4) e) in
     ap₂ _∷_ head tail
 
 pub steps-length : (m : ℕ) (l : List ℕ) → length (stepsIn m l) ≡ m

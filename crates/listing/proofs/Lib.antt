@@ -1,6 +1,5 @@
 pub mod Pieces
 pub mod LinePieces
-pub mod NextChosen
 pub mod NoteCases
 pub mod PartCases
 pub mod Rounds

@@ -1,20 +1,19 @@
 -- The parts of the listing by their pieces, each premise in the form in which the code's calls and tests leave it. Assumes nothing.
-use Prim.Native.Nat.{ℕ, zero, suc, _+_, _-_, _*_, _<_, _≤_}
+use Prim.Native.Nat.{ℕ, zero, suc, _+_, _-_, _<_, _≤_}
 use mathlib.Core.Path.{_≡_, refl, sym, _∙_, ap}
 use mathlib.Core.Bool.{Bool, true, false, cond, _&&_}
 use mathlib.Core.List.{List, [], _∷_, _++_, append-nil, append-assoc}
 use native.Mathlib.Omega.{arith}
-use native.Mathlib.Decide.{ℕ-discrete, decLt}
+use native.Mathlib.Decide.{decLt}
 use lib.Dec.{eqb}
-use lib.ListN.{length, getD, drop, replicate, length-replicate}
+use lib.ListN.{length, getD, replicate, length-replicate, List·getD-eq-default}
 use borrow.Author.Tests.{eqb-true}
 use Rattle.wire.specs.Number.{puts}
 use Rattle.text.specs.Place.{lastPlace}
 use Rattle.model.specs.Lists.{tab}
 use Rattle.model.specs.Turns.{Turns, turnsIn}
 use Rattle.model.specs.Choice.{has}
-use Rattle.model.proofs.Residuals.{tab-at}
-use Rattle.model.proofs.Sums.{tab-length}
+use Rattle.model.proofs.Sums.{tab-length, tab-at, tab-same}
 use Rattle.board.specs.Choice.{choiceIn}
 use Rattle.board.proofs.Clean.{zeros-at, zeros-clean}
 use Rattle.rows.proofs.Turns.{count-is}
@@ -23,7 +22,7 @@ use Rattle.listing.specs.Text.{lineOf, linesOf, headingOf, groomerText, 
 use Rattle.listing.specs.Notes.{noteOf, notesOf, noteText, notesText, NotesBelow, Marked}
 use Rattle.listing.specs.Ready.{Ready}
 use Rattle.listing.proofs.Pieces.{first-fits, second-fits, both-place, both-put, piece-fits, rest-place, rest-put}
-use Rattle.listing.proofs.NoteCases.{false-not-true, tab-same, getD-past}
+use Rattle.listing.proofs.NoteCases.{false-not-true}
 
 plus-none : (k : ℕ) → k ≡ 0 + k
 plus-none k = omega arith
@@ -127,18 +126,15 @@ module _ (T : Turns) (S : List Bool) (h : ℕ) where
   unfolding notesOf noteOf
   notes-zero = zeros shiftMinutes
 
-  getD-zero : (l : List ℕ) (k : ℕ) → length l ≤ k → getD l k 0 ≡ 0
-  getD-zero [] k e = refl
-  getD-zero (x ∷ l) zero e = absurd (omega arith)
-  getD-zero (x ∷ l) (suc k) e = getD-zero l k (omega arith)
-
   pub notes-within : (n : ℕ) → NotesBelow n (notesOf T S h n)
   unfolding NotesBelow notesOf
   notes-within n minute = go (decLt minute shiftMinutes)
     where
       go : Dec (minute < shiftMinutes) → getD (tab shiftMinutes (noteOf T S h n)) minute 0 ≤ n
       go (yes l) = rw (tab-at shiftMinutes (noteOf T S h n) 0 minute l) (note-most n minute)
-      go (no l) = rw (getD-zero (tab shiftMinutes (noteOf T S h n)) minute (omega (arith, tab-length shiftMinutes (noteOf T S h n)))) (omega arith)
+      go (no l) =
+          let past : length (tab shiftMinutes (noteOf T S h n)) ≤ minute = omega (arith, tab-length shiftMinutes (noteOf T S h n)) in
+          rw (List·getD-eq-default (tab shiftMinutes (noteOf T S h n)) 0 past) (omega arith)
 
 -- ---- a groomer's part
 

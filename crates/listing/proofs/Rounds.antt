@@ -8,14 +8,14 @@ use native.Mathlib.Omega.{arith}
 use native.Mathlib.Decide.{ℕ-discrete}
 use lib.Dec.{eqb}
 use lib.ListN.{length, length-append}
-use borrow.Author.Tests.{eq-eqb, ne-eqb, eqb-true}
+use borrow.Author.Tests.{eq-eqb, eqb-true}
 use Rattle.model.specs.Lists.{sum, below, All, none, more}
 use Rattle.model.specs.Turns.{Turns, PositiveLengths, same-groomer}
 use Rattle.model.specs.Choice.{has, chosen}
 use Rattle.model.specs.Rules.{Independent}
 use Rattle.model.specs.Feasible.{Distinct, empty, other}
 use Rattle.model.proofs.Bools.{fails, and-1, and-2, and-of}
-use Rattle.model.proofs.Sums.{sum-add, sum-zero, all-of, all-map, all-below}
+use Rattle.model.proofs.Sums.{sum-add, sum-zero, sum-same, sum-swap, sum-hit, all-of, all-map}
 use Rattle.board.specs.Choice.{onesIn, mapOf}
 use Rattle.board.proofs.Clean.{map-choice, map-clean}
 use Rattle.board.proofs.Counts.{ones-turns}
@@ -191,27 +191,6 @@ round-is T S h apart starts =
 pub round-once : {T : Turns} {us : List ℕ} → Rising T us → Distinct us
 round-once round.none = empty
 round-once {T} (round.more {u} a h) = other {t = u} (all-map (λ v l e. omega (arith, l, ap (T .start) e)) a) (round-once h)
-
--- ---- sums over the numbers below a bound
-
-sum-same : (f g : ℕ → ℕ) (n : ℕ) → ((t : ℕ) → t < n → f t ≡ g t) → sum f (below n) ≡ sum g (below n)
-sum-same f g zero h = refl
-sum-same f g (suc n) h = omega (arith, h n (omega arith), sum-same f g n (λ t l. h t (omega arith)))
-
-pub sum-swap : (f : ℕ → ℕ → ℕ) (ks us : List ℕ) → sum (λ k. sum (f k) us) ks ≡ sum (λ u. sum (λ k. f k u) ks) us
-sum-swap f [] us = sym (sum-zero (λ u. 0) (all-of (λ u. refl) us))
-sum-swap f (k ∷ ks) us = omega (arith, sum-swap f ks us, sum-add (f k) (λ u. sum (λ j. f j u) ks) us)
-
--- of the numbers from 1 to n just one is j
-pub sum-hit : (n j : ℕ) → 1 ≤ j → j ≤ n → sum (λ k. cond (eqb j (k + 1)) 1 0) (below n) ≡ 1
-sum-hit zero j a b = absurd (omega arith)
-sum-hit (suc n) j a b = go (ℕ-discrete j (n + 1)) (λ l. sum-hit n j a l)
-  where
-    go : Dec (j ≡ n + 1) → (j ≤ n → sum (λ k. cond (eqb j (k + 1)) 1 0) (below n) ≡ 1) → cond (eqb j (n + 1)) 1 0 + sum (λ k. cond (eqb j (k + 1)) 1 0) (below n) ≡ 1
-    go (yes e) ih =
-        let rest : sum (λ k. cond (eqb j (k + 1)) 1 0) (below n) ≡ 0 = sum-zero (λ k. cond (eqb j (k + 1)) 1 0) (all-below n (λ k l. rw (ne-eqb j (k + 1) (omega arith)))) in
-        rw (eq-eqb j (n + 1) e, rest)
-    go (no e) ih = rw (ne-eqb j (n + 1) e, ih (omega arith))
 
 -- ---- how many turns the rounds have
 

@@ -1,6 +1,6 @@
 -- No more turns are chosen than there are slopes: each slope is groomed by at most one of them. Assumes nothing.
-use Prim.Native.Nat.{ℕ, zero, suc, _+_, _<_, _≤_}
-use mathlib.Core.Path.{_≡_, refl, sym, _∙_}
+use Prim.Native.Nat.{ℕ, _+_, _<_, _≤_}
+use mathlib.Core.Path.{_≡_, sym, _∙_}
 use mathlib.Core.Bool.{Bool, true, false, cond, _&&_}
 use mathlib.Core.List.{List}
 use native.Mathlib.Omega.{arith}
@@ -11,27 +11,8 @@ use Rattle.model.specs.Lists.{sum, below}
 use Rattle.model.specs.Turns.{Turns, same-slope}
 use Rattle.model.specs.Choice.{has, chosen}
 use Rattle.model.specs.Rules.{Independent}
-use Rattle.model.proofs.Bools.{fails, and-1, and-2}
-use Rattle.model.proofs.Sums.{sum-mono, sum-zero, all-of, all-below}
-use Rattle.listing.proofs.Rounds.{sum-swap, sum-hit}
-
--- ---- counting the numbers below n that pass a test
-
-sum-ones : (n : ℕ) → sum (λ k. 1) (below n) ≡ n
-sum-ones zero = refl
-sum-ones (suc n) = omega (arith, sum-ones n)
-
--- a test that no two of them pass
-at-most-one : (p : ℕ → Bool) (n : ℕ) → ((u v : ℕ) → u < n → v < n → p u ≡ true → p v ≡ true → u ≡ v) → sum (λ u. cond (p u) 1 0) (below n) ≤ 1
-at-most-one p zero alone = omega arith
-at-most-one p (suc n) alone = go (p n) refl (at-most-one p n (λ u v l m. alone u v (omega arith) (omega arith)))
-  where
-    go : (b : Bool) → p n ≡ b → sum (λ u. cond (p u) 1 0) (below n) ≤ 1 → cond b 1 0 + sum (λ u. cond (p u) 1 0) (below n) ≤ 1
-    go true e ih =
-        let rest : sum (λ u. cond (p u) 1 0) (below n) ≡ 0 =
-        sum-zero (λ u. cond (p u) 1 0) (all-below n (λ u l. rw (fails (p u) (λ q. omega (arith, alone u n (omega arith) (omega arith) q e))))) in
-        omega (arith, rest)
-    go false e ih = omega (arith, ih)
+use Rattle.model.proofs.Bools.{and-1, and-2}
+use Rattle.model.proofs.Sums.{sum-mono, sum-swap, sum-ones, sum-hit, at-most-one, all-of, all-below}
 
 -- ---- the chosen turns, slope by slope: the slopes are numbered from 1
 

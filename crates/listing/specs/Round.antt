@@ -5,13 +5,10 @@ use mathlib.Core.Logic.{_↔_}
 use mathlib.Core.Bool.{Bool, true, cond, _&&_}
 use mathlib.Core.List.{List, [], _∷_, _++_}
 use lib.Dec.{eqb}
+pub use Rattle.turns.specs.Turn.{shiftMinutes}
 use Rattle.model.specs.Lists.{All}
 use Rattle.model.specs.Turns.{Turns}
 use Rattle.model.specs.Choice.{has}
-
--- every turn starts before this minute
-abbrev pub shiftMinutes : ℕ
-shiftMinutes = 960
 
 -- turn u is chosen, is groomer h's, and starts in this minute
 unfoldable pub startsAt : Turns → List Bool → ℕ → ℕ → ℕ → Bool

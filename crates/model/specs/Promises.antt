@@ -10,7 +10,7 @@ pub record Promises (T : Turns) (S : List Bool) (tallied worth : ℕ) : Type 0 w
   -- no feasible set is worth more than twice the tally
   pub twice : (R : List ℕ) → Feasible T R → worthOf T R ≤ 2 * tallied
   -- the tally is at most the worth
-  pub paid : tallied ≤ worth
+  pub covered : tallied ≤ worth
   -- no two chosen turns conflict
   pub apart : Independent T S
   -- every other turn conflicts with a chosen one

@@ -17,21 +17,16 @@ turnsBy n cols =
       worth = λ t. 0;
     }
 
--- turn t has in the columns what it has in the table; its end leaves room for a gap
+-- turn t has in the columns what it has in the table
 pub record SameRow (n : ℕ) (table cols : List ℕ) (t : ℕ) : Type 0 where
   pub slope : turnsBy n cols .slope t ≡ turnsIn n table .slope t
   pub groomer : turnsBy n cols .groomer t ≡ turnsIn n table .groomer t
   pub start : turnsBy n cols .start t ≡ turnsIn n table .start t
   pub end : turnsBy n cols .end t ≡ turnsIn n table .end t
-  pub small : turnsBy n cols .end t < 131072
 
 -- the columns have what the table has of the first i of n turns
 unfoldable pub SameBelow : ℕ → List ℕ → List ℕ → ℕ → Type 0
 SameBelow n table cols i = (t : ℕ) → t < i → SameRow n table cols t
-
--- each end leaves room for a gap
-unfoldable pub EndsSmall : ℕ → List ℕ → Type 0
-EndsSmall n cols = (t : ℕ) → t < n → turnsBy n cols .end t < 131072
 
 -- four columns of n numbers, with what the table has of n turns
 pub record Columns (n : ℕ) (table cols : List ℕ) : Type 0 where

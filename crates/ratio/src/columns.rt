@@ -4,7 +4,7 @@ ghost use mathlib.Core.Path.{_≡_};
 ghost use Prim.Native.Nat.{_+_, _*_, _≤_, _<_};
 ghost use lib.ListN.{length};
 ghost use Rattle.model.specs.Turns.{conflict};
-ghost use Rattle.ratio.specs.Columns.{turnsBy, SameBelow, EndsSmall, Columns};
+ghost use Rattle.ratio.specs.Columns.{turnsBy, SameBelow, Columns};
 use rows::end_of;
 use rows::groomer_of;
 use rows::share_minute;
@@ -40,7 +40,7 @@ pub fn put_columns(cols: &mut [u32], table: &[u16], n: usize)
 
 // Whether two different turns conflict.
 pub fn columns_conflict(cols: &[u32], n: usize, x: usize, y: usize) -> bool
-    requires { ⌜ (x < n) × (y < n) × (4 * n ≤ length (now cols)) × EndsSmall n (now cols) ⌝ }
+    requires { ⌜ (x < n) × (y < n) × (4 * n ≤ length (now cols)) ⌝ }
     ensures { λ r. ⌜ r ≡ conflict (turnsBy n (now (cols .entry))) x y ⌝ }
 {
     let one_slope = cols[x] == cols[y];

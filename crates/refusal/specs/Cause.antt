@@ -25,8 +25,12 @@ pub data There : List Cause → ℕ → ℕ → Type 0 where
   here : {c : Cause} {cs : List Cause} → c .there ≡ true → There (c ∷ cs) (c .number) zero
   later : {c : Cause} {cs : List Cause} {k r : ℕ} → There cs k r → There (c ∷ cs) k (suc r)
 
--- the first cause that is there has number k
-pub record First (cs : List Cause) (k : ℕ) : Type 0 where
+-- of causes at their places, the first has number k
+pub record FirstAmong (Causes : ℕ → ℕ → Type 0) (k : ℕ) : Type 0 where
   pub place : ℕ
-  pub cause : There cs k place
-  pub none-before : (j r : ℕ) → r < place → There cs j r → ⊥
+  pub cause : Causes k place
+  pub none-before : (j r : ℕ) → r < place → Causes j r → ⊥
+
+-- the first cause that is there has number k
+abbrev pub First : List Cause → ℕ → Type 0
+First cs k = FirstAmong (There cs) k

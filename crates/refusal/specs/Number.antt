@@ -1,10 +1,6 @@
 -- The refusals' numbers; what each is given for stands in src/lib.rt. Assumes nothing.
 use Prim.Native.Nat.{ℕ}
 
--- no refusal
-abbrev pub accepted : ℕ
-accepted = 0
-
 abbrev pub truncated : ℕ
 truncated = 1
 
@@ -41,8 +37,8 @@ bufferTooSmall = 11
 abbrev pub malformedBoard : ℕ
 malformedBoard = 12
 
-abbrev pub conflict : ℕ
-conflict = 13
+abbrev pub chosenConflict : ℕ
+chosenConflict = 13
 
 abbrev pub notMaximal : ℕ
 notMaximal = 14

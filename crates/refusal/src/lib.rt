@@ -25,7 +25,7 @@ pub const BUFFER_TOO_SMALL: u8 = 11; // narrow: the lent buffer is too short
 
 pub const MALFORMED_BOARD: u8 = 12; // misfit: the bytes do not have the form of a board or, in the check, not as many turns as the sheet
 
-pub const CONFLICT: u8 = 13; // clash: two chosen turns conflict
+pub const CHOSEN_CONFLICT: u8 = 13; // clash: two chosen turns conflict
 
 pub const NOT_MAXIMAL: u8 = 14; // idle: an unchosen turn conflicts with no chosen one
 

@@ -18,7 +18,7 @@ use Rattle.turns.proofs.Ranges.{outside-iff, past-iff}
 use Rattle.sheet.specs.Record.{widthOf, endAt, firstCursor, recordCauses}
 use Rattle.sheet.specs.Read.{headerBytes, mostGroomers, mostSlopes, mostTurns, countsIn, turnCount, countCauses, headerCauses, recordsCauses, sheetCauses}
 use Rattle.sheet.proofs.Maps.{bad-map-iff}
-use Rattle.sheet.specs.Accepted.{cursorOf, mapOf, turnOf, placeOf, SheetCause, short-header, other-mark, groomer-count, slope-count, turn-count, no-map, wrong-map, short-fields, slope, groomer, time, worth, bytes-behind, FirstCause, FirstAmong}
+use Rattle.sheet.specs.Accepted.{cursorOf, recordMap, turnOf, placeOf, SheetCause, short-header, other-mark, groomer-count, slope-count, turn-count, no-map, wrong-map, short-fields, slope, groomer, time, worth, bytes-behind, FirstCause, FirstAmong}
 
 other-mark-iff : (s : List ℕ) → (not (opensWith sheetMark s) ≡ true) ↔ (take 3 s ≢ sheetMark)
 other-mark-iff s = (λ e m. true≢false (sym (sheet-mark-iff s .1 m) ∙ not-true (opensWith sheetMark s) e), λ n. go (opensWith sheetMark s) refl n)
@@ -43,8 +43,8 @@ module _ (s : List ℕ) where
     record-cause : (k r : ℕ) → causeAt (recordCauses s (countsIn s) (cursorOf s i)) r .there ≡ true → k ≡ causeAt (recordCauses s (countsIn s) (cursorOf s i)) r .number → SheetCause s k (placeOf i r)
     unfolding recordCauses turnCauses endAt
     record-cause k zero e n = rw n (no-map i h (leb-true (length s) (cursorOf s i .at) e))
-    record-cause k (suc zero) e n = rw n (wrong-map i h (bad-map-iff s i (mapOf s i) .0 e))
-    record-cause k (suc (suc zero)) e n = rw n (short-fields i h (ltb-true (length s) (cursorOf s i .at + 1 + widthOf (mapOf s i)) e))
+    record-cause k (suc zero) e n = rw n (wrong-map i h (bad-map-iff s i (recordMap s i) .0 e))
+    record-cause k (suc (suc zero)) e n = rw n (short-fields i h (ltb-true (length s) (cursorOf s i .at + 1 + widthOf (recordMap s i)) e))
     record-cause k (suc (suc (suc zero))) e n = rw n (slope i h (outside-iff (turnOf s i .slope) (countsIn s .slopes) .0 e))
     record-cause k (suc (suc (suc (suc zero)))) e n = rw n (groomer i h (outside-iff (turnOf s i .groomer) (countsIn s .groomers) .0 e))
     record-cause k (suc (suc (suc (suc (suc zero))))) e n = rw n (time i h (past-iff (turnOf s i .start) (turnOf s i .length) .0 e))
@@ -116,8 +116,8 @@ module _ (s : List ℕ) where
   cause-there (slope-count h) = header-there 3 (outside-iff (countsIn s .slopes) mostSlopes .1 h)
   cause-there (turn-count h) = header-there 4 (lt-ltb mostTurns (turnCount s) h)
   cause-there (no-map i l h) = record-there i l 0 (le-leb (length s) (cursorOf s i .at) h)
-  cause-there (wrong-map i l h) = record-there i l 1 (bad-map-iff s i (mapOf s i) .1 h)
-  cause-there (short-fields i l h) = record-there i l 2 (lt-ltb (length s) (cursorOf s i .at + 1 + widthOf (mapOf s i)) h)
+  cause-there (wrong-map i l h) = record-there i l 1 (bad-map-iff s i (recordMap s i) .1 h)
+  cause-there (short-fields i l h) = record-there i l 2 (lt-ltb (length s) (cursorOf s i .at + 1 + widthOf (recordMap s i)) h)
   cause-there (slope i l h) = record-there i l 3 (outside-iff (turnOf s i .slope) (countsIn s .slopes) .1 h)
   cause-there (groomer i l h) = record-there i l 4 (outside-iff (turnOf s i .groomer) (countsIn s .groomers) .1 h)
   cause-there (time i l h) = record-there i l 5 (past-iff (turnOf s i .start) (turnOf s i .length) .1 h)

@@ -6,6 +6,7 @@ use mathlib.Core.List.{List, [], _∷_, _++_}
 use mathlib.Core.Bool.{Bool, true, false}
 use lib.ListN.{length, take}
 use Rattle.refusal.specs.Number.{truncated, badMagic, badCounts, tooManyTurns, badMap, badSlope, badGroomer, badTime, badWorth, trailingBytes, bufferTooSmall}
+pub use Rattle.refusal.specs.Cause.{FirstAmong}
 use Rattle.wire.specs.Mark.{sheetMark}
 use Rattle.turns.specs.declared.Turn.{Turn}
 use Rattle.turns.specs.declared.Counts.{Counts}
@@ -64,8 +65,8 @@ abbrev pub Outside : ℕ → ℕ → Type 0
 Outside x top = (x ≡ 0) ⊎ (top < x)
 
 -- in what record i has: its map, the turn that it resolves to
-abbrev pub mapOf : List ℕ → ℕ → ℕ
-mapOf s i = mapAt s (cursorOf s i)
+abbrev pub recordMap : List ℕ → ℕ → ℕ
+recordMap s i = mapAt s (cursorOf s i)
 
 abbrev pub turnOf : List ℕ → ℕ → Turn
 turnOf s i = turnAt s (cursorOf s i)
@@ -82,8 +83,8 @@ pub data SheetCause (s : List ℕ) : ℕ → ℕ → Type 0 where
   slope-count : Outside (countsIn s .slopes) mostSlopes → SheetCause s badCounts 3
   turn-count : mostTurns < turnCount s → SheetCause s tooManyTurns 4
   no-map : (i : ℕ) → i < turnCount s → length s ≤ cursorOf s i .at → SheetCause s truncated (placeOf i 0)
-  wrong-map : (i : ℕ) → i < turnCount s → (fullMap < mapOf s i) ⊎ ((i ≡ 0) × (mapOf s i ≢ fullMap)) → SheetCause s badMap (placeOf i 1)
-  short-fields : (i : ℕ) → i < turnCount s → length s < cursorOf s i .at + 1 + widthOf (mapOf s i) → SheetCause s truncated (placeOf i 2)
+  wrong-map : (i : ℕ) → i < turnCount s → (fullMap < recordMap s i) ⊎ ((i ≡ 0) × (recordMap s i ≢ fullMap)) → SheetCause s badMap (placeOf i 1)
+  short-fields : (i : ℕ) → i < turnCount s → length s < cursorOf s i .at + 1 + widthOf (recordMap s i) → SheetCause s truncated (placeOf i 2)
   slope : (i : ℕ) → i < turnCount s → Outside (turnOf s i .slope) (countsIn s .slopes) → SheetCause s badSlope (placeOf i 3)
   groomer : (i : ℕ) → i < turnCount s → Outside (turnOf s i .groomer) (countsIn s .groomers) → SheetCause s badGroomer (placeOf i 4)
   time : (i : ℕ) → i < turnCount s → (turnOf s i .length ≡ 0) ⊎ (shiftMinutes < turnOf s i .start + turnOf s i .length) → SheetCause s badTime (placeOf i 5)
@@ -99,12 +100,7 @@ pub data LentCause (s : List ℕ) (need places : ℕ) : ℕ → ℕ → Type 0 w
 abbrev pub ReadCause : List ℕ → ℕ → ℕ → ℕ → Type 0
 ReadCause s places = LentCause s (5 * turnCount s) places
 
--- of causes at their places, the first has number k
-pub record FirstAmong (Causes : ℕ → ℕ → Type 0) (k : ℕ) : Type 0 where
-  pub place : ℕ
-  pub cause : Causes k place
-  pub none-before : (j r : ℕ) → r < place → Causes j r → ⊥
-
+-- the first cause to refuse a sheet, or what the reader is given, has number k
 abbrev pub FirstCause : List ℕ → ℕ → Type 0
 FirstCause s k = FirstAmong (SheetCause s) k
 

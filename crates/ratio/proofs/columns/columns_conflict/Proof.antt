@@ -1,4 +1,4 @@
-use Rattle.ratio.proofs.ByColumn.{column-cases}
+use Rattle.ratio.proofs.ByColumn.{conflict-by}
 use borrow.Author.Needs.{needs}
 use Rattle.ratio.proofs.columns.columns_conflict.Statement.{statement}
 use Rattle.ratio.proofs.columns.columns_conflict.Tie as tie
@@ -82,10 +82,10 @@ shared-slice-read-share-minute-4 : tie.Need-shared-slice-read-share-minute-4
 shared-slice-read-share-minute-4 c = search needs
 
 share-minute-requires : tie.Need-share-minute-requires
-share-minute-requires c κs = search (needs, column-cases)
+share-minute-requires c κs = search needs
 
 returns : tie.Need-returns
-returns c = search (needs, column-cases)
+returns c = search (needs, conflict-by)
 
 pub columns-conflict-spec : {M : Type 1} → statement M
 columns-conflict-spec =
