@@ -36,11 +36,12 @@ use Rattle.planner.proofs.Answers.{plan-ample, plan-rows, plan-bounded, plan-tu
 use Rattle.listing.specs.Round.{StartsApart}
 use Rattle.listing.specs.Text.{listingOf}
 use Rattle.listing.specs.Ready.{Ready}
+use Rattle.listing.specs.Limits.{listingBytes}
 use Rattle.listing.specs.declared.ListAnswer.{ListAnswer}
 use Rattle.listing.specs.List.{listingFor, sheetListing, listCauses, listOf}
 use Rattle.listing.specs.Answer.{listed, refusedWith, textAnswer}
 use Rattle.listing.proofs.Rounds.{apart-starts}
-use Rattle.listing.proofs.Sizes.{listing-short}
+use Rattle.listing.proofs.Bytes.{listing-bytes}
 
 -- ---- a text into lent bytes
 
@@ -53,7 +54,37 @@ module _ (text lent : List ℕ) {bytes : ℕ} (e : bytes ≡ length text) where
   unfolding textAnswer firstOf
   text-done h g = rw (e, g, puts-front text lent (omega arith)) (sym (wrote-enough [] _ text lent refl refl (omega arith)))
 
-pub ruleset text-cases = (text-small, text-done)
+-- a text at the front of a place of its own, which is then lent up to its end
+module _ (text space : List ℕ) (room : length text ≤ length space) {bytes : ℕ} {b : List ℕ} (e : bytes ≡ length text) (f : b ≡ puts space 0 text) where
+  front-holds : bytes ≤ length b
+  front-holds = rw f (omega (arith, puts-length text space 0))
+
+  front-is : take bytes b ≡ text
+  front-is = rw (f, puts-front text space room) (take-at text (drop (length text) space) bytes (sym e))
+
+  front-part : bytes ≡ length (take bytes b)
+  front-part = rw front-is e
+
+pub counted : {k : ℕ} → k ≤ listingBytes → k ≤ lastPlace
+counted h = omega arith
+
+module _ (text space : List ℕ) (short : length text ≤ listingBytes) (room : listingBytes ≤ length space) {bytes : ℕ} {b : List ℕ} (e : bytes ≡ length text) (f : b ≡ puts space 0 text) where
+  held : length text ≤ length space
+  held = omega arith
+
+  pub copy-holds : bytes ≤ length b
+  copy-holds = front-holds text space held e f
+
+  pub copy-part : bytes ≡ length (take bytes b)
+  copy-part = front-part text space held e f
+
+  pub copy-fits : (lent : List ℕ) → bytes ≤ length lent → 0 + length (take bytes b) ≤ length lent
+  copy-fits lent h = omega (arith, copy-part)
+
+  pub copy-done : (lent : List ℕ) {lent′ : List ℕ} → bytes ≤ length lent → lent′ ≡ puts lent 0 (take bytes b) → listed (record { refusal = 0; bytes = bytes }) lent′ ≡ textAnswer text lent
+  copy-done lent h g = text-done text lent e h (rw (front-is text space held e f) at g)
+
+pub ruleset text-cases = (text-small, counted, copy-holds, copy-part, copy-fits, copy-done)
 
 -- ---- the planner's board
 
@@ -115,13 +146,8 @@ module _ (n : ℕ) (table b : List ℕ) (e : b ≡ boardFor (turnsIn n table)) w
           let c : worth ≡ chosen (T .count) (choice T) (T .worth) = w ∙ rw e (board-back T at-most worths .worth) in
           rw (choice-is, a, c)
 
-      pub listing-fits : groomers ≤ 16 → length (listingOf groomers T (choiceIn n (take (place - 15) (drop 15 b))) worth tallied) ≤ lastPlace
-      unfolding listingFor
-      listing-fits g =
-          let sums = sums-limits T worths at-most (steps-right T) (choice T) in
-          let short : length (listingOf groomers T (choice T) (chosen (T .count) (choice T) (T .worth)) (tally (steps T))) ≤ lastPlace =
-          listing-short n table bounded (choice T) (apart-starts T (choice T) (planned-keeps T lengths .apart) lengths) groomers _ _ g (sums .1) (sums .0) in
-          rw listing-is short
+      pub listing-fits : length (listingFor groomers T) ≤ listingBytes → length (listingOf groomers T (choiceIn n (take (place - 15) (drop 15 b))) worth tallied) ≤ listingBytes
+      listing-fits g = rw listing-is g
 
       pub listing-answer : {x : Written} (lent : List ℕ) → x ≡ textAnswer (listingOf groomers T (choiceIn n (take (place - 15) (drop 15 b))) worth tallied) lent → x ≡ textAnswer (listingFor groomers T) lent
       listing-answer lent g = rw listing-is at g
@@ -134,17 +160,17 @@ pub space-fits : (n : ℕ) → n ≤ 400 → boardLength n n ≤ 1665
 space-fits n h = omega arith
 
 module _ (n : ℕ) (table space : List ℕ) (few : n ≤ 400) (room : 1665 ≤ length space) {bytes : ℕ} {b : List ℕ} (e : bytes ≡ length (boardFor (turnsIn n table))) (f : b ≡ puts space 0 (boardFor (turnsIn n table))) where
-  held : length (boardFor (turnsIn n table)) ≤ length space
-  held = omega (arith, board-most (turnsIn n table), count-is n table, space-fits n few)
+  board-held : length (boardFor (turnsIn n table)) ≤ length space
+  board-held = omega (arith, board-most (turnsIn n table), count-is n table, space-fits n few)
 
   pub space-holds : bytes ≤ length b
-  space-holds = rw f (omega (arith, puts-length (boardFor (turnsIn n table)) space 0, held, e))
+  space-holds = front-holds (boardFor (turnsIn n table)) space board-held e f
 
   pub space-front : take bytes b ≡ boardFor (turnsIn n table)
-  space-front = rw (f, puts-front (boardFor (turnsIn n table)) space held) (take-at (boardFor (turnsIn n table)) (drop (length (boardFor (turnsIn n table))) space) bytes (sym e))
+  space-front = front-is (boardFor (turnsIn n table)) space board-held e f
 
   pub space-part : bytes ≡ length (take bytes b)
-  space-part = rw space-front e
+  space-part = front-part (boardFor (turnsIn n table)) space board-held e f
 
 pub ruleset space-cases = (space-fits, space-holds, space-front, space-part)
 
@@ -166,8 +192,8 @@ module _ (s lent : List ℕ) {r : ReadAnswer} (e : r ≡ answerOf s) where
     pub list-few : r .turns ≤ 400
     list-few = whole-few s e f
 
-    pub list-groomers : r .groomers ≤ 16
-    list-groomers = omega (arith, ap (λ (a : ReadAnswer). a .groomers) (whole-answer s e f), few-groomers s (whole-accepted s e f))
+    groomers-are : r .groomers ≡ countsIn s .groomers
+    groomers-are = ap (λ (a : ReadAnswer). a .groomers) (whole-answer s e f)
 
     module _ {t table : List ℕ} (w : r .refusal ≡ 0 → t ≡ tableOf s ++ drop (length (tableOf s)) table) (z : table ≡ replicate 2000 0) where
       pub list-rows : 5 * r .turns ≤ length t
@@ -176,10 +202,14 @@ module _ (s lent : List ℕ) {r : ReadAnswer} (e : r ≡ answerOf s) where
       pub list-bounded : RowsBounded (r .turns) t
       list-bounded = plan-bounded s [] e f w z
 
-      pub list-done : {x : Written} → x ≡ textAnswer (listingFor (r .groomers) (turnsIn (r .turns) t)) lent → x ≡ listOf s lent
+      listing-same : listingFor (r .groomers) (turnsIn (r .turns) t) ≡ sheetListing s
       unfolding sheetListing
-      list-done g =
-          let groomers : r .groomers ≡ countsIn s .groomers = ap (λ (a : ReadAnswer). a .groomers) (whole-answer s e f) in
-          (rw (plan-turns s [] e f w z, groomers) at g) ∙ list-text s lent (whole-accepted s e f)
+      listing-same = rw (plan-turns s [] e f w z, groomers-are)
 
-pub ruleset list-cases = (plan-ample, list-fault, list-few, list-groomers, list-rows, list-bounded, list-done)
+      pub list-short : length (listingFor (r .groomers) (turnsIn (r .turns) t)) ≤ listingBytes
+      list-short = rw listing-same (listing-bytes s (whole-accepted s e f))
+
+      pub list-done : {x : Written} → x ≡ textAnswer (listingFor (r .groomers) (turnsIn (r .turns) t)) lent → x ≡ listOf s lent
+      list-done g = (rw listing-same at g) ∙ list-text s lent (whole-accepted s e f)
+
+pub ruleset list-cases = (plan-ample, list-fault, list-few, list-rows, list-bounded, list-short, list-done)

@@ -7,18 +7,21 @@ ghost use mathlib.Core.Path.{_≡_};
 ghost use Prim.Native.Nat.{_+_, _*_, _≤_, _<_};
 ghost use lib.ListN.{length, replicate};
 ghost use Rattle.wire.specs.Number.{puts};
-ghost use Rattle.text.specs.Place.{lastPlace};
 ghost use Rattle.model.specs.Turns.{turnsIn, RowsBounded};
 ghost use Rattle.board.specs.Choice.{choiceIn};
 ghost use Rattle.planner.specs.Plan.{boardFor};
 ghost use Rattle.listing.specs.Text.{listingOf, refusedLine};
 ghost use Rattle.listing.specs.Ready.{Ready};
+ghost use Rattle.listing.specs.Limits.{listingBytes};
 ghost use Rattle.listing.specs.List.{listingFor, listOf};
 ghost use Rattle.listing.specs.Answer.{listed, refusedWith, textAnswer};
 use lines::put_refused;
 use parts::put_listing;
 
-pub const BOARD_HEADER: usize = 15;
+const BOARD_HEADER: usize = 15;
+
+// Places for every listing.
+const LISTING_BYTES: usize = 3806;
 
 // What the listing returns: a refusal, 0 if none, and the bytes written, 0 on a refusal.
 #[repr(C)]
@@ -36,8 +39,8 @@ fn refused(k: u8) -> ListAnswer
     }
 }
 
-// The listing of a choice map. It is put twice: with no place, to learn its length, and then, if
-// there is room for all of it, into the lent bytes.
+// The listing of a choice map. It is put into a place of its own, and copied if there is room for
+// all of it.
 fn list_map(
     table: &[u16],
     n: usize,
@@ -47,15 +50,15 @@ fn list_map(
     tally: u32,
     out: &mut [u8],
 ) -> ListAnswer
-    requires { ⌜ Ready n (now table) (now map) × (length (listingOf groomers (turnsIn n (now table)) (choiceIn n (now map)) worth tally) ≤ lastPlace) ⌝ }
+    requires { ⌜ Ready n (now table) (now map) × (length (listingOf groomers (turnsIn n (now table)) (choiceIn n (now map)) worth tally) ≤ listingBytes) ⌝ }
     ensures { λ r. ⌜ listed r (now (out .exit)) ≡ textAnswer (listingOf groomers (turnsIn n (now (table .entry))) (choiceIn n (now (map .entry))) worth tally) (now (out .entry)) ⌝ }
 {
-    let mut nowhere = [0u8; 1];
-    let bytes = put_listing(&mut nowhere, table, n, map, groomers, worth, tally);
+    let mut text = [0u8; LISTING_BYTES];
+    let bytes = put_listing(&mut text, table, n, map, groomers, worth, tally);
     if out.len() < bytes {
         return refused(refusal::BUFFER_TOO_SMALL);
     }
-    put_listing(&mut *out, table, n, map, groomers, worth, tally);
+    wire::put_bytes(&mut *out, 0, &text[..bytes]);
     ListAnswer {
         refusal: 0,
         bytes: bytes as u32,
@@ -64,7 +67,7 @@ fn list_map(
 
 // The listing of the planner's board.
 fn list_board(table: &[u16], n: u16, groomers: u16, b: &[u8], out: &mut [u8]) -> ListAnswer
-    requires { ⌜ (n ≤ 400) × (groomers ≤ 16) × (5 * n ≤ length (now table)) × RowsBounded n (now table) × (now b ≡ boardFor (turnsIn n (now table))) ⌝ }
+    requires { ⌜ (n ≤ 400) × (5 * n ≤ length (now table)) × RowsBounded n (now table) × (length (listingFor groomers (turnsIn n (now table))) ≤ listingBytes) × (now b ≡ boardFor (turnsIn n (now table))) ⌝ }
     ensures { λ r. ⌜ listed r (now (out .exit)) ≡ textAnswer (listingFor groomers (turnsIn n (now (table .entry)))) (now (out .entry)) ⌝ }
 {
     let place = board::steps_place(n);
@@ -83,7 +86,7 @@ fn list_board(table: &[u16], n: u16, groomers: u16, b: &[u8], out: &mut [u8]) ->
 
 // The listing of the first n turns of a table: their board is planned into a place of its own.
 fn list_table(table: &[u16], n: u16, groomers: u16, out: &mut [u8]) -> ListAnswer
-    requires { ⌜ (n ≤ 400) × (groomers ≤ 16) × (5 * n ≤ length (now table)) × RowsBounded n (now table) ⌝ }
+    requires { ⌜ (n ≤ 400) × (5 * n ≤ length (now table)) × RowsBounded n (now table) × (length (listingFor groomers (turnsIn n (now table))) ≤ listingBytes) ⌝ }
     ensures { λ r. ⌜ listed r (now (out .exit)) ≡ textAnswer (listingFor groomers (turnsIn n (now (table .entry)))) (now (out .entry)) ⌝ }
 {
     let mut space = [0u8; 1665];

@@ -7,7 +7,7 @@ slice-aggregate-put-listing : tie.Need-slice-aggregate-put-listing
 slice-aggregate-put-listing c = search needs
 
 put-listing-requires : tie.Need-put-listing-requires
-put-listing-requires c κs = search needs
+put-listing-requires c κs = search (needs, text-cases)
 
 refused-requires : tie.Need-refused-requires
 refused-requires c κs = search needs
@@ -15,11 +15,17 @@ refused-requires c κs = search needs
 returns : tie.Need-returns
 returns c = search (needs, text-cases)
 
-put-listing-requires-2 : tie.Need-put-listing-requires-2
-put-listing-requires-2 c κs = search needs
+array-share-prefix-text : tie.Need-array-share-prefix-text
+array-share-prefix-text c = search needs
 
-cast-t16 : tie.Need-cast-t16
-cast-t16 c = search needs
+slice-aggregate-put-bytes : tie.Need-slice-aggregate-put-bytes
+slice-aggregate-put-bytes c = search (needs, text-cases)
+
+put-bytes-requires : tie.Need-put-bytes-requires
+put-bytes-requires c κs = search (needs, text-cases)
+
+cast-t19 : tie.Need-cast-t19
+cast-t19 c = search needs
 
 same-length : tie.Need-same-length
 same-length c = search needs
@@ -35,7 +41,9 @@ list-map-spec =
     put-listing-requires
     refused-requires
     returns
-    put-listing-requires-2
-    cast-t16
+    array-share-prefix-text
+    slice-aggregate-put-bytes
+    put-bytes-requires
+    cast-t19
     same-length
     returns-2)
