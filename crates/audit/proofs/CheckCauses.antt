@@ -1,22 +1,21 @@
 -- The check gives exactly the number of the first cause in its order. Assumes nothing.
-use Prim.Native.Nat.{ℕ, zero, suc, _+_, _*_, _<_, _≤_}
-use mathlib.Core.Path.{_≡_, refl, sym, _∙_, ap}
+use Prim.Native.Nat.{ℕ, _+_, _<_, _≤_}
+use mathlib.Core.Path.{_≡_, refl, sym, _∙_}
 use mathlib.Core.Logic.{_↔_, _⊎_, inl, inr, _≢_}
-use mathlib.Core.List.{List, [], _∷_, _++_}
-use mathlib.Core.Bool.{Bool, true, false, not, cond, _&&_, _||_}
+use mathlib.Core.List.{List}
+use mathlib.Core.Bool.{Bool, true, false, not, _&&_, _||_}
 use native.Mathlib.Omega.{arith}
 use native.Mathlib.Decide.{ℕ-discrete, decLt}
-use lib.Dec.{eqb, leb}
-use lib.ListN.{length}
-use borrow.Author.Tests.{eqb-true, eqb-false, eq-eqb, ne-eqb, not-true, not-false, lt-leb, leb-false}
-use Rattle.refusal.specs.Cause.{Cause, firstOf, There, here, later}
+use lib.Dec.{eqb}
+use borrow.Author.Tests.{eqb-false, ne-eqb, not-true, not-false}
+use Rattle.refusal.specs.Cause.{firstOf, There, here, later}
 use Rattle.refusal.proofs.Order.{first-stops, first-goes, none-given}
-use Rattle.model.specs.Turns.{Turns, turnsIn, conflict, Conflict, PositiveLengths}
-use Rattle.model.specs.Steps.{isOpen, initial, afterStep, afterSteps, tally}
+use Rattle.model.specs.Turns.{Turns, conflict, PositiveLengths}
+use Rattle.model.specs.Steps.{isOpen, initial, afterSteps, tally}
 use Rattle.model.specs.Lists.{every}
 use Rattle.model.specs.Choice.{has, chosen, fits}
-use Rattle.model.specs.Rules.{independent, maximal, allRight, noneOpen, sums, Right, Each}
-use Rattle.model.proofs.Bools.{and-1, and-2, and-of, or-cases, not-both, fails, every-not}
+use Rattle.model.specs.Rules.{independent, maximal, noneOpen, sums}
+use Rattle.model.proofs.Bools.{and-1, and-2, or-cases, or-false-1, or-false-2, not-both, every-not}
 use Rattle.model.proofs.Minutes.{conflict-is}
 use Rattle.model.proofs.Filled.{fits-apart}
 use Rattle.model.proofs.Readings.{independent-is, maximal-is, allRight-is, noneOpen-is, sums-is}
@@ -29,14 +28,6 @@ use Rattle.board.specs.Board.{boardTurns, boardSteps, boardTally, boardWorth, b
 use Rattle.board.specs.Open.{malformed, WellFormed}
 use Rattle.audit.specs.Check.{sheetTurns, choiceCauses, stepCauses, ruleCauses, sumCauses, boardCauses, checkCauses, checkOf, BoardCause, form, two-conflict, room-left, step-wrong, turn-open, sums-differ, CheckCause, of-sheet, of-board, FirstCheckCause}
 use Rattle.audit.proofs.Passing.{check-number, sheet-lengths, formed-board, board-formed}
-
-neither-0 : (x y : Bool) → (x || y) ≡ false → x ≡ false
-neither-0 true y e = e
-neither-0 false y e = refl
-
-neither-1 : (x y : Bool) → (x || y) ≡ false → y ≡ false
-neither-1 true y e = absurd (not-both refl e)
-neither-1 false y e = e
 
 module _ (T : Turns) (lengths : PositiveLengths T) (b : List ℕ) where
   -- ---- each test that fails, in words
@@ -81,8 +72,8 @@ module _ (T : Turns) (lengths : PositiveLengths T) (b : List ℕ) where
 
       outer : (t : ℕ) × (t < T .count) × ((has S t || not (fits T S t)) ≡ false) → BoardCause T b 14 2
       outer (t, l, f) =
-          let g : fits T S t ≡ true = not-false (fits T S t) (neither-1 (has S t) (not (fits T S t)) f) in
-          room-left t l (neither-0 (has S t) (not (fits T S t)) f) (λ u m h c. not-both (conflict-is T lengths u t m l .1 c) (fits-apart T S t g u m h))
+          let g : fits T S t ≡ true = not-false (fits T S t) (or-false-2 (has S t) (not (fits T S t)) f) in
+          room-left t l (or-false-1 (has S t) (not (fits T S t)) f) (λ u m h c. not-both (conflict-is T lengths u t m l .1 c) (fits-apart T S t g u m h))
 
   open-cause : not (noneOpen T (afterSteps T (initial T) (writtenSteps b))) ≡ true → BoardCause T b 16 4
   unfolding noneOpen

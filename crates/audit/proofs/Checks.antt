@@ -1,28 +1,27 @@
 -- The check's answer by its cases, each premise in the form in which the code's calls and tests leave it. Assumes nothing.
-use Prim.Native.Nat.{ℕ, _+_, _*_, _<_, _≤_}
-use mathlib.Core.Path.{_≡_, refl, sym, _∙_, ap}
-use mathlib.Core.List.{List, [], _∷_, _++_}
-use mathlib.Core.Bool.{Bool, true, false, not, cond, _||_}
+use Prim.Native.Nat.{ℕ, _+_, _*_, _≤_}
+use mathlib.Core.Path.{_≡_, refl, sym, _∙_}
+use mathlib.Core.List.{List, _∷_, _++_}
+use mathlib.Core.Bool.{Bool, true, false}
 use native.Mathlib.Omega.{arith}
 use lib.ListN.{length, take, drop}
-use lib.Dec.{eqb}
-use borrow.Author.Tests.{eq-eqb, ne-eqb}
+use borrow.Author.Tests.{ne-eqb}
 use Rattle.refusal.specs.Number.{malformedBoard}
 use Rattle.refusal.specs.Cause.{Cause, _when_, firstOf}
 use Rattle.refusal.proofs.Order.{first-stops, first-goes}
 use Rattle.wire.specs.Number.{valueAt}
-use Rattle.turns.specs.Turn.{InRange}
 use Rattle.model.specs.Turns.{Turns, turnsIn, RowsBounded}
+use Rattle.model.proofs.Bools.{or-false-1}
 use Rattle.sheet.specs.declared.reader.ReadAnswer.{ReadAnswer}
-use Rattle.sheet.specs.Read.{turnCount, tableOf, sheetCauses, answerOf}
+use Rattle.sheet.specs.Read.{tableOf, sheetCauses, answerOf}
 use Rattle.sheet.proofs.Readings.{sheet-numbered}
 use Rattle.sheet.proofs.Unrefused.{rows-bounded}
 use Rattle.sheet.proofs.Whole.{whole-refusal, whole-accepted, whole-turns, whole-table, whole-rows}
-use Rattle.board.specs.Board.{boardHeader, boardTurns, boardTally, boardWorth}
+use Rattle.board.specs.Board.{boardHeader, boardTally, boardWorth}
 use Rattle.board.specs.Open.{malformed}
 use Rattle.board.proofs.Openings.{formed-header}
 use Rattle.audit.specs.declared.judge.CheckAnswer.{CheckAnswer}
-use Rattle.audit.specs.Check.{sheetTurns, ruleCauses, sumCauses, boardCauses, checkCauses, checked, checkOf}
+use Rattle.audit.specs.Check.{sheetTurns, boardCauses, checkCauses, checked, checkOf}
 
 -- ---- a refusal, and a pass
 
@@ -44,10 +43,6 @@ module _ (s b : List ℕ) where
   by-board e = first-goes (sheetCauses s) (boardCauses (sheetTurns s) b) (sheet-numbered s) e
 
 -- a board that gives no cause opens
-or-first : (x y : Bool) → (x || y) ≡ false → x ≡ false
-or-first true y e = e
-or-first false y e = refl
-
 head-none : (x : Bool) (cs : List Cause) → firstOf (malformedBoard when x ∷ cs) ≡ 0 → x ≡ false
 unfolding firstOf
 head-none true cs e = absurd (omega arith)
@@ -55,7 +50,7 @@ head-none false cs e = refl
 
 pub passed-header : (T : Turns) (b : List ℕ) {f : ℕ} → f ≡ firstOf (boardCauses T b) → f ≡ 0 → boardHeader ≤ length b
 unfolding boardCauses
-passed-header T b e z = formed-header b (or-first (malformed b) _ (head-none _ _ (sym e ∙ z)))
+passed-header T b e z = formed-header b (or-false-1 (malformed b) _ (head-none _ _ (sym e ∙ z)))
 
 -- ---- the table that was read
 

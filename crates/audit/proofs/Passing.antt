@@ -1,37 +1,33 @@
 -- A board passes exactly when its sheet is accepted and it keeps the rules, and then it binds every feasible set. Assumes nothing.
 use Prim.Native.Nat.{ℕ, _+_, _-_, _*_, _<_, _≤_}
-use mathlib.Core.Path.{_≡_, refl, sym, _∙_, ap}
+use mathlib.Core.Path.{_≡_, refl, sym, _∙_}
 use mathlib.Core.Logic.{_↔_}
-use mathlib.Core.List.{List, [], _∷_, _++_}
-use mathlib.Core.Bool.{Bool, true, false, not, cond, _||_, true≢false}
+use mathlib.Core.List.{List}
+use mathlib.Core.Bool.{Bool, true, false, not, cond}
 use native.Mathlib.Omega.{arith}
 use lib.Dec.{eqb}
-use lib.ListN.{length, take, getD}
-use borrow.Author.Tests.{eqb-true, eq-eqb, not-true, not-false, ltb-false, le-ltb, eqb-false}
-use Rattle.refusal.specs.Cause.{Cause, _when_, firstOf}
-use Rattle.refusal.proofs.Order.{numbered, first-goes, clear-cons, clear-append}
+use lib.ListN.{length}
+use borrow.Author.Tests.{eqb-true, eq-eqb, not-true, not-false, le-ltb}
+use Rattle.refusal.specs.Cause.{firstOf}
+use Rattle.refusal.proofs.Order.{first-goes, clear-cons, clear-append}
 use Rattle.wire.specs.Number.{Bytes}
-use Rattle.wire.specs.Mark.{boardMark, opensWith}
 use Rattle.wire.proofs.Marks.{board-mark-iff}
-use Rattle.turns.specs.Turn.{InRange}
 use Rattle.model.specs.Turns.{Turns, turnsIn, PositiveLengths}
-use Rattle.model.specs.Lists.{every}
 use Rattle.model.specs.Steps.{initial, afterSteps}
-use Rattle.model.specs.Rules.{independent, maximal, allRight, noneOpen, sums, KeepsRules}
+use Rattle.model.specs.Rules.{independent, maximal, allRight, noneOpen, sums}
 use Rattle.model.specs.Promises.{Promises}
-use Rattle.model.proofs.Bools.{every-at, every-of}
+use Rattle.model.proofs.Bools.{or-false-1, or-false-2, every-at, every-of}
 use Rattle.model.proofs.Readings.{keeps-is}
 use Rattle.model.proofs.Promised.{keeps-promises}
-use Rattle.sheet.specs.Read.{turnCount, tableOf, sheetCauses}
+use Rattle.sheet.specs.Read.{turnCount, sheetCauses}
 use Rattle.sheet.specs.Accepted.{Accepted}
 use Rattle.sheet.proofs.Accepting.{accepted-iff}
 use Rattle.sheet.proofs.Readings.{sheet-numbered}
 use Rattle.sheet.proofs.Unrefused.{row-in-range}
 use Rattle.board.specs.Choice.{mapBytes, chosenIn, clearPast}
-use Rattle.board.specs.Board.{boardHeader, boardTurns, boardSteps, boardTally, boardWorth, boardLength, boardMap, boardChoice, writtenSteps}
+use Rattle.board.specs.Board.{boardHeader, boardTurns, boardSteps, boardTally, boardWorth, boardMap, boardChoice, writtenSteps}
 use Rattle.board.specs.Open.{badSizes, malformed, WellFormed}
 use Rattle.board.proofs.Openings.{formed-header, formed-mark, formed-steps, formed-length, formed-clear}
-use Rattle.audit.specs.declared.judge.CheckAnswer.{CheckAnswer}
 use Rattle.audit.specs.Check.{sheetTurns, choiceCauses, stepCauses, ruleCauses, sumCauses, boardCauses, checkCauses, checkOf, checked, Passes, BoardKeeps}
 
 -- ---- the number
@@ -95,14 +91,6 @@ pub record Clear (T : Turns) (b : List ℕ) : Type 0 where
   pub closed : noneOpen T (afterSteps T (initial T) (writtenSteps b)) ≡ true
   pub summed : sums T (boardChoice b) (writtenSteps b) (boardTally b) (boardWorth b) ≡ true
 
-either-0 : (x y : Bool) → (x || y) ≡ false → x ≡ false
-either-0 true y e = e
-either-0 false y e = refl
-
-either-1 : (x y : Bool) → (x || y) ≡ false → y ≡ false
-either-1 true y e = absurd (true≢false e)
-either-1 false y e = e
-
 module _ (T : Turns) (b : List ℕ) where
   pub board-clear : firstOf (boardCauses T b) ≡ 0 → Clear T b
   unfolding boardCauses ruleCauses choiceCauses stepCauses sumCauses
@@ -114,8 +102,8 @@ module _ (T : Turns) (b : List ℕ) where
       let c₅ = clear-cons _ _ (λ z. omega arith) (c₄ .1) in
       let c₆ = clear-cons _ _ (λ z. omega arith) (c₅ .1) in
       record {
-        formed = either-0 (malformed b) (not (eqb (boardTurns b) (T .count))) (c₁ .0);
-        counted = eqb-true (boardTurns b) (T .count) (not-false (eqb (boardTurns b) (T .count)) (either-1 (malformed b) (not (eqb (boardTurns b) (T .count))) (c₁ .0)));
+        formed = or-false-1 (malformed b) (not (eqb (boardTurns b) (T .count))) (c₁ .0);
+        counted = eqb-true (boardTurns b) (T .count) (not-false (eqb (boardTurns b) (T .count)) (or-false-2 (malformed b) (not (eqb (boardTurns b) (T .count))) (c₁ .0)));
         apart = not-false (independent T (boardChoice b)) (c₂ .0);
         full = not-false (maximal T (boardChoice b)) (c₃ .0);
         steps-right = not-false (allRight T (initial T) (writtenSteps b)) (c₄ .0);

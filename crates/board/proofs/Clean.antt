@@ -11,10 +11,10 @@ use lib.Seq.{getD-set-same, getD-set-other, ext-getD}
 use borrow.Author.Tests.{eq-eqb, ne-eqb}
 use Rattle.wire.specs.Number.{Bytes, none, more}
 use Rattle.wire.proofs.Numbers.{byte-below}
-use Rattle.model.specs.Lists.{tab, sum, below}
+use Rattle.model.specs.Lists.{tab}
 use Rattle.model.specs.Choice.{has}
 use Rattle.model.proofs.Bools.{every-at, every-of}
-use Rattle.model.proofs.Sums.{tab-length, tab-at}
+use Rattle.model.proofs.Sums.{sum-same, tab-length, tab-at}
 use Rattle.board.specs.Choice.{bitOf, mapBytes, chosenIn, choiceIn, withBit, withTurn, clearPast, byteOf, mapOf, Clean}
 use Rattle.board.proofs.Bytes as byte
 
@@ -130,10 +130,6 @@ zeros-clean n k e =
     }
 
 -- ---- a clean map is the map of its choice
-
-sum-same : (f g : ℕ → ℕ) (n : ℕ) → ((k : ℕ) → k < n → f k ≡ g k) → sum f (below n) ≡ sum g (below n)
-sum-same f g zero h = refl
-sum-same f g (suc n) h = rw (h n (omega arith), sum-same f g n (λ k l. h k (omega arith)))
 
 pub map-length : (S : List Bool) → length (mapOf S) ≡ mapBytes (length S)
 unfolding mapOf

@@ -1,14 +1,14 @@
 -- The choice map by its cases, each premise in the form in which the code's calls and tests leave it. Assumes nothing.
-use Prim.Native.Nat.{ℕ, zero, suc, _+_, _-_, _*_, _/_, _%_, _<_, _≤_}
-use mathlib.Core.Path.{_≡_, refl, sym, _∙_, ap}
-use mathlib.Core.Bool.{Bool, true, false, not, _&&_, true≢false}
-use mathlib.Core.List.{List, [], _∷_}
+use Prim.Native.Nat.{ℕ, suc, _+_, _-_, _*_, _/_, _%_, _<_, _≤_}
+use mathlib.Core.Path.{_≡_, sym, ap}
+use mathlib.Core.Bool.{Bool, true, false, not}
+use mathlib.Core.List.{List, []}
 use native.Mathlib.Omega.{arith}
-use native.Mathlib.Decide.{ℕ-discrete}
 use native.Mathlib.Numerals.{add-one}
 use lib.ListN.{length, getD, set, drop}
 use lib.Seq.{drop-cons, drop-length}
 use Rattle.model.specs.Lists.{every}
+use Rattle.model.proofs.Bools.{every-fails}
 use Rattle.board.specs.Choice.{bitOf, withBit, mapBytes, chosenIn, withTurn, onesOf, onesIn, clearPast}
 
 module _ (map : List ℕ) (t : ℕ) where
@@ -37,20 +37,6 @@ pub ruleset ones-cases = (ones-more, ones-done)
 
 -- ---- the bits past the last turn
 
-not-both : {b : Bool} → b ≡ true → b ≡ false → ⊥
-not-both p q = true≢false (sym p ∙ q)
-
--- a test of every number below n fails where it fails at one of them
-every-fails : (p : ℕ → Bool) (n t : ℕ) → t < n → p t ≡ false → false ≡ every p n
-unfolding every
-every-fails p zero t l e = absurd (omega arith)
-every-fails p (suc n) t l e = go (p n) refl (ℕ-discrete t n) (λ m. every-fails p n t m e)
-  where
-    go : (b : Bool) → p n ≡ b → Dec (t ≡ n) → (t < n → false ≡ every p n) → false ≡ (b && every p n)
-    go true q (yes z) ih = absurd (not-both (ap p z ∙ q) e)
-    go true q (no z) ih = ih (omega arith)
-    go false q d ih = refl
-
 module _ (map : List ℕ) (n t : ℕ) where
   abbrev ClearTo : ℕ → Type 0
   ClearTo k = every (λ k. not (chosenIn map (n + k))) k ≡ true
@@ -61,7 +47,7 @@ module _ (map : List ℕ) (n t : ℕ) where
 
   pub clear-not : {b : Bool} → length map ≡ mapBytes n → n ≤ t → t < 8 * length map → b ≡ chosenIn map t → b ≡ true → false ≡ clearPast n map
   unfolding clearPast
-  clear-not s l h e f = let z : n + (t - n) ≡ t = omega arith in every-fails (λ k. not (chosenIn map (n + k))) (8 * mapBytes n - n) (t - n) (omega arith) (rw (z, ← e, f))
+  clear-not s l h e f = let z : n + (t - n) ≡ t = omega arith in sym (every-fails (λ k. not (chosenIn map (n + k))) (8 * mapBytes n - n) (t - n) (omega arith) (rw (z, ← e, f)))
 
   pub clear-done : length map ≡ mapBytes n → 8 * length map ≤ t → t ≤ 8 * length map → ClearTo (t - n) → true ≡ clearPast n map
   unfolding clearPast

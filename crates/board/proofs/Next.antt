@@ -1,8 +1,8 @@
 -- Finding the next chosen turn byte by byte, and counting the chosen turns. Assumes nothing.
 use Prim.Native.Nat.{ℕ, zero, suc, _+_, _-_, _*_, _/_, _%_, _<_, _≤_}
-use mathlib.Core.Path.{_≡_, refl, sym, _∙_, ap}
+use mathlib.Core.Path.{_≡_, refl, sym, _∙_}
 use mathlib.Core.Bool.{Bool, true, false, cond}
-use mathlib.Core.List.{List, [], _∷_}
+use mathlib.Core.List.{List}
 use native.Mathlib.Omega.{arith}
 use lib.ListN.{length, getD}
 use Rattle.board.specs.Choice.{bitOf, chosenIn, lowAmong, nextAmong, nextChosen}
@@ -22,35 +22,26 @@ module _ (map : List ℕ) (t d : ℕ) where
   unfolding nextAmong
   next-skip e = rw e
 
+more : (d rest : ℕ) → suc d + rest ≡ suc (d + rest)
+more d rest = omega arith
+
 module _ (map : List ℕ) (i : ℕ) where
   byte-found : (d k rest : ℕ) → k + d ≤ 8 → lowAmong d (getD map i 0) k < k + d → nextAmong (d + rest) map (8 * i + k) ≡ 8 * i + lowAmong d (getD map i 0) k
   unfolding lowAmong
   byte-found zero k rest h l = absurd (omega arith)
   byte-found (suc d) k rest h l = rw (more d rest) (go (bitOf (getD map i 0) k) refl l (λ m. byte-found d (k + 1) rest (omega arith) m))
     where
-      more : (d rest : ℕ) → suc d + rest ≡ suc (d + rest)
-      more d rest = omega arith
-
-      at : (b : Bool) → bitOf (getD map i 0) k ≡ b → chosenIn map (8 * i + k) ≡ b
-      at b e = chosen-byte map i k (omega arith) ∙ e
-
       go : (b : Bool) → bitOf (getD map i 0) k ≡ b → cond b k (lowAmong d (getD map i 0) (k + 1)) < k + suc d
           → (lowAmong d (getD map i 0) (k + 1) < k + 1 + d → nextAmong (d + rest) map (8 * i + (k + 1)) ≡ 8 * i + lowAmong d (getD map i 0) (k + 1))
           → nextAmong (suc (d + rest)) map (8 * i + k) ≡ 8 * i + cond b k (lowAmong d (getD map i 0) (k + 1))
-      go true e l ih = next-here map (8 * i + k) (d + rest) (at true e)
-      go false e l ih = let s : 8 * i + k + 1 ≡ 8 * i + (k + 1) = omega arith in next-skip map (8 * i + k) (d + rest) (at false e) ∙ rw s (ih (omega arith))
+      go true e l ih = next-here map (8 * i + k) (d + rest) (chosen-byte map i k (omega arith) ∙ e)
+      go false e l ih = let s : 8 * i + k + 1 ≡ 8 * i + (k + 1) = omega arith in next-skip map (8 * i + k) (d + rest) (chosen-byte map i k (omega arith) ∙ e) ∙ rw s (ih (omega arith))
 
   byte-none : (d k rest : ℕ) → k + d ≤ 8 → k + d ≤ lowAmong d (getD map i 0) k → nextAmong (d + rest) map (8 * i + k) ≡ nextAmong rest map (8 * i + (k + d))
   unfolding lowAmong
   byte-none zero k rest h l = let a : 0 + rest ≡ rest = omega arith in let b : k + 0 ≡ k = omega arith in rw (a, b)
   byte-none (suc d) k rest h l = rw (more d rest) (go (bitOf (getD map i 0) k) refl l (λ m. byte-none d (k + 1) rest (omega arith) m))
     where
-      more : (d rest : ℕ) → suc d + rest ≡ suc (d + rest)
-      more d rest = omega arith
-
-      at : (b : Bool) → bitOf (getD map i 0) k ≡ b → chosenIn map (8 * i + k) ≡ b
-      at b e = chosen-byte map i k (omega arith) ∙ e
-
       go : (b : Bool) → bitOf (getD map i 0) k ≡ b → k + suc d ≤ cond b k (lowAmong d (getD map i 0) (k + 1))
           → (k + 1 + d ≤ lowAmong d (getD map i 0) (k + 1) → nextAmong (d + rest) map (8 * i + (k + 1)) ≡ nextAmong rest map (8 * i + (k + 1 + d)))
           → nextAmong (suc (d + rest)) map (8 * i + k) ≡ nextAmong rest map (8 * i + (k + suc d))
@@ -58,7 +49,7 @@ module _ (map : List ℕ) (i : ℕ) where
       go false e l ih =
           let s : 8 * i + k + 1 ≡ 8 * i + (k + 1) = omega arith in
           let u : k + 1 + d ≡ k + suc d = omega arith in
-          next-skip map (8 * i + k) (d + rest) (at false e) ∙ rw (s, ← u) (ih (omega arith))
+          next-skip map (8 * i + k) (d + rest) (chosen-byte map i k (omega arith) ∙ e) ∙ rw (s, ← u) (ih (omega arith))
 
 -- ---- the loop over the bytes
 

@@ -1,7 +1,7 @@
 -- Opening by its cases, each premise in the form in which the code's calls and tests leave it. Assumes nothing.
 use Prim.Native.Nat.{ℕ, _+_, _-_, _*_, _<_, _≤_}
-use mathlib.Core.Path.{_≡_, refl, sym, _∙_}
-use mathlib.Core.Bool.{Bool, true, false, not, _||_, true≢false}
+use mathlib.Core.Path.{_≡_}
+use mathlib.Core.Bool.{Bool, true, false, not, _||_}
 use mathlib.Core.List.{List, []}
 use native.Mathlib.Omega.{arith}
 use lib.ListN.{length, take, drop}
@@ -11,6 +11,7 @@ use Rattle.refusal.specs.Number.{malformedBoard}
 use Rattle.refusal.specs.Cause.{firstOf}
 use Rattle.wire.specs.Number.{valueAt}
 use Rattle.wire.specs.Mark.{boardMark, opensWith}
+use Rattle.model.proofs.Bools.{or-false-1, or-false-2}
 use Rattle.board.specs.Choice.{mapBytes, clearPast}
 use Rattle.board.specs.Board.{boardHeader, boardTurns, boardSteps, stepsPlace, boardLength, boardMap}
 use Rattle.board.specs.Open.{badSizes, malformed, openOf, stepsPart}
@@ -57,40 +58,32 @@ pub ruleset sizes-cases = (sizes-steps, sizes-length, sizes-clear)
 
 -- ---- what a board that opens has
 
-or-false-0 : (a b : Bool) → (a || b) ≡ false → a ≡ false
-or-false-0 true b e = e
-or-false-0 false b e = refl
-
-or-false-1 : (a b : Bool) → (a || b) ≡ false → b ≡ false
-or-false-1 true b e = absurd (true≢false e)
-or-false-1 false b e = e
-
 module _ (b : List ℕ) (e : malformed b ≡ false) where
   formed-sizes : badSizes b ≡ false
   unfolding malformed
-  formed-sizes = or-false-1 (not (opensWith boardMark b)) (badSizes b) (or-false-1 (ltb (length b) boardHeader) (not (opensWith boardMark b) || badSizes b) e)
+  formed-sizes = or-false-2 (not (opensWith boardMark b)) (badSizes b) (or-false-2 (ltb (length b) boardHeader) (not (opensWith boardMark b) || badSizes b) e)
 
   pub formed-header : boardHeader ≤ length b
   unfolding malformed
-  formed-header = ltb-false (length b) boardHeader (or-false-0 (ltb (length b) boardHeader) (not (opensWith boardMark b) || badSizes b) e)
+  formed-header = ltb-false (length b) boardHeader (or-false-1 (ltb (length b) boardHeader) (not (opensWith boardMark b) || badSizes b) e)
 
   pub formed-mark : opensWith boardMark b ≡ true
   unfolding malformed
-  formed-mark = not-false (opensWith boardMark b) (or-false-0 (not (opensWith boardMark b)) (badSizes b) (or-false-1 (ltb (length b) boardHeader) (not (opensWith boardMark b) || badSizes b) e))
+  formed-mark = not-false (opensWith boardMark b) (or-false-1 (not (opensWith boardMark b)) (badSizes b) (or-false-2 (ltb (length b) boardHeader) (not (opensWith boardMark b) || badSizes b) e))
 
   pub formed-steps : boardSteps b ≤ boardTurns b
   unfolding badSizes
-  formed-steps = let f = formed-sizes in ltb-false (boardTurns b) (boardSteps b) (or-false-0 (ltb (boardTurns b) (boardSteps b)) _ f)
+  formed-steps = let f = formed-sizes in ltb-false (boardTurns b) (boardSteps b) (or-false-1 (ltb (boardTurns b) (boardSteps b)) _ f)
 
   formed-rest : (not (eqb (length b) (boardLength (boardTurns b) (boardSteps b))) || not (clearPast (boardTurns b) (boardMap b))) ≡ false
   unfolding badSizes
-  formed-rest = let f = formed-sizes in or-false-1 (ltb (boardTurns b) (boardSteps b)) _ f
+  formed-rest = let f = formed-sizes in or-false-2 (ltb (boardTurns b) (boardSteps b)) _ f
 
   pub formed-length : length b ≡ boardLength (boardTurns b) (boardSteps b)
-  formed-length = eqb-true (length b) (boardLength (boardTurns b) (boardSteps b)) (not-false (eqb (length b) (boardLength (boardTurns b) (boardSteps b))) (or-false-0 _ (not (clearPast (boardTurns b) (boardMap b))) formed-rest))
+  formed-length = eqb-true (length b) (boardLength (boardTurns b) (boardSteps b)) (not-false (eqb (length b) (boardLength (boardTurns b) (boardSteps b))) (or-false-1 _ (not (clearPast (boardTurns b) (boardMap b))) formed-rest))
 
   pub formed-clear : clearPast (boardTurns b) (boardMap b) ≡ true
-  formed-clear = not-false (clearPast (boardTurns b) (boardMap b)) (or-false-1 (not (eqb (length b) (boardLength (boardTurns b) (boardSteps b)))) _ formed-rest)
+  formed-clear = not-false (clearPast (boardTurns b) (boardMap b)) (or-false-2 (not (eqb (length b) (boardLength (boardTurns b) (boardSteps b)))) _ formed-rest)
 
 -- ---- the steps' part
 

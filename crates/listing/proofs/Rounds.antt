@@ -14,7 +14,7 @@ use Rattle.model.specs.Turns.{Turns, PositiveLengths, same-groomer}
 use Rattle.model.specs.Choice.{has, chosen}
 use Rattle.model.specs.Rules.{Independent}
 use Rattle.model.specs.Feasible.{Distinct, empty, other}
-use Rattle.model.proofs.Bools.{fails, and-1, and-2, and-of}
+use Rattle.model.proofs.Bools.{fails, not-apart, and-1, and-2, and-of}
 use Rattle.model.proofs.Sums.{sum-add, sum-zero, sum-same, sum-swap, sum-hit, all-of, all-map}
 use Rattle.board.specs.Choice.{onesIn, mapOf}
 use Rattle.board.proofs.Clean.{map-choice, map-clean}
@@ -25,13 +25,11 @@ use Rattle.listing.specs.Round as round
 -- ---- two of a groomer's chosen turns that start together share that minute
 
 pub apart-starts : (T : Turns) (S : List Bool) → Independent T S → PositiveLengths T → StartsApart T S
-apart-starts T S apart lengths u v l m p q g s = go (ℕ-discrete u v)
-  where
-    go : Dec (u ≡ v) → u ≡ v
-    go (yes e) = e
-    go (no e) =
-        absurd (apart u v l m e p q
-        (same-groomer g (T .start u) (record { begun = omega arith; not-over = lengths u l }) (record { begun = omega arith; not-over = omega (arith, lengths v m) })))
+apart-starts T S apart lengths u v l m p q g s =
+    not-apart u v
+    (λ e.
+    apart u v l m e p q
+    (same-groomer g (T .start u) (record { begun = omega arith; not-over = lengths u l }) (record { begun = omega arith; not-over = omega (arith, lengths v m) })))
 
 -- ---- which turns stand in two lists, one behind the other
 

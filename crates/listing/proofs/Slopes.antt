@@ -4,14 +4,13 @@ use mathlib.Core.Path.{_≡_, sym, _∙_}
 use mathlib.Core.Bool.{Bool, true, false, cond, _&&_}
 use mathlib.Core.List.{List}
 use native.Mathlib.Omega.{arith}
-use native.Mathlib.Decide.{ℕ-discrete}
 use lib.Dec.{eqb}
 use borrow.Author.Tests.{eqb-true}
 use Rattle.model.specs.Lists.{sum, below}
 use Rattle.model.specs.Turns.{Turns, same-slope}
 use Rattle.model.specs.Choice.{has, chosen}
 use Rattle.model.specs.Rules.{Independent}
-use Rattle.model.proofs.Bools.{and-1, and-2}
+use Rattle.model.proofs.Bools.{not-apart, and-1, and-2}
 use Rattle.model.proofs.Sums.{sum-mono, sum-swap, sum-ones, sum-hit, at-most-one, all-of, all-below}
 
 -- ---- the chosen turns, slope by slope: the slopes are numbered from 1
@@ -24,14 +23,10 @@ module _ (T : Turns) (S : List Bool) (apart : Independent T S) where
   -- two chosen turns on one slope conflict
   groomed-once : (k u v : ℕ) → u < T .count → v < T .count → grooms k u ≡ true → grooms k v ≡ true → u ≡ v
   unfolding grooms
-  groomed-once k u v l m p q = go (ℕ-discrete u v)
-    where
-      go : Dec (u ≡ v) → u ≡ v
-      go (yes e) = e
-      go (no e) =
-          let a : T .slope u ≡ k + 1 = eqb-true (T .slope u) (k + 1) (and-2 (has S u) (eqb (T .slope u) (k + 1)) p) in
-          let b : T .slope v ≡ k + 1 = eqb-true (T .slope v) (k + 1) (and-2 (has S v) (eqb (T .slope v) (k + 1)) q) in
-          absurd (apart u v l m e (and-1 (has S u) (eqb (T .slope u) (k + 1)) p) (and-1 (has S v) (eqb (T .slope v) (k + 1)) q) (same-slope (a ∙ sym b)))
+  groomed-once k u v l m p q =
+      let a : T .slope u ≡ k + 1 = eqb-true (T .slope u) (k + 1) (and-2 (has S u) (eqb (T .slope u) (k + 1)) p) in
+      let b : T .slope v ≡ k + 1 = eqb-true (T .slope v) (k + 1) (and-2 (has S v) (eqb (T .slope v) (k + 1)) q) in
+      not-apart u v (λ e. apart u v l m e (and-1 (has S u) (eqb (T .slope u) (k + 1)) p) (and-1 (has S v) (eqb (T .slope v) (k + 1)) q) (same-slope (a ∙ sym b)))
 
   module _ (slopes : ℕ) (least : (u : ℕ) → u < T .count → 1 ≤ T .slope u) (most : (u : ℕ) → u < T .count → T .slope u ≤ slopes) where
     -- a chosen turn is on one of the slopes

@@ -1,6 +1,6 @@
 -- Tests: what their parts say, and a test of every number below n. None of this is in the source. Assumes nothing.
 use mathlib.Core.Path.{_≡_, refl, sym, ap, _∙_}
-use mathlib.Core.Logic.{_⊎_, inl, inr}
+use mathlib.Core.Logic.{_≢_, _⊎_, inl, inr}
 use mathlib.Core.Bool.{Bool, true, false, not, _&&_, _||_, true≢false}
 use Prim.Native.Nat.{ℕ, zero, suc, _<_}
 use native.Mathlib.Omega.{arith}
@@ -14,6 +14,14 @@ not-both p q = true≢false (sym p ∙ q)
 pub fails : (b : Bool) → (b ≡ true → ⊥) → b ≡ false
 fails true h = absurd (h refl)
 fails false h = refl
+
+-- two numbers that cannot differ are equal
+pub not-apart : (x y : ℕ) → (x ≢ y → ⊥) → x ≡ y
+not-apart x y h = go (ℕ-discrete x y)
+  where
+    go : Dec (x ≡ y) → x ≡ y
+    go (yes e) = e
+    go (no d) = absurd (h d)
 
 -- ---- and, or, not
 
@@ -40,6 +48,14 @@ or-1 false b e = absurd (true≢false (sym e))
 pub or-2 : (a b : Bool) → b ≡ true → (a || b) ≡ true
 or-2 true b e = refl
 or-2 false b e = e
+
+pub or-false-1 : (a b : Bool) → (a || b) ≡ false → a ≡ false
+or-false-1 true b e = e
+or-false-1 false b e = refl
+
+pub or-false-2 : (a b : Bool) → (a || b) ≡ false → b ≡ false
+or-false-2 true b e = absurd (true≢false e)
+or-false-2 false b e = e
 
 -- of two tests that do not both pass, the second fails where the first passes
 pub second-fails : (a b : Bool) → not (a && b) ≡ true → a ≡ true → b ≡ false

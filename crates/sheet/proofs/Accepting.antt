@@ -1,7 +1,7 @@
 -- The sheets that are accepted: what they are made of is what is read of them, and the other way round. Assumes nothing.
 use Prim.Native.Nat.{ℕ, zero, suc, _*_, _≤_}
 use mathlib.Core.Path.{_≡_, refl, sym, _∙_, ap, ap₂}
-use mathlib.Core.Bool.{Bool, not}
+use mathlib.Core.Bool.{Bool}
 use mathlib.Core.List.{List, [], _∷_, _++_}
 use mathlib.Core.Logic.{_↔_}
 use native.Mathlib.Omega.{arith}
@@ -10,7 +10,7 @@ use lib.Dec.{ltb}
 use lib.ListN.{length, getD, take, drop, length-drop, take-append-drop, drop-of-length-le}
 use lib.Seq.{drop-cons}
 use borrow.Author.Tests.{le-ltb, ltb-false, not-false}
-use Rattle.refusal.specs.Number.{truncated, badMagic, badCounts, tooManyTurns, trailingBytes, bufferTooSmall}
+use Rattle.refusal.specs.Number.{trailingBytes, bufferTooSmall}
 use Rattle.refusal.specs.Cause.{_when_, firstOf}
 use Rattle.refusal.proofs.Order.{first-goes, clear-cons, clear-append, none-iff}
 use Rattle.wire.specs.Number.{valueAt, Bytes}
@@ -19,7 +19,6 @@ use Rattle.wire.proofs.Numbers.{value-read, bytes-rest}
 use Rattle.wire.proofs.Marks.{sheet-mark-iff}
 use Rattle.turns.specs.declared.Turn.{Turn}
 use Rattle.turns.specs.declared.Counts.{Counts}
-use Rattle.turns.specs.Turn.{outsideRange}
 use Rattle.turns.proofs.Ranges.{inside-iff}
 use Rattle.sheet.specs.declared.record.Cursor.{Cursor}
 use Rattle.sheet.specs.Record.{recordCauses, cursorAfter, firstCursor}
@@ -27,7 +26,7 @@ use Rattle.sheet.specs.Read.{headerBytes, mostGroomers, mostSlopes, most
 use Rattle.sheet.specs.Layout.{headerFor}
 use Rattle.sheet.specs.Accepted.{Records, none, more, SheetFor, Accepted, SheetCause}
 use Rattle.sheet.proofs.Scans.{record-numbered}
-use Rattle.sheet.proofs.Readings.{header-numbered, sheet-numbered, sheet-by-records, turnsFrom-length}
+use Rattle.sheet.proofs.Readings.{header-numbered, header-clear, sheet-numbered, sheet-by-records, turnsFrom-length}
 use Rattle.sheet.proofs.Fields.{RecordRead, record-reads, record-stands}
 use Rattle.sheet.proofs.Causes.{cause-there, there-cause}
 use Rattle.sheet.proofs.ReadCauses.{read-number}
@@ -100,23 +99,19 @@ module _ {s : List ℕ} (b : Bytes s) where
   unfolding sheetCauses headerCauses countCauses turnsOf firstCursor
   reads-sheet e =
       let both = clear-append (headerCauses s) (recordsCauses (turnCount s) s (countsIn s) firstCursor) (header-numbered s) e in
-      let p = clear-cons (truncated when ltb (length s) headerBytes) _ (omega arith) (both .0) in
-      let q = clear-cons (badMagic when not (opensWith sheetMark s)) _ (omega arith) (p .1) in
-      let r = clear-cons (badCounts when outsideRange (countsIn s .groomers) mostGroomers) _ (omega arith) (q .1) in
-      let t = clear-cons (badCounts when outsideRange (countsIn s .slopes) mostSlopes) _ (omega arith) (r .1) in
-      let u = clear-cons (tooManyTurns when ltb mostTurns (turnCount s)) _ (omega arith) (t .1) in
-      let groomers = inside-iff (countsIn s .groomers) mostGroomers .0 (r .0) in
-      let slopes = inside-iff (countsIn s .slopes) mostSlopes .0 (t .0) in
+      let h = header-clear s (both .0) in
+      let groomers = inside-iff (countsIn s .groomers) mostGroomers .0 (h .2) in
+      let slopes = inside-iff (countsIn s .slopes) mostSlopes .0 (h .3) in
       let count = turnsFrom-length (turnCount s) s firstCursor in
-      let mark = sheet-mark-iff s .0 (not-false (opensWith sheetMark s) (q .0)) in
+      let mark = sheet-mark-iff s .0 (not-false (opensWith sheetMark s) (h .1)) in
       record {
         groomers-from = groomers .0;
         groomers-to = groomers .1;
         slopes-from = slopes .0;
         slopes-to = slopes .1;
-        turns-to = rw count (ltb-false mostTurns (turnCount s) (u .0));
+        turns-to = rw count (ltb-false mostTurns (turnCount s) (h .4));
         body = drop headerBytes s;
-        bytes = rw count (header-stands (ltb-false (length s) headerBytes (p .0)) mark);
+        bytes = rw count (header-stands (ltb-false (length s) headerBytes (h .0)) mark);
         records = records-stand (turnCount s) (countsIn s) firstCursor (both .1);
       }
 

@@ -1,5 +1,5 @@
 -- The reader's answer by its cases, each premise in the form in which the code's calls and tests leave it. Assumes nothing.
-use Prim.Native.Nat.{ℕ, zero, suc, _*_, _<_, _≤_}
+use Prim.Native.Nat.{ℕ, zero, suc, _*_, _≤_}
 use mathlib.Core.Path.{_≡_, refl, sym, _∙_, ap}
 use mathlib.Core.Bool.{Bool, true, false, not, cond}
 use mathlib.Core.List.{List, [], _∷_, _++_}
@@ -42,15 +42,21 @@ pub header-numbered : (s : List ℕ) → numbered (headerCauses s) ≡ true
 unfolding headerCauses countCauses
 header-numbered s = refl
 
--- a header with nothing wrong has no more turns than a sheet may have
-pub header-few : (s : List ℕ) → firstOf (headerCauses s) ≡ 0 → turnCount s ≤ mostTurns
+-- a header with nothing wrong: each test of it
+pub header-clear : (s : List ℕ) → firstOf (headerCauses s) ≡ 0 →
+    (ltb (length s) headerBytes ≡ false) × (not (opensWith sheetMark s) ≡ false) × (outsideRange (countsIn s .groomers) mostGroomers ≡ false) × (outsideRange (countsIn s .slopes) mostSlopes ≡ false) × (ltb mostTurns (turnCount s) ≡ false)
 unfolding headerCauses countCauses
-header-few s e =
+header-clear s e =
     let p = clear-cons (truncated when ltb (length s) headerBytes) _ (omega arith) e in
     let q = clear-cons (badMagic when not (opensWith sheetMark s)) _ (omega arith) (p .1) in
     let r = clear-cons (badCounts when outsideRange (countsIn s .groomers) mostGroomers) _ (omega arith) (q .1) in
     let t = clear-cons (badCounts when outsideRange (countsIn s .slopes) mostSlopes) _ (omega arith) (r .1) in
-    ltb-false mostTurns (turnCount s) (clear-cons (tooManyTurns when ltb mostTurns (turnCount s)) _ (omega arith) (t .1) .0)
+    let u = clear-cons (tooManyTurns when ltb mostTurns (turnCount s)) _ (omega arith) (t .1) in
+    (p .0, q .0, r .0, t .0, u .0)
+
+-- it has no more turns than a sheet may have
+pub header-few : (s : List ℕ) → firstOf (headerCauses s) ≡ 0 → turnCount s ≤ mostTurns
+header-few s e = ltb-false mostTurns (turnCount s) (header-clear s e .4)
 
 -- a header was found: nothing is wrong with it
 pub record Sound (s : List ℕ) (limits : Counts) (k : ℕ) : Type 0 where
