@@ -1,27 +1,19 @@
 -- What is written into lent bytes, by its cases: shown once, for every list of causes and every text. Assumes nothing.
 use Prim.Native.Nat.{ℕ, _<_, _≤_}
-use mathlib.Core.Path.{_≡_, refl, sym, _∙_}
-use mathlib.Core.Bool.{Bool, true, false, cond}
+use mathlib.Core.Path.{_≡_, refl, sym, _∙_, ap}
+use mathlib.Core.Bool.{Bool, true, cond}
 use mathlib.Core.List.{List, [], _∷_, _++_}
 use native.Mathlib.Omega.{arith}
-use lib.Dec.{eqb, ltb}
+use native.Mathlib.Decide.{ℕ-discrete}
+use lib.Dec.{ltb}
 use lib.ListN.{length}
-use borrow.Author.Tests.{eqb-true, ne-eqb, lt-ltb, le-ltb}
+use borrow.Author.Tests.{ne-eqb, lt-ltb, le-ltb}
 use Rattle.refusal.specs.Number.{bufferTooSmall}
 use Rattle.refusal.specs.Cause.{Cause, _when_, firstOf}
-use Rattle.refusal.specs.Written.{wrote, kept, writtenUnless}
+use Rattle.refusal.specs.Written.{Written, wrote, kept, writtenUnless}
 use Rattle.refusal.proofs.Order.{numbered, first-stops, first-goes}
 
 module _ (cs : List Cause) (text lent : List ℕ) where
-  -- the number is that of the first cause
-  pub number-first : writtenUnless cs text lent .refusal ≡ firstOf cs
-  unfolding writtenUnless
-  number-first = go (eqb (firstOf cs) 0) refl
-    where
-      go : (b : Bool) → eqb (firstOf cs) 0 ≡ b → cond b (wrote text lent) (kept (firstOf cs) lent) .refusal ≡ firstOf cs
-      go true e = sym (eqb-true (firstOf cs) 0 e)
-      go false e = refl
-
   -- with a cause the lent bytes stay, with none all of the text is written
   pub kept-first : (k : ℕ) → firstOf cs ≡ k → (k ≡ 0 → ⊥) → writtenUnless cs text lent ≡ kept k lent
   unfolding writtenUnless
@@ -30,6 +22,14 @@ module _ (cs : List Cause) (text lent : List ℕ) where
   pub wrote-all : firstOf cs ≡ 0 → writtenUnless cs text lent ≡ wrote text lent
   unfolding writtenUnless
   wrote-all e = rw e
+
+  -- the number is that of the first cause
+  pub number-first : writtenUnless cs text lent .refusal ≡ firstOf cs
+  number-first = go (ℕ-discrete (firstOf cs) 0)
+    where
+      go : Dec (firstOf cs ≡ 0) → writtenUnless cs text lent .refusal ≡ firstOf cs
+      go (yes e) = ap (λ (w : Written). w .refusal) (wrote-all e) ∙ sym e
+      go (no z) = ap (λ (w : Written). w .refusal) (kept-first (firstOf cs) refl z)
 
   -- nothing else of the causes matters
   pub same-first : (ds : List Cause) → firstOf cs ≡ firstOf ds → writtenUnless cs text lent ≡ writtenUnless ds text lent
