@@ -1,12 +1,14 @@
 -- The digits of a number, found from the last one on. Assumes nothing.
-use Prim.Native.Nat.{ℕ, zero, suc, _+_, _-_, _/_, _%_, _^_, _<_, _≤_}
+use Prim.Native.Nat.{ℕ, zero, suc, _+_, _-_, _*_, _/_, _%_, _^_, _<_, _≤_}
 use mathlib.Core.Path.{_≡_, refl, sym, _∙_, ap}
-use mathlib.Core.List.{List, [], _∷_, _++_, append-nil}
+use mathlib.Core.Bool.{Bool, true, false}
+use mathlib.Core.List.{List, [], _∷_, _++_}
 use native.Mathlib.Omega.{arith}
 use native.Mathlib.Numerals.{add-one}
 use native.Mathlib.Decide.{decLt}
+use lib.Dec.{ltb}
 use lib.ListN.{length, set, take, drop, length-set, length-drop}
-use lib.Seq.{append-snoc, drop-length, take-length}
+use lib.Seq.{drop-length, take-length}
 use borrow.Author.Tests.{lt-ltb, le-ltb}
 use Rattle.wire.specs.Number.{puts}
 use Rattle.text.specs.Decimal.{digit, decimalIn, decimal}
@@ -59,14 +61,22 @@ drop-set [] k a h = absurd (omega arith)
 drop-set (x ∷ l) zero a h = refl
 drop-set (x ∷ l) (suc k) a h = let e : suc k + 1 ≡ suc (k + 1) = omega arith in rw e (drop-set l k a (omega arith))
 
+append-end : (xs ys : List ℕ) (a : ℕ) → (xs ++ (a ∷ [])) ++ ys ≡ xs ++ (a ∷ ys)
+append-end [] ys a = refl
+append-end (x ∷ xs) ys a = ap (λ m. x ∷ m) (append-end xs ys a)
+
+append-none : (xs : List ℕ) → xs ++ [] ≡ xs
+append-none [] = refl
+append-none (x ∷ xs) = ap (λ m. x ∷ m) (append-none xs)
+
 module _ (x : ℕ) (space : List ℕ) where
   pub spell-start : length space ≡ 10 → decimal x ++ drop (9 + 1) space ≡ decimal x
-  spell-start h = let e : 9 + 1 ≡ length space = omega arith in rw (e, drop-length space) (append-nil (decimal x))
+  spell-start h = let e : 9 + 1 ≡ length space = omega arith in rw (e, drop-length space) (append-none (decimal x))
 
   pub spell-more : (k rest : ℕ) → 9 < rest → k ≤ 9 → length space ≡ 10 → rest < 10 ^ (k + 1) → decimal rest ++ drop (k + 1) space ≡ decimal x → decimal (rest / 10) ++ drop (k - 1 + 1) (set space k (rest % 10 + 48)) ≡ decimal x
   spell-more k rest h l m p e =
       let q : k - 1 + 1 ≡ k = omega (arith, more-places k rest h p) in
-      rw (q, drop-set space k (rest % 10 + 48) (omega arith)) (sym (append-snoc (decimal (rest / 10)) (rest % 10 + 48) (drop (k + 1) space)) ∙ (rw (decimal-more rest (omega arith)) at e))
+      rw (q, drop-set space k (rest % 10 + 48) (omega arith)) (sym (append-end (decimal (rest / 10)) (drop (k + 1) space) (rest % 10 + 48)) ∙ (rw (decimal-more rest (omega arith)) at e))
 
   pub spell-done : (k rest : ℕ) → rest ≤ 9 → k ≤ 9 → length space ≡ 10 → decimal rest ++ drop (k + 1) space ≡ decimal x → take (10 - k) (drop k (set space k (rest + 48))) ≡ decimal x
   spell-done k rest h l m e =
