@@ -66,7 +66,7 @@ module _ (s : List ℕ) (z : firstOf (sheetCauses s) ≡ 0) where
 
 pub list-number : (s lent : List ℕ) → listOf s lent .refusal ≡ firstOf (listCauses s (length lent))
 unfolding listOf
-list-number s lent = number-first (listCauses s (length lent)) (sheetListing s) lent
+list-number s lent = number-first (listCauses s (length lent)) _ lent
 
 list-causes-iff : (s : List ℕ) (places k r : ℕ) → ListCause s places k r ↔ There (listCauses s places) k r
 unfolding listCauses

@@ -10,11 +10,11 @@ use Rattle.sheet.specs.Read.{turnCount}
 use Rattle.sheet.proofs.Causes.{first-same}
 use Rattle.sheet.proofs.ReadCauses.{lent-causes-iff}
 use Rattle.board.specs.Board.{boardLength}
-use Rattle.planner.specs.Plan.{plannedBoard, planCauses, planOf, PlanCause, FirstPlanCause}
+use Rattle.planner.specs.Plan.{planCauses, planOf, PlanCause, FirstPlanCause}
 
 pub plan-number : (s lent : List ℕ) → planOf s lent .refusal ≡ firstOf (planCauses s (length lent))
 unfolding planOf
-plan-number s lent = number-first (planCauses s (length lent)) (plannedBoard s) lent
+plan-number s lent = number-first (planCauses s (length lent)) _ lent
 
 plan-causes-iff : (s : List ℕ) (places k r : ℕ) → PlanCause s places k r ↔ There (planCauses s places) k r
 unfolding planCauses

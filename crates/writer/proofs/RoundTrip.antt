@@ -179,12 +179,12 @@ module _ (counts : Counts) (table out : List ℕ) where
   -- the writer's number is that of the first cause
   pub write-number : writeOf counts table out .refusal ≡ firstOf (writeCauses counts table (length out))
   unfolding writeOf
-  write-number = number-first (writeCauses counts table (length out)) (sheetOf counts (tableTurns table)) out
+  write-number = number-first (writeCauses counts table (length out)) _ out
 
   -- on a refusal nothing is written
   pub write-keeps : (k : ℕ) → (k ≡ 0 → ⊥) → writeOf counts table out .refusal ≡ k → writeOf counts table out ≡ kept k out
   unfolding writeOf
-  write-keeps k z e = kept-first (writeCauses counts table (length out)) (sheetOf counts (tableTurns table)) out k (sym write-number ∙ e) z
+  write-keeps k z e = kept-first (writeCauses counts table (length out)) _ out k (sym write-number ∙ e) z
 
   pub write-accepts : writeOf counts table out .refusal ≡ 0 → (firstOf (tableCauses counts table) ≡ 0) × (length (sheetOf counts (tableTurns table)) ≤ length out)
   unfolding writeCauses
