@@ -13,11 +13,11 @@
  *   calls in several threads do not disturb each other as long as their lent buffers differ.
  * - Any bytes are taken: no content of a slice leads to anything but an answer.
  * - An answer's 'refusal' is 0, or one of the numbers below. On a refusal every other field of the
- *   answer is 0 and every lent buffer holds what it held before. Where several numbers would fit,
+ *   answer is 0 and no lent buffer has changed. Where several numbers would fit,
  *   the order under each function says which is given.
  * - On success, the places of a lent buffer past the last one written hold what they held before.
  *
- * Numbers in sheets and boards of two or four bytes stand high byte first. Turns are numbered from 0
+ * In sheets and boards, a number of several bytes begins with its high byte. Turns are numbered from 0
  * in the order of the sheet, slopes and groomers from 1.
  */
 #ifndef SLOPEBOARD_H

@@ -29,12 +29,15 @@ choiceCauses T S = chosenConflict when not (independent T S) ∷ notMaximal when
 unfoldable pub stepCauses : Turns → List Step → List Cause
 stepCauses T xs = wrongStep when not (allRight T (initial T) xs) ∷ turnLeftOpen when not (noneOpen T (afterSteps T (initial T) xs)) ∷ []
 
+-- the choice is judged before the steps
 unfoldable pub ruleCauses : Turns → List Bool → List Step → List Cause
 ruleCauses T S xs = choiceCauses T S ++ stepCauses T xs
 
+-- 17: a sum that is not what it names, or a worth below the tally
 unfoldable pub sumCauses : Turns → List Bool → List Step → ℕ → ℕ → List Cause
 sumCauses T S xs tallied worth = wrongSums when not (sums T S xs tallied worth) ∷ []
 
+-- all causes that a board gives for some turns: 12 for its bytes or for another number of turns, then its rules, then its sums
 unfoldable pub boardCauses : Turns → List ℕ → List Cause
 boardCauses T b =
     malformedBoard when (malformed b || not (eqb (boardTurns b) (T .count)))
@@ -48,6 +51,7 @@ checkCauses s b = sheetCauses s ++ boardCauses (sheetTurns s) b
 abbrev pub checked : ℕ → ℕ → ℕ → CheckAnswer
 checked refusal tally worth = record { refusal = refusal; tally = tally; worth = worth }
 
+-- the check: the first cause's number and no sums, or the board's own tally and worth
 unfoldable pub checkOf : List ℕ → List ℕ → CheckAnswer
 checkOf s b =
     let f = firstOf (checkCauses s b) in

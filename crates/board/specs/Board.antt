@@ -13,15 +13,19 @@ use Rattle.board.specs.Choice.{mapBytes, choiceIn, mapOf}
 abbrev pub boardHeader : ℕ
 boardHeader = 15
 
+-- n, the number of the sheet's turns
 abbrev pub boardTurns : List ℕ → ℕ
 boardTurns b = valueAt b 3 2
 
+-- m, the number of steps
 abbrev pub boardSteps : List ℕ → ℕ
 boardSteps b = valueAt b 5 2
 
+-- the tally as it is written
 abbrev pub boardTally : List ℕ → ℕ
 boardTally b = valueAt b 7 4
 
+-- the worth as it is written
 abbrev pub boardWorth : List ℕ → ℕ
 boardWorth b = valueAt b 11 4
 
@@ -29,12 +33,15 @@ boardWorth b = valueAt b 11 4
 abbrev pub stepsPlace : ℕ → ℕ
 stepsPlace n = boardHeader + mapBytes n
 
+-- the exact length of a board of n turns and m steps
 abbrev pub boardLength : ℕ → ℕ → ℕ
 boardLength n m = stepsPlace n + 4 * m
 
+-- the choice map's bytes in a board
 unfoldable pub boardMap : List ℕ → List ℕ
 boardMap b = take (mapBytes (boardTurns b)) (drop boardHeader b)
 
+-- the choice that a board holds
 unfoldable pub boardChoice : List ℕ → List Bool
 boardChoice b = choiceIn (boardTurns b) (boardMap b)
 
@@ -42,6 +49,7 @@ boardChoice b = choiceIn (boardTurns b) (boardMap b)
 abbrev pub stepAt : List ℕ → ℕ → Step
 stepAt bytes i = record { turn = valueAt bytes (4 * i) 2; amount = valueAt bytes (4 * i + 2) 2 }
 
+-- the first m steps of such bytes
 unfoldable pub stepsIn : ℕ → List ℕ → List Step
 stepsIn m bytes = tab m (stepAt bytes)
 
@@ -49,6 +57,7 @@ stepsIn m bytes = tab m (stepAt bytes)
 unfoldable pub writtenSteps : List ℕ → List Step
 writtenSteps b = stepsIn (boardSteps b) (drop (stepsPlace (boardTurns b)) b)
 
+-- steps as bytes, one after another
 unfoldable pub stepBytes : List Step → List ℕ
 stepBytes [] = []
 stepBytes (x ∷ xs) = (bytesOf 2 (x .turn) ++ bytesOf 2 (x .amount)) ++ stepBytes xs
@@ -57,6 +66,7 @@ stepBytes (x ∷ xs) = (bytesOf 2 (x .turn) ++ bytesOf 2 (x .amount)) ++ stepByt
 unfoldable pub countBytes : ℕ → ℕ → List ℕ
 countBytes n m = boardMark ++ (bytesOf 2 n ++ bytesOf 2 m)
 
+-- all fifteen bytes of the header
 unfoldable pub headBytes : ℕ → ℕ → ℕ → ℕ → List ℕ
 headBytes n m tally worth = countBytes n m ++ (bytesOf 4 tally ++ bytesOf 4 worth)
 

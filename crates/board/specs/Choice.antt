@@ -29,6 +29,7 @@ choiceIn n map = tab n (chosenIn map)
 unfoldable pub withBit : ℕ → ℕ → ℕ
 withBit x k = cond (bitOf x k) x (x + 2 ^ k)
 
+-- a map with turn t chosen too
 unfoldable pub withTurn : List ℕ → ℕ → List ℕ
 withTurn map t = set map (t / 8) (withBit (getD map (t / 8) 0) (t % 8))
 
@@ -36,6 +37,7 @@ withTurn map t = set map (t / 8) (withBit (getD map (t / 8) 0) (t % 8))
 unfoldable pub onesOf : ℕ → ℕ
 onesOf x = sum (λ k. cond (bitOf x k) 1 0) (below 8)
 
+-- the number of chosen turns: the ones of each byte, summed
 unfoldable pub onesIn : List ℕ → ℕ
 onesIn [] = 0
 onesIn (x ∷ map) = onesOf x + onesIn map
@@ -48,6 +50,7 @@ clearPast n map = every (λ k. not (chosenIn map (n + k))) (8 * mapBytes n - n)
 unfoldable pub byteOf : List Bool → ℕ → ℕ
 byteOf S k = sum (λ i. cond (has S (8 * k + i)) (2 ^ i) 0) (below 8)
 
+-- the map of a choice, byte by byte
 unfoldable pub mapOf : List Bool → List ℕ
 mapOf S = tab (mapBytes (length S)) (byteOf S)
 

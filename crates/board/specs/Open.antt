@@ -25,7 +25,7 @@ malformed b = ltb (length b) boardHeader || (not (opensWith boardMark b) || badS
 unfoldable pub openOf : List ℕ → ℕ
 openOf b = firstOf (malformedBoard when malformed b ∷ [])
 
--- the steps' stretch of the board, empty where the board does not open
+-- the steps' stretch of the board, empty where the board does not open, and where it has no steps
 unfoldable pub stepsPart : List ℕ → List ℕ
 stepsPart b = cond (malformed b) [] (take (4 * boardSteps b) (drop (stepsPlace (boardTurns b)) b))
 

@@ -26,9 +26,11 @@ lent n = replicate n 9
 abbrev pub shiftTurns : Turns
 shiftTurns = turnsIn 4 shiftTable
 
+-- the shift's two groomers and three slopes
 abbrev pub shiftCounts : Counts
 shiftCounts = record { groomers = 2; slopes = 3 }
 
+-- each case as an equation
 pub record WorkedCases : Type 0 where
   -- the shift, through every entry
   pub shift-read : readOf shift (lent 22) ≡ outcome (record { refusal = 0; groomers = 2; slopes = 3; turns = 4 }) (shiftTable ++ lent 2)

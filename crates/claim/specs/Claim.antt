@@ -1,4 +1,4 @@
--- The one claim, about any two strings of bytes, every feasible set, and the planner's board of every accepted sheet. Assumes nothing.
+-- The one claim: whatever bytes stand for sheet and board, whatever feasible set is named, and of what the planner makes of accepted sheets. Assumes nothing.
 use mathlib.Core.Path.{_≡_}
 use mathlib.Core.Logic.{_↔_}
 use mathlib.Core.Bool.{Bool}
@@ -12,6 +12,7 @@ use Rattle.board.specs.Board.{boardTally, boardWorth, boardChoice}
 use Rattle.audit.specs.Check.{sheetTurns, Passes, BoardKeeps}
 use Rattle.planner.specs.Plan.{plannedBoard}
 
+-- the third demand, of any two strings of bytes
 pub record Claim (s b : List ℕ) : Type 0 where
   -- the check passes b for s exactly if s is accepted and b keeps the rules for it
   pub exactly : Passes s b ↔ (Accepted s × BoardKeeps s b)

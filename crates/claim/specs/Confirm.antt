@@ -13,10 +13,12 @@ use Rattle.planner.specs.Plan.{planOf}
 use Rattle.planner.specs.Answer.{planned}
 use Rattle.claim.specs.declared.Confirmed.{Confirmed}
 
+-- what planning and checking at once return, and what the lent bytes hold then
 pub record Confirmation : Type 0 where
   pub plan : Written
   pub check : CheckAnswer
 
+-- a program's answer beside the lent bytes
 abbrev pub confirmed : Confirmed → List ℕ → Confirmation
 confirmed answer lent = record { plan = planned (answer .plan) lent; check = answer .check }
 
@@ -24,6 +26,7 @@ confirmed answer lent = record { plan = planned (answer .plan) lent; check = ans
 abbrev pub plannedSums : List ℕ → CheckAnswer
 plannedSums s = checked 0 (tally (steps (sheetTurns s))) (chosen (sheetTurns s .count) (choice (sheetTurns s)) (sheetTurns s .worth))
 
+-- what the plan gives; the sums are what the check of that board returns
 unfoldable pub confirmOf : List ℕ → List ℕ → Confirmation
 confirmOf s lent =
     let p = planOf s lent in

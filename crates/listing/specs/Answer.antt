@@ -8,6 +8,7 @@ use Rattle.refusal.specs.Cause.{_when_}
 use Rattle.refusal.specs.Written.{Written, writtenUnless}
 use Rattle.listing.specs.declared.ListAnswer.{ListAnswer}
 
+-- a program's answer beside the lent bytes
 abbrev pub listed : ListAnswer → List ℕ → Written
 listed answer lent = record { refusal = answer .refusal; bytes = answer .bytes; lent = lent }
 

@@ -36,5 +36,6 @@ listOf s lent = writtenUnless (listCauses s (length lent)) (sheetListing s) lent
 abbrev pub ListCause : List ℕ → ℕ → ℕ → ℕ → Type 0
 ListCause s places = LentCause s (length (sheetListing s)) places
 
+-- the first of them has number k
 abbrev pub FirstListCause : List ℕ → ℕ → ℕ → Type 0
 FirstListCause s places k = FirstAmong (ListCause s places) k

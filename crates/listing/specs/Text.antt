@@ -10,15 +10,19 @@ use Rattle.listing.specs.Round.{roundOf}
 abbrev pub groomerWord : List ℕ
 groomerWord = 103 ∷ 114 ∷ 111 ∷ 111 ∷ 109 ∷ 101 ∷ 114 ∷ 32 ∷ []
 
+-- " slope "
 abbrev pub slopeWord : List ℕ
 slopeWord = 32 ∷ 115 ∷ 108 ∷ 111 ∷ 112 ∷ 101 ∷ 32 ∷ []
 
+-- " worth "
 abbrev pub worthWord : List ℕ
 worthWord = 32 ∷ 119 ∷ 111 ∷ 114 ∷ 116 ∷ 104 ∷ 32 ∷ []
 
+-- "worth ", at the front of the last line
 abbrev pub sumWord : List ℕ
 sumWord = 119 ∷ 111 ∷ 114 ∷ 116 ∷ 104 ∷ 32 ∷ []
 
+-- " tally "
 abbrev pub tallyWord : List ℕ
 tallyWord = 32 ∷ 116 ∷ 97 ∷ 108 ∷ 108 ∷ 121 ∷ 32 ∷ []
 
@@ -26,6 +30,7 @@ tallyWord = 32 ∷ 116 ∷ 97 ∷ 108 ∷ 108 ∷ 121 ∷ 32 ∷ []
 abbrev pub hyphen : List ℕ
 hyphen = 45 ∷ []
 
+-- what ends a line
 abbrev pub lineFeed : List ℕ
 lineFeed = 10 ∷ []
 
@@ -45,6 +50,7 @@ headingOf h = labelled groomerWord h ++ lineFeed
 unfoldable pub lineOf : Turns → ℕ → List ℕ
 lineOf T u = decimal (T .start u) ++ (labelled hyphen (T .end u) ++ twoLabelled slopeWord (T .slope u) worthWord (T .worth u))
 
+-- the lines of a groomer's round, one after another
 unfoldable pub linesOf : Turns → List ℕ → List ℕ
 linesOf T [] = []
 linesOf T (u ∷ us) = lineOf T u ++ linesOf T us
@@ -68,8 +74,10 @@ listingOf groomers T S worth tally = groomersFrom T S groomers 1 ++ sumsLine wor
 
 -- ---- the one line in place of a listing where a sheet is refused: "refused "
 
+-- "refused "
 abbrev pub refusedWord : List ℕ
 refusedWord = 114 ∷ 101 ∷ 102 ∷ 117 ∷ 115 ∷ 101 ∷ 100 ∷ 32 ∷ []
 
+-- the word and the number
 unfoldable pub refusedLine : ℕ → List ℕ
 refusedLine k = labelled refusedWord k ++ lineFeed

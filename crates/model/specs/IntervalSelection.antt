@@ -19,6 +19,7 @@ neighbour T J I = bySlope T J I || (not (bySlope T J I) && byGroomer T J I)
 unfoldable pub w₁ : Turns → (ℕ → ℤ) → ℕ → ℕ → ℤ
 w₁ T w J I = cond (neighbour T J I) (w J) (pos 0)
 
+-- the weight that stays
 unfoldable pub w₂ : Turns → (ℕ → ℤ) → ℕ → ℕ → ℤ
 w₂ T w J I = w I -ℤ w₁ T w J I
 

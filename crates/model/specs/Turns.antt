@@ -35,9 +35,11 @@ gap = 0
 unfoldable pub overlap : Turns → ℕ → ℕ → Bool
 overlap T x y = ltb (T .start x) (T .end y + gap) && ltb (T .start y) (T .end x + gap)
 
+-- they are on one slope
 unfoldable pub bySlope : Turns → ℕ → ℕ → Bool
 bySlope T x y = eqb (T .slope x) (T .slope y)
 
+-- they have one groomer and share a minute
 unfoldable pub byGroomer : Turns → ℕ → ℕ → Bool
 byGroomer T x y = eqb (T .groomer x) (T .groomer y) && overlap T x y
 
@@ -52,6 +54,7 @@ pub record Holds (T : Turns) (x minute : ℕ) : Type 0 where
   pub begun : T .start x ≤ minute
   pub not-over : minute < T .end x
 
+-- the same in words, a constructor for each way to conflict
 pub data Conflict (T : Turns) (x y : ℕ) : Type 0 where
   same-slope : T .slope x ≡ T .slope y → Conflict T x y
   same-groomer : T .groomer x ≡ T .groomer y → (minute : ℕ) → Holds T x minute → Holds T y minute → Conflict T x y

@@ -10,6 +10,7 @@ pub record Cause : Type 0 where
   pub there : Bool
 
 infix 90 _when_
+-- a number and its test
 abbrev pub _when_ : ℕ → Bool → Cause
 k when b = record { number = k; there = b }
 

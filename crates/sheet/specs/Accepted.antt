@@ -48,6 +48,7 @@ pub record SheetFor (s : List ℕ) (counts : Counts) (ts : List Turn) : Type 0 w
   pub bytes : s ≡ headerFor counts (length ts) ++ body
   pub records : Records counts true (firstCursor .prev) body ts
 
+-- the bytes are made as a sheet is made, from some counts and turns
 pub record Accepted (s : List ℕ) : Type 0 where
   pub counts : Counts
   pub turns : List Turn
@@ -68,6 +69,7 @@ Outside x top = (x ≡ 0) ⊎ (top < x)
 abbrev pub recordMap : List ℕ → ℕ → ℕ
 recordMap s i = mapAt s (cursorOf s i)
 
+-- and the turn that it resolves to
 abbrev pub turnOf : List ℕ → ℕ → Turn
 turnOf s i = turnAt s (cursorOf s i)
 
@@ -104,5 +106,6 @@ ReadCause s places = LentCause s (5 * turnCount s) places
 abbrev pub FirstCause : List ℕ → ℕ → Type 0
 FirstCause s k = FirstAmong (SheetCause s) k
 
+-- the first of them has number k
 abbrev pub FirstReadCause : List ℕ → ℕ → ℕ → Type 0
 FirstReadCause s places k = FirstAmong (ReadCause s places) k

@@ -17,15 +17,19 @@ use Rattle.sheet.specs.declared.reader.Header.the-variants.{Found, Refus
 use Rattle.sheet.specs.declared.reader.ReadAnswer.{ReadAnswer}
 use Rattle.sheet.specs.Record.{recordCauses, turnAt, cursorAfter, firstCursor}
 
+-- the bytes before the first record
 abbrev pub headerBytes : ℕ
 headerBytes = 7
 
+-- the most groomers, of which there is at least one
 abbrev pub mostGroomers : ℕ
 mostGroomers = 16
 
+-- the most slopes, likewise
 abbrev pub mostSlopes : ℕ
 mostSlopes = 120
 
+-- the most turns, of which there may be none
 abbrev pub mostTurns : ℕ
 mostTurns = 400
 
@@ -33,6 +37,7 @@ mostTurns = 400
 abbrev pub countsIn : List ℕ → Counts
 countsIn s = record { groomers = valueAt s 3 1; slopes = valueAt s 4 1 }
 
+-- the number of turns that the header names
 abbrev pub turnCount : List ℕ → ℕ
 turnCount s = valueAt s 5 2
 
@@ -55,9 +60,11 @@ headerCauses s =
 abbrev pub headerAnswer : List Cause → List ℕ → Header
 headerAnswer causes s = let f = firstOf causes in cond (eqb f 0) (Found (countsIn s) (turnCount s)) (Refused f)
 
+-- reading the header: its counts and turns, or the first cause
 unfoldable pub headerOf : List ℕ → Header
 headerOf s = headerAnswer (headerCauses s) s
 
+-- the same once the mark is right
 unfoldable pub countsHeader : List ℕ → Header
 countsHeader s = headerAnswer (countCauses (countsIn s) (turnCount s)) s
 
@@ -89,17 +96,21 @@ turnIn table i =
 
 -- ---- a sheet: what may be wrong with it, its turns, its table
 
+-- all causes of a sheet, in the order of its bytes
 unfoldable pub sheetCauses : List ℕ → List Cause
 sheetCauses s = headerCauses s ++ recordsCauses (turnCount s) s (countsIn s) firstCursor
 
+-- the turns of a sheet
 unfoldable pub turnsOf : List ℕ → List Turn
 turnsOf s = turnsFrom (turnCount s) s firstCursor
 
+-- its turn table
 unfoldable pub tableOf : List ℕ → List ℕ
 tableOf s = rows (turnsOf s)
 
 -- ---- the reader: it wants five places a turn
 
+-- and last the lent table
 unfoldable pub readCauses : List ℕ → ℕ → List Cause
 readCauses s places = sheetCauses s ++ bufferTooSmall when ltb places (5 * turnCount s) ∷ []
 
@@ -108,6 +119,7 @@ pub record Outcome : Type 0 where
   pub answer : ReadAnswer
   pub table : List ℕ
 
+-- an answer beside the table
 abbrev pub outcome : ReadAnswer → List ℕ → Outcome
 outcome answer table = record { answer = answer; table = table }
 

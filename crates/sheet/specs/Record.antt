@@ -45,12 +45,15 @@ badMapFor first m = cond (ltb fullMap m) true (cond first (not (eqb m fullMap)) 
 abbrev pub mapAt : List ℕ → Cursor → ℕ
 mapAt s c = getD s (c .at) 0
 
+-- where the record at a cursor ends
 unfoldable pub endAt : List ℕ → Cursor → ℕ
 endAt s c = c .at + 1 + widthOf (mapAt s c)
 
+-- the turn that it resolves to
 unfoldable pub turnAt : List ℕ → Cursor → Turn
 turnAt s c = turnFrom s (c .at + 1) (mapAt s c) (c .prev)
 
+-- the cursor behind it
 unfoldable pub cursorAfter : List ℕ → Cursor → Cursor
 cursorAfter s c = record { at = endAt s c; first = false; prev = turnAt s c }
 

@@ -13,6 +13,7 @@ use Rattle.turns.specs.declared.Counts.{Counts}
 abbrev pub shiftMinutes : ℕ
 shiftMinutes = 960
 
+-- the greatest worth
 abbrev pub mostWorth : ℕ
 mostWorth = 60000
 

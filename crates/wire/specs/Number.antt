@@ -13,6 +13,7 @@ abbrev pub valueFrom : ℕ → List ℕ → ℕ
 valueFrom before [] = before
 valueFrom before (b ∷ bs) = valueFrom (before * 256 + b) bs
 
+-- the number that bytes make
 abbrev pub valueOf : List ℕ → ℕ
 valueOf bs = valueFrom 0 bs
 

@@ -47,11 +47,13 @@ unfoldable pub turnsOfTable : ℕ → List ℕ → ℕ → List Turn
 turnsOfTable zero table i = []
 turnsOfTable (suc k) table i = turnIn table i ∷ turnsOfTable k table (i + 1)
 
+-- all turns of a table
 abbrev pub tableTurns : List ℕ → List Turn
 tableTurns table = turnsOfTable (length table / 5) table 0
 
 -- ---- what may be wrong, in the order of refusal: a length that is no multiple of five, the counts, the turns one by one, the lent bytes
 
+-- turn by turn, each with the causes of a turn
 unfoldable pub turnsCauses : Counts → List Turn → List Cause
 turnsCauses counts [] = []
 turnsCauses counts (t ∷ ts) = turnCauses counts t ++ turnsCauses counts ts
@@ -62,6 +64,7 @@ tableCauses counts table =
     partialTurn when not (eqb (length table % 5) 0)
     ∷ (countCauses counts (length table / 5) ++ turnsCauses counts (tableTurns table))
 
+-- and last the lent bytes
 unfoldable pub writeCauses : Counts → List ℕ → ℕ → List Cause
 writeCauses counts table places = tableCauses counts table ++ bufferTooSmall when ltb places (length (sheetOf counts (tableTurns table))) ∷ []
 

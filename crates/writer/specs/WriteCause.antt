@@ -27,5 +27,6 @@ pub data WriteCause (counts : Counts) (table : List ℕ) (places : ℕ) : ℕ �
   worth : (i : ℕ) → i < length table / 5 → Outside (turnIn table i .worth) mostWorth → WriteCause counts table places badWorth (rowPlace i 3)
   small-buffer : places < length (sheetOf counts (tableTurns table)) → WriteCause counts table places bufferTooSmall (rowPlace (length table / 5) 0)
 
+-- the first of them has number k
 abbrev pub FirstWriteCause : Counts → List ℕ → ℕ → ℕ → Type 0
 FirstWriteCause counts table places k = FirstAmong (WriteCause counts table places) k
