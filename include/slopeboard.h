@@ -44,7 +44,7 @@ enum {
     SLOPEBOARD_TRAILING_BYTES = 10,   /* the sheet goes on after its last record */
     SLOPEBOARD_BUFFER_TOO_SMALL = 11, /* a lent buffer is shorter than the function asks */
     SLOPEBOARD_MALFORMED_BOARD = 12,  /* the bytes are not those of a board (for this sheet) */
-    SLOPEBOARD_CONFLICT = 13,         /* two chosen turns exclude each other */
+    SLOPEBOARD_CHOSEN_CONFLICT = 13,  /* two chosen turns exclude each other */
     SLOPEBOARD_NOT_MAXIMAL = 14,      /* a turn could be chosen in addition */
     SLOPEBOARD_WRONG_STEP = 15,       /* a step is not right at its place */
     SLOPEBOARD_TURN_LEFT_OPEN = 16,   /* the steps leave a turn open */

@@ -29,7 +29,7 @@ fn check_choice(turns: &[Turn], map: &[u8]) -> Result<u32, u8> {
     let mut selection = Selection::new();
     for (number, turn) in turns.iter().enumerate() {
         if is_chosen(map, number) && !selection.add(turn) {
-            return Err(refusal::CONFLICT);
+            return Err(refusal::CHOSEN_CONFLICT);
         }
     }
     for (number, turn) in turns.iter().enumerate() {

@@ -25,7 +25,7 @@ pub const BUFFER_TOO_SMALL: u8 = 11;
 /// The board's bytes do not have the shape of a board (for this sheet).
 pub const BAD_BOARD: u8 = 12;
 /// Two chosen turns are in conflict.
-pub const CONFLICT: u8 = 13;
+pub const CHOSEN_CONFLICT: u8 = 13;
 /// A turn could still be added to the chosen ones.
 pub const NOT_MAXIMAL: u8 = 14;
 /// A step names a wrong turn or a wrong amount, or comes too early.

@@ -39,7 +39,7 @@ fn planned(sheet: &[u8], turns: usize) -> Vec<u8> {
 
 /// The most that a set free of conflict can be worth, by trying every set.
 fn best_worth(turns: &[Turn]) -> u32 {
-    let rivals: Vec<u32> = (0..turns.len())
+    let conflicting: Vec<u32> = (0..turns.len())
         .map(|a| {
             let others = (0..turns.len()).filter(|&b| naive::conflict(turns, a, b));
             others.map(|b| 1 << b).sum()
@@ -48,7 +48,7 @@ fn best_worth(turns: &[Turn]) -> u32 {
     let mut best = 0;
     for set in 0..1u32 << turns.len() {
         let members = || (0..turns.len()).filter(move |turn| set >> turn & 1 != 0);
-        if members().all(|turn| rivals[turn] & set == 0) {
+        if members().all(|turn| conflicting[turn] & set == 0) {
             best = best.max(members().map(|turn| u32::from(turns[turn][4])).sum());
         }
     }

@@ -21,7 +21,7 @@ use Rattle.board.specs.Open.{malformed, WellFormed}
 abbrev pub sheetTurns : List ℕ → Turns
 sheetTurns s = turnsIn (turnCount s) (tableOf s)
 
--- what may be wrong with a board for these turns, in the order of refusal: its choice, its steps, its sums, and before all that its form
+-- what may be wrong with a choice: two chosen turns conflict, or a turn still fits
 unfoldable pub choiceCauses : Turns → List Bool → List Cause
 choiceCauses T S = chosenConflict when not (independent T S) ∷ notMaximal when not (maximal T S) ∷ []
 
@@ -47,7 +47,7 @@ boardCauses T b =
 unfoldable pub checkCauses : List ℕ → List ℕ → List Cause
 checkCauses s b = sheetCauses s ++ boardCauses (sheetTurns s) b
 
--- the check's refusal, 0 if none, and the board's tally and worth, 0 on a refusal
+-- the check's answer: a refusal, a tally, a worth
 abbrev pub checked : ℕ → ℕ → ℕ → CheckAnswer
 checked refusal tally worth = record { refusal = refusal; tally = tally; worth = worth }
 

@@ -9,7 +9,7 @@ use Rattle.model.specs.Lists.{tab}
 use Rattle.model.specs.Steps.{Step}
 use Rattle.board.specs.Choice.{mapBytes, choiceIn, mapOf}
 
--- bytes 3 and 4: the sheet's turns; 5 and 6: the steps; 7 to 10: tally; 11 to 14: worth
+-- the bytes before the choice map
 abbrev pub boardHeader : ℕ
 boardHeader = 15
 
@@ -29,7 +29,7 @@ boardTally b = valueAt b 7 4
 abbrev pub boardWorth : List ℕ → ℕ
 boardWorth b = valueAt b 11 4
 
--- then the choice map, then four bytes a step
+-- where the steps start: behind the header and the choice map
 abbrev pub stepsPlace : ℕ → ℕ
 stepsPlace n = boardHeader + mapBytes n
 
@@ -62,7 +62,7 @@ unfoldable pub stepBytes : List Step → List ℕ
 stepBytes [] = []
 stepBytes (x ∷ xs) = (bytesOf 2 (x .turn) ++ bytesOf 2 (x .amount)) ++ stepBytes xs
 
--- what stands before the map: mark, turns and steps, then the two sums
+-- the mark, the number of turns, the number of steps
 unfoldable pub countBytes : ℕ → ℕ → List ℕ
 countBytes n m = boardMark ++ (bytesOf 2 n ++ bytesOf 2 m)
 

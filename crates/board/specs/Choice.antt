@@ -25,7 +25,7 @@ chosenIn map t = bitOf (getD map (t / 8) 0) (t % 8)
 unfoldable pub choiceIn : ℕ → List ℕ → List Bool
 choiceIn n map = tab n (chosenIn map)
 
--- a byte with bit k set, and a map with turn t chosen too
+-- a byte with bit k set
 unfoldable pub withBit : ℕ → ℕ → ℕ
 withBit x k = cond (bitOf x k) x (x + 2 ^ k)
 
@@ -33,7 +33,7 @@ withBit x k = cond (bitOf x k) x (x + 2 ^ k)
 unfoldable pub withTurn : List ℕ → ℕ → List ℕ
 withTurn map t = set map (t / 8) (withBit (getD map (t / 8) 0) (t % 8))
 
--- how many bits of a byte are 1; over all bytes of a map, how many turns it chooses
+-- how many bits of a byte are 1
 unfoldable pub onesOf : ℕ → ℕ
 onesOf x = sum (λ k. cond (bitOf x k) 1 0) (below 8)
 
@@ -46,7 +46,7 @@ onesIn (x ∷ map) = onesOf x + onesIn map
 unfoldable pub clearPast : ℕ → List ℕ → Bool
 clearPast n map = every (λ k. not (chosenIn map (n + k))) (8 * mapBytes n - n)
 
--- the map of a choice: its byte k has the bits of the turns from 8 k on
+-- byte k of the map of a choice: the bits of the turns from 8 k on
 unfoldable pub byteOf : List Bool → ℕ → ℕ
 byteOf S k = sum (λ i. cond (has S (8 * k + i)) (2 ^ i) 0) (below 8)
 

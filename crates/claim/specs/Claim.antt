@@ -12,7 +12,7 @@ use Rattle.board.specs.Board.{boardTally, boardWorth, boardChoice}
 use Rattle.audit.specs.Check.{sheetTurns, Passes, BoardKeeps}
 use Rattle.planner.specs.Plan.{plannedBoard}
 
--- the third demand, of any two strings of bytes
+-- the third demand, of any two strings of bytes; and of the second, that the planner's choice is the method's, filled up
 pub record Claim (s b : List ℕ) : Type 0 where
   -- the check passes b for s exactly if s is accepted and b keeps the rules for it
   pub exactly : Passes s b ↔ (Accepted s × BoardKeeps s b)

@@ -6,7 +6,7 @@ use Rattle.text.specs.Decimal.{decimal}
 use Rattle.model.specs.Turns.{Turns}
 use Rattle.listing.specs.Round.{roundOf}
 
--- the words, with their spaces: "groomer ", " slope ", " worth ", "worth " at the front of a line, " tally "
+-- "groomer ", with its space
 abbrev pub groomerWord : List ℕ
 groomerWord = 103 ∷ 114 ∷ 111 ∷ 111 ∷ 109 ∷ 101 ∷ 114 ∷ 32 ∷ []
 
@@ -26,7 +26,7 @@ sumWord = 119 ∷ 111 ∷ 114 ∷ 116 ∷ 104 ∷ 32 ∷ []
 abbrev pub tallyWord : List ℕ
 tallyWord = 32 ∷ 116 ∷ 97 ∷ 108 ∷ 108 ∷ 121 ∷ 32 ∷ []
 
--- what stands between start and end, and what ends a line
+-- what stands between start and end
 abbrev pub hyphen : List ℕ
 hyphen = 45 ∷ []
 
@@ -72,12 +72,12 @@ sumsLine worth tally = twoLabelled sumWord worth tallyWord tally
 unfoldable pub listingOf : ℕ → Turns → List Bool → ℕ → ℕ → List ℕ
 listingOf groomers T S worth tally = groomersFrom T S groomers 1 ++ sumsLine worth tally
 
--- ---- the one line in place of a listing where a sheet is refused: "refused "
+-- ---- the one line in place of a listing where a sheet is refused
 
 -- "refused "
 abbrev pub refusedWord : List ℕ
 refusedWord = 114 ∷ 101 ∷ 102 ∷ 117 ∷ 115 ∷ 101 ∷ 100 ∷ 32 ∷ []
 
--- the word and the number
+-- the word, the number, and the end of the line
 unfoldable pub refusedLine : ℕ → List ℕ
 refusedLine k = labelled refusedWord k ++ lineFeed

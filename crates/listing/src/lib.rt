@@ -118,7 +118,7 @@ pub fn list(s: &[u8], out: &mut [u8]) -> ListAnswer
 // The line in place of a listing where a sheet is refused; returns its bytes, of which those that
 // find a place are written.
 pub fn refused_line(out: &mut [u8], k: u8) -> usize
-    ensures { λ r. ⌜ (r ≡ length (refusedLine k)) × (r ≤ 266) × (now (out .exit) ≡ puts (now (out .entry)) 0 (refusedLine k)) ⌝ }
+    ensures { λ r. ⌜ (r ≡ length (refusedLine k)) × (r ≤ 12) × (now (out .exit) ≡ puts (now (out .entry)) 0 (refusedLine k)) ⌝ }
 {
     put_refused(&mut *out, k as u32)
 }

@@ -65,11 +65,11 @@ cursorOf s (suc i) = cursorAfter s (cursorOf s i)
 abbrev pub Outside : ℕ → ℕ → Type 0
 Outside x top = (x ≡ 0) ⊎ (top < x)
 
--- in what record i has: its map, the turn that it resolves to
+-- the map of record i
 abbrev pub recordMap : List ℕ → ℕ → ℕ
 recordMap s i = mapAt s (cursorOf s i)
 
--- and the turn that it resolves to
+-- the turn that record i resolves to
 abbrev pub turnOf : List ℕ → ℕ → Turn
 turnOf s i = turnAt s (cursorOf s i)
 
@@ -102,10 +102,10 @@ pub data LentCause (s : List ℕ) (need places : ℕ) : ℕ → ℕ → Type 0 w
 abbrev pub ReadCause : List ℕ → ℕ → ℕ → ℕ → Type 0
 ReadCause s places = LentCause s (5 * turnCount s) places
 
--- the first cause to refuse a sheet, or what the reader is given, has number k
+-- the first cause to refuse a sheet has number k
 abbrev pub FirstCause : List ℕ → ℕ → Type 0
 FirstCause s k = FirstAmong (SheetCause s) k
 
--- the first of them has number k
+-- the first cause for the reader has number k
 abbrev pub FirstReadCause : List ℕ → ℕ → ℕ → Type 0
 FirstReadCause s places k = FirstAmong (ReadCause s places) k

@@ -33,11 +33,11 @@ mostSlopes = 120
 abbrev pub mostTurns : ℕ
 mostTurns = 400
 
--- a header's counts: groomers in byte 3, slopes in byte 4, turns in bytes 5 and 6
+-- a header's counts: groomers in byte 3, slopes in byte 4
 abbrev pub countsIn : List ℕ → Counts
 countsIn s = record { groomers = valueAt s 3 1; slopes = valueAt s 4 1 }
 
--- the number of turns that the header names
+-- the number of turns that the header names, in bytes 5 and 6
 abbrev pub turnCount : List ℕ → ℕ
 turnCount s = valueAt s 5 2
 

@@ -41,7 +41,7 @@ turnFrom s at m old =
 unfoldable pub badMapFor : Bool → ℕ → Bool
 badMapFor first m = cond (ltb fullMap m) true (cond first (not (eqb m fullMap)) false)
 
--- the record at a cursor: its map, the end of its bytes, its turn, and the cursor behind it
+-- the map of the record at a cursor
 abbrev pub mapAt : List ℕ → Cursor → ℕ
 mapAt s c = getD s (c .at) 0
 

@@ -150,7 +150,7 @@ fn refused(k: u8) -> ReadAnswer
 }
 
 // Reads any bytes as a sheet into a table with places for every sheet. It is written as the records
-// are read: after a refusal it holds anything, and only its length is as before.
+// are read: after a refusal nothing is said of what it holds.
 pub fn read_table(s: &[u8], table: &mut [u16]) -> ReadAnswer
     requires { ⌜ 2000 ≤ length (now table) ⌝ }
     ensures { λ r. ⌜ (r ≡ answerOf (now (s .entry))) × (r .refusal ≡ 0 → now (table .exit) ≡ tableOf (now (s .entry)) ++ drop (length (tableOf (now (s .entry)))) (now (table .entry))) ⌝ }

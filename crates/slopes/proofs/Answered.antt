@@ -72,7 +72,7 @@ module _ (s lent : List ℕ) (room : listingBytes ≤ length lent) where
       text-left : text ≡ lent
       text-left = ap (λ (x : Written). x .lent) left
 
-      module _ {r : ℕ} {text′ : List ℕ} (n : r ≡ length (refusedLine (a .refusal))) (m : r ≤ 266) (p : text′ ≡ puts text 0 (refusedLine (a .refusal))) where
+      module _ {r : ℕ} {text′ : List ℕ} (n : r ≡ length (refusedLine (a .refusal))) (m : r ≤ 12) (p : text′ ≡ puts text 0 (refusedLine (a .refusal))) where
         pub line-fits : r ≤ length text′
         line-fits = rw p (omega (arith, puts-length (refusedLine (a .refusal)) text 0, ap length text-left))
 

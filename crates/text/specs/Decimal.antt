@@ -17,7 +17,7 @@ unfoldable pub decimalIn : ℕ → ℕ → List ℕ
 decimalIn zero x = []
 decimalIn (suc f) x = elim (ltb x 10) [ true ↦ digit x ∷ [] | false ↦ decimalIn f (x / 10) ++ (digit (x % 10) ∷ []) ]
 
--- a number has fewer places than its size, so that these are enough
+-- x has at most x + 1 places, so that these are enough
 unfoldable pub decimal : ℕ → List ℕ
 decimal x = decimalIn (suc x) x
 

@@ -9,7 +9,7 @@ use Rattle.refusal.specs.Cause.{Cause, _when_}
 use Rattle.turns.specs.declared.Turn.{Turn}
 use Rattle.turns.specs.declared.Counts.{Counts}
 
--- the minute at which every turn has ended, and the greatest worth
+-- the minute at which every turn has ended
 abbrev pub shiftMinutes : ℕ
 shiftMinutes = 960
 
