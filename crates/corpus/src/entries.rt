@@ -1,60 +1,104 @@
-// One function for each entry of the library: it makes the call and prints the case's line.
+// One function for each entry of the library: it makes the call and gives what the case's line says.
+ghost use mathlib.Core.Path.{_≡_};
+ghost use lib.ListN.{length};
+ghost use Rattle.sheet.specs.Read.{readOf};
+ghost use Rattle.writer.specs.Write.{countsOf, writeOf};
+ghost use Rattle.board.specs.Open.{openOf, stepsPart};
+ghost use Rattle.audit.specs.Check.{checkOf};
+ghost use Rattle.planner.specs.Plan.{planOf};
+ghost use Rattle.listing.specs.List.{listOf};
+ghost use Rattle.corpus.specs.Line.{countsHeld, unpacked, sumOf, writtenLine, readLine};
 use super::tools;
 
+// The values of a line behind its name: the refusal, what the entry returned, and a checksum or what
+// else ends the line.
+pub struct Line {
+    pub refusal: u8,
+    pub value: u64,
+    pub last: u32,
+}
+
+// The reader's line has three values between.
+pub struct ReadLine {
+    pub refusal: u8,
+    pub groomers: u16,
+    pub slopes: u16,
+    pub turns: u16,
+    pub last: u32,
+}
+
 // Reading a sheet into the lent table.
-pub fn read(sheet: &[u8], table: &mut [u16]) {
+pub fn read(sheet: &[u8], table: &mut [u16]) -> ReadLine
+    ensures { λ r. ⌜ (r ≡ readLine (readOf (now (sheet .entry)) (now (table .entry)))) × (now (table .exit) ≡ readOf (now (sheet .entry)) (now (table .entry)) .table) ⌝ }
+{
     let answer = sheet::read(sheet, &mut *table);
-    tools::put_name(b"read");
-    tools::put(answer.refusal as u64);
-    tools::put(answer.groomers as u64);
-    tools::put(answer.slopes as u64);
-    tools::put(answer.turns as u64);
-    tools::put_last(tools::number_sum(table));
+    ReadLine {
+        refusal: answer.refusal,
+        groomers: answer.groomers,
+        slopes: answer.slopes,
+        turns: answer.turns,
+        last: tools::number_sum(&*table),
+    }
 }
 
 // Writing the turns that stand in the input into the lent bytes, by way of the table.
-pub fn write(counts: &[u8], turns: &[u8], table: &mut [u16], bytes: &mut [u8]) {
+pub fn write(counts: &[u8], turns: &[u8], table: &mut [u16], bytes: &mut [u8]) -> Line
+    ensures { λ r. ⌜ (now (table .exit) ≡ unpacked (now (turns .entry)) (length (now (table .entry)))) × (r ≡ writtenLine (writeOf (countsOf (countsHeld (now (counts .entry)) .groomers) (countsHeld (now (counts .entry)) .slopes)) (now (table .exit)) (now (bytes .entry)))) × (now (bytes .exit) ≡ writeOf (countsOf (countsHeld (now (counts .entry)) .groomers) (countsHeld (now (counts .entry)) .slopes)) (now (table .exit)) (now (bytes .entry)) .lent) ⌝ }
+{
     let c = tools::counts_in(counts);
     tools::unpack(turns, &mut *table);
-    let answer = writer::write(c.groomers, c.slopes, table, &mut *bytes);
-    tools::put_name(b"write");
-    tools::put(answer.refusal as u64);
-    tools::put(answer.bytes as u64);
-    tools::put_last(tools::byte_sum(bytes));
+    let answer = writer::write(c.groomers, c.slopes, &*table, &mut *bytes);
+    Line {
+        refusal: answer.refusal,
+        value: answer.bytes as u64,
+        last: tools::byte_sum(&*bytes),
+    }
 }
 
 // Opening a board, and its steps: their length, and the checksum of their bytes.
-pub fn open(board: &[u8]) {
+pub fn open(board: &[u8]) -> Line
+    ensures { λ r. ⌜ r ≡ record { refusal = openOf (now (board .entry)); value = length (stepsPart (now (board .entry))); last = sumOf (stepsPart (now (board .entry))) } ⌝ }
+{
     let steps = board::steps(board);
-    tools::put_name(b"open");
-    tools::put(board::open(board) as u64);
-    tools::put(steps.len() as u64);
-    tools::put_last(tools::byte_sum(steps));
+    Line {
+        refusal: board::open(board),
+        value: steps.len() as u64,
+        last: tools::byte_sum(steps),
+    }
 }
 
 // Checking a board against a sheet: nothing is lent, and the worth ends the line.
-pub fn check(sheet: &[u8], board: &[u8]) {
+pub fn check(sheet: &[u8], board: &[u8]) -> Line
+    ensures { λ r. ⌜ r ≡ record { refusal = checkOf (now (sheet .entry)) (now (board .entry)) .refusal; value = checkOf (now (sheet .entry)) (now (board .entry)) .tally; last = checkOf (now (sheet .entry)) (now (board .entry)) .worth } ⌝ }
+{
     let answer = audit::check(sheet, board);
-    tools::put_name(b"check");
-    tools::put(answer.refusal as u64);
-    tools::put(answer.tally as u64);
-    tools::put_last(answer.worth);
+    Line {
+        refusal: answer.refusal,
+        value: answer.tally as u64,
+        last: answer.worth,
+    }
 }
 
 // Planning a sheet into the lent bytes.
-pub fn plan(sheet: &[u8], board: &mut [u8]) {
+pub fn plan(sheet: &[u8], board: &mut [u8]) -> Line
+    ensures { λ r. ⌜ (r ≡ writtenLine (planOf (now (sheet .entry)) (now (board .entry)))) × (now (board .exit) ≡ planOf (now (sheet .entry)) (now (board .entry)) .lent) ⌝ }
+{
     let answer = planner::plan(sheet, &mut *board);
-    tools::put_name(b"plan");
-    tools::put(answer.refusal as u64);
-    tools::put(answer.bytes as u64);
-    tools::put_last(tools::byte_sum(board));
+    Line {
+        refusal: answer.refusal,
+        value: answer.bytes as u64,
+        last: tools::byte_sum(&*board),
+    }
 }
 
 // Listing the plan of a sheet into the lent bytes.
-pub fn list(sheet: &[u8], text: &mut [u8]) {
+pub fn list(sheet: &[u8], text: &mut [u8]) -> Line
+    ensures { λ r. ⌜ (r ≡ writtenLine (listOf (now (sheet .entry)) (now (text .entry)))) × (now (text .exit) ≡ listOf (now (sheet .entry)) (now (text .entry)) .lent) ⌝ }
+{
     let answer = listing::list(sheet, &mut *text);
-    tools::put_name(b"list");
-    tools::put(answer.refusal as u64);
-    tools::put(answer.bytes as u64);
-    tools::put_last(tools::byte_sum(text));
+    Line {
+        refusal: answer.refusal,
+        value: answer.bytes as u64,
+        last: tools::byte_sum(&*text),
+    }
 }

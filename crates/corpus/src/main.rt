@@ -6,6 +6,9 @@
 mod entries;
 mod tools;
 
+use libc::STDIN_FILENO;
+use libc::STDOUT_FILENO;
+
 // Most bytes of a case's input, and most places of the two lent buffers.
 const MOST_INPUT: usize = 16384;
 
@@ -51,17 +54,45 @@ fn bytes_lent(entry: u8, first: u16) -> usize {
     }
 }
 
+// A value, with a space before it.
+fn put(value: u64) {
+    io::write_all(STDOUT_FILENO, b" ");
+    io::print_decimal(STDOUT_FILENO, value);
+}
+
+// A case's line: the name of the entry, then the values.
+fn print_line(name: &[u8], line: entries::Line) {
+    io::write_all(STDOUT_FILENO, name);
+    put(line.refusal as u64);
+    put(line.value);
+    put(line.last as u64);
+    io::write_all(STDOUT_FILENO, b"\n");
+}
+
+fn print_read(line: entries::ReadLine) {
+    io::write_all(STDOUT_FILENO, b"read");
+    put(line.refusal as u64);
+    put(line.groomers as u64);
+    put(line.slopes as u64);
+    put(line.turns as u64);
+    put(line.last as u64);
+    io::write_all(STDOUT_FILENO, b"\n");
+}
+
 // Runs one case, and says whether there is such an entry.
 fn run_entry(entry: u8, front: &[u8], rest: &[u8], numbers: &mut [u16], bytes: &mut [u8]) -> bool {
-    tools::fill_numbers(numbers);
-    tools::fill_bytes(bytes);
+    tools::fill_numbers(&mut *numbers);
+    tools::fill_bytes(&mut *bytes);
     match entry {
-        1 => entries::read(front, numbers),
-        2 => entries::write(front, rest, numbers, bytes),
-        3 => entries::plan(front, bytes),
-        4 => entries::open(front),
-        5 => entries::check(front, rest),
-        6 => entries::list(front, bytes),
+        1 => print_read(entries::read(front, &mut *numbers)),
+        2 => print_line(
+            b"write",
+            entries::write(front, rest, &mut *numbers, &mut *bytes),
+        ),
+        3 => print_line(b"plan", entries::plan(front, &mut *bytes)),
+        4 => print_line(b"open", entries::open(front)),
+        5 => print_line(b"check", entries::check(front, rest)),
+        6 => print_line(b"list", entries::list(front, &mut *bytes)),
         _ => {
             return false;
         }
@@ -97,18 +128,26 @@ fn run_case(
     )
 }
 
+// Fetches so many bytes of standard input to the front; false where they are not there, or do not fit.
+fn fetch(buffer: &mut [u8], count: usize) -> bool {
+    if buffer.len() < count {
+        return false;
+    }
+    io::read_full(STDIN_FILENO, &mut buffer[..count]) == count
+}
+
 // Fetches and runs the next case; false where standard input ends, or where the case does not fit.
 fn next_case() -> bool {
     let mut head = [0u8; 5];
-    let whole = tools::fetch(&mut head, 5);
+    let whole = fetch(&mut head, 5);
     if !whole {
         return false;
     }
     let entry = head[0];
-    let first = tools::word(head[1], head[2]);
-    let second = tools::word(head[3], head[4]);
+    let first = wire::word_at(&head, 1);
+    let second = wire::word_at(&head, 3);
     let mut input = [0u8; MOST_INPUT];
-    let there = tools::fetch(&mut input, input_size(entry, first, second));
+    let there = fetch(&mut input, input_size(entry, first, second));
     if !there {
         return false;
     }

@@ -1,6 +1,8 @@
-// What every entry needs: the bytes of a case, lent buffers, checksums, and the parts of a line.
-use libc::STDIN_FILENO;
-use libc::STDOUT_FILENO;
+// What every entry needs: the numbers of a case, what lent buffers hold before the call, checksums.
+ghost use mathlib.Core.Path.{_≡_};
+ghost use Prim.Native.Nat.{_+_, _*_, _≤_, _<_};
+ghost use lib.ListN.{length};
+ghost use Rattle.corpus.specs.Line.{numberOr, countsHeld, unpacked, numbersBefore, bytesBefore, mixed, sumOf};
 
 // What each place of a lent buffer holds before the call.
 const NUMBER_BEFORE: u16 = 42405;
@@ -9,64 +11,62 @@ const BYTE_BEFORE: u8 = 165;
 
 const MODULUS: u32 = 65521;
 
-// A number of two bytes, the high one first.
-pub fn word(high: u8, low: u8) -> u16 {
-    (high as u16) * 256 + low as u16
-}
-
-fn wide(x: u8) -> u16 {
-    x as u16
-}
-
-// Fetches so many bytes of standard input to the front; false where they are not there, or do not fit.
-pub fn fetch(buffer: &mut [u8], count: usize) -> bool {
-    if buffer.len() < count {
-        return false;
-    }
-    io::read_full(STDIN_FILENO, &mut buffer[..count]) == count
-}
-
 // A sheet's two counts as the writer takes them.
 pub struct Counts {
     pub groomers: u32,
     pub slopes: u32,
 }
 
-// A number of four bytes, from its two halves.
-fn long(high: u16, low: u16) -> u32 {
-    high as u32 * 65536 + low as u32
+// The number in the four bytes from a place on, 0 where they are not there.
+fn quad_or(bytes: &[u8], at: usize) -> u32
+    ensures { λ r. ⌜ r ≡ numberOr (now (bytes .entry)) at 4 ⌝ }
+{
+    if bytes.len() < 4 {
+        return 0;
+    }
+    if bytes.len() - 4 < at {
+        return 0;
+    }
+    wire::quad_at(bytes, at)
 }
 
 // The number in the two bytes from a place on, 0 where they are not there.
-fn number_at(bytes: &[u8], at: usize) -> u16 {
+fn word_or(bytes: &[u8], at: usize) -> u16
+    ensures { λ r. ⌜ r ≡ numberOr (now (bytes .entry)) at 2 ⌝ }
+{
     if bytes.len() < 2 {
         return 0;
     }
     if bytes.len() - 2 < at {
         return 0;
     }
-    let next = at + 1;
-    word(bytes[at], bytes[next])
+    wire::word_at(bytes, at)
 }
 
 // The two counts that stand in eight bytes.
-pub fn counts_in(bytes: &[u8]) -> Counts {
+pub fn counts_in(bytes: &[u8]) -> Counts
+    ensures { λ r. ⌜ r ≡ countsHeld (now (bytes .entry)) ⌝ }
+{
     Counts {
-        groomers: long(number_at(bytes, 0), number_at(bytes, 2)),
-        slopes: long(number_at(bytes, 4), number_at(bytes, 6)),
+        groomers: quad_or(bytes, 0),
+        slopes: quad_or(bytes, 4),
     }
 }
 
 // Fills the table with the numbers that stand in the bytes.
-pub fn unpack(bytes: &[u8], table: &mut [u16]) {
+pub fn unpack(bytes: &[u8], table: &mut [u16])
+    ensures { λ _. ⌜ now (table .exit) ≡ unpacked (now (bytes .entry)) (length (now (table .entry))) ⌝ }
+{
     let mut i = 0;
     while i < table.len() {
-        table[i] = number_at(bytes, 2 * i);
+        table[i] = word_or(bytes, 2 * i);
         i += 1;
     }
 }
 
-pub fn fill_numbers(table: &mut [u16]) {
+pub fn fill_numbers(table: &mut [u16])
+    ensures { λ _. ⌜ now (table .exit) ≡ numbersBefore (length (now (table .entry))) ⌝ }
+{
     let mut i = 0;
     while i < table.len() {
         table[i] = NUMBER_BEFORE;
@@ -74,7 +74,9 @@ pub fn fill_numbers(table: &mut [u16]) {
     }
 }
 
-pub fn fill_bytes(bytes: &mut [u8]) {
+pub fn fill_bytes(bytes: &mut [u8])
+    ensures { λ _. ⌜ now (bytes .exit) ≡ bytesBefore (length (now (bytes .entry))) ⌝ }
+{
     let mut i = 0;
     while i < bytes.len() {
         bytes[i] = BYTE_BEFORE;
@@ -83,43 +85,45 @@ pub fn fill_bytes(bytes: &mut [u8]) {
 }
 
 // The checksum with one more value.
-fn mix(sum: u32, value: u16) -> u32 {
-    (sum % MODULUS * 31 + value as u32) % MODULUS
+fn mix(sum: u32, value: u32) -> u32
+    requires { ⌜ value < 65536 ⌝ }
+    ensures { λ r. ⌜ r ≡ mixed sum value ⌝ }
+{
+    (sum % MODULUS * 31 + value) % MODULUS
 }
 
-pub fn number_sum(table: &[u16]) -> u32 {
+pub fn number_sum(table: &[u16]) -> u32
+    ensures { λ r. ⌜ r ≡ sumOf (now (table .entry)) ⌝ }
+{
     let mut sum: u32 = 1;
     let mut i = 0;
     while i < table.len() {
-        sum = mix(sum, table[i]);
+        sum = mix(sum, wide_number(table[i]));
         i += 1;
     }
     sum
 }
 
-pub fn byte_sum(bytes: &[u8]) -> u32 {
+pub fn byte_sum(bytes: &[u8]) -> u32
+    ensures { λ r. ⌜ r ≡ sumOf (now (bytes .entry)) ⌝ }
+{
     let mut sum: u32 = 1;
     let mut i = 0;
     while i < bytes.len() {
-        sum = mix(sum, wide(bytes[i]));
+        sum = mix(sum, wide_byte(bytes[i]));
         i += 1;
     }
     sum
 }
 
-// The name of the entry, which starts the line.
-pub fn put_name(name: &[u8]) {
-    io::write_all(STDOUT_FILENO, name);
+fn wide_number(x: u16) -> u32
+    ensures { λ r. ⌜ (r ≡ x) × (r < 65536) ⌝ }
+{
+    x as u32
 }
 
-// A value, with a space before it.
-pub fn put(value: u64) {
-    io::write_all(STDOUT_FILENO, b" ");
-    io::print_decimal(STDOUT_FILENO, value);
-}
-
-// The last value, often a checksum, which ends the line.
-pub fn put_last(value: u32) {
-    put(value as u64);
-    io::write_all(STDOUT_FILENO, b"\n");
+fn wide_byte(x: u8) -> u32
+    ensures { λ r. ⌜ (r ≡ x) × (r < 65536) ⌝ }
+{
+    x as u32
 }

@@ -1,39 +1,44 @@
--- `corpus::tools::number_sum` is safe and ends: the place stays within the table.
-use Prim.Native.Nat.{_≤_, _-_}
-use lib.ListN.{length}
 use borrow.Author.Needs.{needs}
+use Rattle.corpus.proofs.LineCases.{sum-cases}
+use Prim.Native.Nat.{_-_, _≤_}
+use mathlib.Core.Path.{_≡_}
+use lib.ListN.{length, drop}
+use Rattle.corpus.specs.Line.{sumFrom, sumOf}
 use Rattle.corpus.proofs.tools.number_sum.Statement.{statement}
 use Rattle.corpus.proofs.tools.number_sum.Tie as tie
 
 abbrev Inv-loop : tie.InvT-loop
-Inv-loop table sum₀ i₀ sum i = i ≤ length table
+Inv-loop table sum₀ i₀ sum i = (i ≤ length table) × (sumFrom sum (drop i table) ≡ sumOf table)
 
 abbrev μ-loop : tie.MeasureT-loop
 μ-loop table sum₀ i₀ sum i = length table - i
 
 loop-holds : tie.Need-loop-holds Inv-loop μ-loop
-loop-holds c = search needs
+loop-holds c = search (needs, sum-cases)
 
-mul-mix : tie.Need-mul-mix Inv-loop μ-loop
-mul-mix c = search needs
+mul-wide-number : tie.Need-mul-wide-number Inv-loop μ-loop
+mul-wide-number c = search (needs, sum-cases)
 
-shared-slice-read-mix : tie.Need-shared-slice-read-mix Inv-loop μ-loop
-shared-slice-read-mix c = search needs
+shared-slice-read-wide-number : tie.Need-shared-slice-read-wide-number Inv-loop μ-loop
+shared-slice-read-wide-number c = search (needs, sum-cases)
+
+wide-number-requires : tie.Need-wide-number-requires Inv-loop μ-loop
+wide-number-requires c κs = search (needs, sum-cases)
 
 mix-requires : tie.Need-mix-requires Inv-loop μ-loop
-mix-requires c κs = search needs
+mix-requires c κs = search (needs, sum-cases)
 
 add-i : tie.Need-add-i Inv-loop μ-loop
-add-i c = search needs
+add-i c = search (needs, sum-cases)
 
 loop-less : tie.Need-loop-less Inv-loop μ-loop
-loop-less c = search needs
+loop-less c = search (needs, sum-cases)
 
 loop-again : tie.Need-loop-again Inv-loop μ-loop
-loop-again c = search needs
+loop-again c = search (needs, sum-cases)
 
 returns : tie.Need-returns Inv-loop μ-loop
-returns c = search needs
+returns c = search (needs, sum-cases)
 
 pub number-sum-spec : {M : Type 1} → statement M
 number-sum-spec =
@@ -42,8 +47,9 @@ number-sum-spec =
     Inv-loop
     μ-loop
     loop-holds
-    mul-mix
-    shared-slice-read-mix
+    mul-wide-number
+    shared-slice-read-wide-number
+    wide-number-requires
     mix-requires
     add-i
     loop-less

@@ -1,10 +1,9 @@
--- `corpus::tools::fetch` is safe: the part that is read into is within the buffer.
-use mathlib.Core.Path.{sym}
 use native.Mathlib.Omega.{arith}
 use lib.Seq.{length-take-le}
+use mathlib.Core.Path.{sym}
 use borrow.Author.Needs.{needs}
-use Rattle.corpus.proofs.tools.fetch.Statement.{statement}
-use Rattle.corpus.proofs.tools.fetch.Tie as tie
+use Rattle.corpus.proofs.fetch.Statement.{statement}
+use Rattle.corpus.proofs.fetch.Tie as tie
 
 returns : tie.Need-returns
 returns c = search needs

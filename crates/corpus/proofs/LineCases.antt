@@ -1,0 +1,173 @@
+-- The test program's values by their cases, each premise in the form in which the code's calls and tests leave it. Assumes nothing.
+use Prim.Native.Nat.{ℕ, zero, suc, _+_, _-_, _*_, _%_, _<_, _≤_}
+use mathlib.Core.Path.{_≡_, refl, sym, _∙_, ap}
+use mathlib.Core.List.{List, [], _∷_, _++_, append-nil, append-assoc}
+use native.Mathlib.Omega.{arith}
+use native.Mathlib.Numerals.{add-one}
+use lib.ListN.{length, getD, set, drop}
+use lib.Seq.{drop-cons, drop-length}
+use borrow.Author.Tests.{lt-ltb, le-ltb}
+use Rattle.wire.specs.Number.{valueAt}
+use Rattle.model.specs.Lists.{tab}
+use Rattle.model.proofs.Sums.{tab-length}
+use Rattle.refusal.specs.Written.{Written}
+use Rattle.sheet.specs.declared.reader.ReadAnswer.{ReadAnswer}
+use Rattle.sheet.specs.Read.{Outcome, outcome, readOf}
+use Rattle.writer.specs.Write.{countsOf, writeOf}
+use Rattle.board.specs.Open.{openOf, stepsPart}
+use Rattle.audit.specs.declared.judge.CheckAnswer.{CheckAnswer}
+use Rattle.audit.specs.Check.{checkOf}
+use Rattle.corpus.specs.declared.tools.Counts.{Counts}
+use Rattle.corpus.specs.declared.entries.Line.{Line}
+use Rattle.corpus.specs.declared.entries.ReadLine.{ReadLine}
+use Rattle.corpus.specs.Line.{numberOr, countsHeld, unpacked, numbersBefore, bytesBefore, mixed, sumFrom, sumOf, writtenLine, readLine}
+
+-- ---- a number that may not be there
+
+module _ (bytes : List ℕ) (at k : ℕ) where
+  pub number-none : length bytes < k → 0 ≡ numberOr bytes at k
+  unfolding numberOr
+  number-none h = rw (lt-ltb (length bytes) (at + k) (omega arith))
+
+  pub number-late : k ≤ length bytes → length bytes - k < at → 0 ≡ numberOr bytes at k
+  unfolding numberOr
+  number-late h l = rw (lt-ltb (length bytes) (at + k) (omega arith))
+
+  pub number-there : {r : ℕ} → k ≤ length bytes → at ≤ length bytes - k → r ≡ valueAt bytes at k → r ≡ numberOr bytes at k
+  unfolding numberOr
+  number-there h l e = rw (le-ltb (length bytes) (at + k) (omega arith)) e
+
+pub ruleset number-cases = (number-none, number-late, number-there)
+
+-- ---- a buffer that is filled place by place
+
+tab-more : (i : ℕ) (f : ℕ → ℕ) → tab (suc i) f ≡ tab i f ++ (f i ∷ [])
+unfolding tab
+tab-more zero f = refl
+tab-more (suc i) f = ap (λ l. f 0 ∷ l) (tab-more i (λ k. f (suc k)))
+
+set-behind : (xs l : List ℕ) (a : ℕ) → set (xs ++ l) (length xs) a ≡ xs ++ set l 0 a
+set-behind [] l a = refl
+set-behind (x ∷ xs) l a = ap (λ m. x ∷ m) (set-behind xs l a)
+
+module _ (f : ℕ → ℕ) (l : List ℕ) (i : ℕ) where
+  fill-more : i < length l → set (tab i f ++ drop i l) i (f i) ≡ tab (i + 1) f ++ drop (i + 1) l
+  fill-more h =
+      let next : drop i l ≡ getD l i 0 ∷ drop (i + 1) l = rw add-one (drop-cons l i 0 h) in
+      let placed : set (tab i f ++ drop i l) i (f i) ≡ tab i f ++ set (drop i l) 0 (f i) = rw (tab-length i f) at (set-behind (tab i f) (drop i l) (f i)) in
+      let more : tab (i + 1) f ≡ tab i f ++ (f i ∷ []) = rw add-one (tab-more i f) in
+      placed ∙ ap (λ (r : List ℕ). tab i f ++ set r 0 (f i)) next ∙ sym (rw more (append-assoc (tab i f) (f i ∷ []) (drop (i + 1) l)))
+
+  fill-done : length l ≤ i → i ≤ length l → tab i f ++ drop i l ≡ tab (length l) f
+  fill-done h k = let q : i ≡ length l = omega arith in rw (q, drop-length l) (append-nil (tab (length l) f))
+
+-- the three of them; the buffer's length stays
+module _ (l : List ℕ) (i : ℕ) (t : List ℕ) (m : length t ≡ length l) where
+  inside : i < length t → i < length l
+  inside h = omega arith
+
+  module _ (h : i < length t) where
+    pub unpack-more : (bytes : List ℕ) {v : ℕ} → t ≡ unpacked bytes i ++ drop i l → v ≡ numberOr bytes (2 * i) 2 → set t i v ≡ unpacked bytes (i + 1) ++ drop (i + 1) l
+    unfolding unpacked
+    unpack-more bytes e v = rw (e, v) (fill-more (λ k. numberOr bytes (2 * k) 2) l i (inside h))
+
+    pub numbers-more : t ≡ numbersBefore i ++ drop i l → set t i 42405 ≡ numbersBefore (i + 1) ++ drop (i + 1) l
+    unfolding numbersBefore
+    numbers-more e = rw e (fill-more (λ k. 42405) l i (inside h))
+
+    pub bytes-more : t ≡ bytesBefore i ++ drop i l → set t i 165 ≡ bytesBefore (i + 1) ++ drop (i + 1) l
+    unfolding bytesBefore
+    bytes-more e = rw e (fill-more (λ k. 165) l i (inside h))
+
+  module _ (h : length t ≤ i) (k : i ≤ length l) where
+    over : length l ≤ i
+    over = omega arith
+
+    pub unpack-done : (bytes : List ℕ) → t ≡ unpacked bytes i ++ drop i l → t ≡ unpacked bytes (length l)
+    unfolding unpacked
+    unpack-done bytes e = e ∙ fill-done (λ j. numberOr bytes (2 * j) 2) l i over k
+
+    pub numbers-done : t ≡ numbersBefore i ++ drop i l → t ≡ numbersBefore (length l)
+    unfolding numbersBefore
+    numbers-done e = e ∙ fill-done (λ j. 42405) l i over k
+
+    pub bytes-done : t ≡ bytesBefore i ++ drop i l → t ≡ bytesBefore (length l)
+    unfolding bytesBefore
+    bytes-done e = e ∙ fill-done (λ j. 165) l i over k
+
+pub unpack-start : (bytes l : List ℕ) → l ≡ unpacked bytes 0 ++ drop 0 l
+unfolding unpacked tab
+unpack-start bytes l = refl
+
+pub numbers-start : (l : List ℕ) → l ≡ numbersBefore 0 ++ drop 0 l
+unfolding numbersBefore tab
+numbers-start l = refl
+
+pub bytes-start : (l : List ℕ) → l ≡ bytesBefore 0 ++ drop 0 l
+unfolding bytesBefore tab
+bytes-start l = refl
+
+pub ruleset fill-cases = (unpack-start, unpack-more, unpack-done, numbers-start, numbers-more, numbers-done, bytes-start, bytes-more, bytes-done)
+
+-- ---- checksums
+
+pub mix-is : (sum value : ℕ) → (sum % 65521 * 31 + value) % 65521 ≡ mixed sum value
+unfolding mixed
+mix-is sum value = refl
+
+module _ (vs : List ℕ) where
+  pub sum-start : sumFrom 1 (drop 0 vs) ≡ sumOf vs
+  unfolding sumOf
+  sum-start = refl
+
+  pub sum-more : (i sum : ℕ) {v sum′ z : ℕ} → i < length vs → sumFrom sum (drop i vs) ≡ z → v ≡ getD vs i 0 → sum′ ≡ mixed sum v → sumFrom sum′ (drop (i + 1) vs) ≡ z
+  unfolding sumFrom
+  sum-more i sum h e v s = rw (s, v) (sym (rw (drop-cons vs i 0 h, add-one)) ∙ e)
+
+  pub sum-done : (i sum : ℕ) {z : ℕ} → length vs ≤ i → i ≤ length vs → sumFrom sum (drop i vs) ≡ z → sum ≡ z
+  unfolding sumFrom
+  sum-done i sum h k e = let q : i ≡ length vs = omega arith in rw (q, drop-length vs) at e
+
+pub ruleset sum-cases = (sum-start, sum-more, sum-done)
+
+-- ---- what a line says
+
+pub counts-are : (bytes : List ℕ) {a b : ℕ} → a ≡ numberOr bytes 0 4 → b ≡ numberOr bytes 4 4 → _≡_ {A = Counts} (record { groomers = a; slopes = b }) (countsHeld bytes)
+unfolding countsHeld
+counts-are bytes e f = rw (e, f)
+
+module _ (w : Written) {a b : ℕ} {l : List ℕ} (e : _≡_ {A = Written} (record { refusal = a; bytes = b; lent = l }) w) where
+  pub line-is : {sum : ℕ} → sum ≡ sumOf l → _≡_ {A = Line} (record { refusal = a; value = b; last = sum }) (writtenLine w)
+  unfolding writtenLine
+  line-is s = rw (s, ← e)
+
+  pub lent-is : l ≡ w .lent
+  lent-is = ap (λ (x : Written). x .lent) e
+
+module _ (s lent : List ℕ) {a : ReadAnswer} {t : List ℕ} (e : outcome a t ≡ readOf s lent) where
+  pub read-line : {sum : ℕ} → sum ≡ sumOf t → _≡_ {A = ReadLine} (record { refusal = a .refusal; groomers = a .groomers; slopes = a .slopes; turns = a .turns; last = sum }) (readLine (readOf s lent))
+  unfolding readLine
+  read-line f = rw (f, ← e)
+
+  pub read-table : t ≡ readOf s lent .table
+  read-table = ap (λ (o : Outcome). o .table) e
+
+pub open-line : (b : List ℕ) {r sum : ℕ} {steps : List ℕ} → r ≡ openOf b → steps ≡ stepsPart b → sum ≡ sumOf steps → _≡_ {A = Line} (record { refusal = r; value = length steps; last = sum }) (record { refusal = openOf b; value = length (stepsPart b); last = sumOf (stepsPart b) })
+open-line b e f g = rw (e, g, f)
+
+pub check-line : (s b : List ℕ) {a : CheckAnswer} → a ≡ checkOf s b → _≡_ {A = Line} (record { refusal = a .refusal; value = a .tally; last = a .worth }) (record { refusal = checkOf s b .refusal; value = checkOf s b .tally; last = checkOf s b .worth })
+check-line s b e = rw e
+
+module _ (counts table lent : List ℕ) {c : Counts} (f : c ≡ countsHeld counts) {a b : ℕ} {l : List ℕ} (e : _≡_ {A = Written} (record { refusal = a; bytes = b; lent = l }) (writeOf (countsOf (c .groomers) (c .slopes)) table lent)) where
+  same : _≡_ {A = Written} (record { refusal = a; bytes = b; lent = l }) (writeOf (countsOf (countsHeld counts .groomers) (countsHeld counts .slopes)) table lent)
+  same = rw f at e
+
+  pub write-line : {sum : ℕ} → sum ≡ sumOf l → _≡_ {A = Line} (record { refusal = a; value = b; last = sum }) (writtenLine (writeOf (countsOf (countsHeld counts .groomers) (countsHeld counts .slopes)) table lent))
+  write-line s = line-is (writeOf (countsOf (countsHeld counts .groomers) (countsHeld counts .slopes)) table lent) same s
+
+  pub write-lent : l ≡ writeOf (countsOf (countsHeld counts .groomers) (countsHeld counts .slopes)) table lent .lent
+  write-lent = lent-is (writeOf (countsOf (countsHeld counts .groomers) (countsHeld counts .slopes)) table lent) same
+
+pub ruleset write-cases = (write-line, write-lent)
+
+pub ruleset line-cases = (counts-are, line-is, lent-is, read-line, read-table, open-line, check-line)

@@ -1,0 +1,52 @@
+-- The lines of the test program: what a case holds, what is lent, and what the line says of the call. Assumes nothing.
+use Prim.Native.Nat.{ℕ, _+_, _*_, _%_}
+use mathlib.Core.Bool.{cond}
+use mathlib.Core.List.{List, [], _∷_}
+use lib.ListN.{length}
+use lib.Dec.{ltb}
+use Rattle.wire.specs.Number.{valueAt}
+use Rattle.model.specs.Lists.{tab}
+use Rattle.refusal.specs.Written.{Written}
+use Rattle.sheet.specs.Read.{Outcome}
+use Rattle.corpus.specs.declared.tools.Counts.{Counts}
+use Rattle.corpus.specs.declared.entries.Line.{Line}
+use Rattle.corpus.specs.declared.entries.ReadLine.{ReadLine}
+
+-- the number in the k bytes from a place on, 0 where they are not all there
+unfoldable pub numberOr : List ℕ → ℕ → ℕ → ℕ
+numberOr bytes at k = cond (ltb (length bytes) (at + k)) 0 (valueAt bytes at k)
+
+-- the writer's two counts, four bytes each
+unfoldable pub countsHeld : List ℕ → Counts
+countsHeld bytes = record { groomers = numberOr bytes 0 4; slopes = numberOr bytes 4 4 }
+
+-- as many numbers of two bytes as a table has places
+unfoldable pub unpacked : List ℕ → ℕ → List ℕ
+unpacked bytes places = tab places (λ i. numberOr bytes (2 * i) 2)
+
+-- what each lent place holds before a call: A5A5, and A5
+unfoldable pub numbersBefore : ℕ → List ℕ
+numbersBefore places = tab places (λ i. 42405)
+
+unfoldable pub bytesBefore : ℕ → List ℕ
+bytesBefore places = tab places (λ i. 165)
+
+-- a checksum with one more value
+unfoldable pub mixed : ℕ → ℕ → ℕ
+mixed sum value = (sum % 65521 * 31 + value) % 65521
+
+-- the checksum of what is lent, after a sum so far
+unfoldable pub sumFrom : ℕ → List ℕ → ℕ
+sumFrom sum [] = sum
+sumFrom sum (v ∷ vs) = sumFrom (mixed sum v) vs
+
+unfoldable pub sumOf : List ℕ → ℕ
+sumOf vs = sumFrom 1 vs
+
+-- the line of an entry that writes bytes: the refusal, the bytes written, the checksum of what was lent
+unfoldable pub writtenLine : Written → Line
+writtenLine w = record { refusal = w .refusal; value = w .bytes; last = sumOf (w .lent) }
+
+-- the reader's line: the refusal, the counts, the checksum of the lent table
+unfoldable pub readLine : Outcome → ReadLine
+readLine o = record { refusal = o .answer .refusal; groomers = o .answer .groomers; slopes = o .answer .slopes; turns = o .answer .turns; last = sumOf (o .table) }
