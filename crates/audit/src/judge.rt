@@ -14,8 +14,6 @@ ghost use Rattle.audit.specs.Check.{choiceCauses, ruleCauses, sumCauses,
 use super::replay::steps_fault;
 use super::replay::tally_of;
 
-const HEADER_BYTES: usize = 15;
-
 // What the check returns: a refusal, 0 if none, and the board's tally and worth, 0 on a refusal.
 #[repr(C)]
 pub struct CheckAnswer {
@@ -106,7 +104,13 @@ fn board_fault(b: &[u8], table: &[u16], n: u16) -> u8
         return refusal::MALFORMED_BOARD;
     }
     let place = board::steps_place(n);
-    parts_fault(b, &b[HEADER_BYTES..place], &b[place..], table, n as usize)
+    parts_fault(
+        b,
+        &b[board::HEADER_BYTES..place],
+        &b[place..],
+        table,
+        n as usize,
+    )
 }
 
 fn refused(k: u8) -> CheckAnswer

@@ -7,6 +7,7 @@ pub use choice::add_turn;
 pub use choice::count_chosen;
 pub use choice::is_chosen;
 pub use choice::next_chosen;
+pub use opening::HEADER_BYTES;
 pub use opening::open;
 pub use opening::steps;
 pub use opening::steps_place;

@@ -20,7 +20,7 @@ use Rattle.audit.specs.Check.{checkOf}
 use Rattle.corpus.specs.declared.tools.Counts.{Counts}
 use Rattle.corpus.specs.declared.entries.Line.{Line}
 use Rattle.corpus.specs.declared.entries.ReadLine.{ReadLine}
-use Rattle.corpus.specs.Line.{numberOr, countsHeld, unpacked, numbersBefore, bytesBefore, mixed, sumFrom, sumOf, writtenLine, readLine}
+use Rattle.corpus.specs.Line.{numberOr, countsHeld, unpacked, heldBefore, mixed, sumFrom, sumOf, writtenLine, readLine}
 
 -- ---- a number that may not be there
 
@@ -61,7 +61,7 @@ module _ (f : ℕ → ℕ) (l : List ℕ) (i : ℕ) where
   fill-done : length l ≤ i → i ≤ length l → tab i f ++ drop i l ≡ tab (length l) f
   fill-done h k = let q : i ≡ length l = omega arith in rw (q, drop-length l) (append-nil (tab (length l) f))
 
--- the three of them; the buffer's length stays
+-- the buffer's length stays
 module _ (l : List ℕ) (i : ℕ) (t : List ℕ) (m : length t ≡ length l) where
   inside : i < length t → i < length l
   inside h = omega arith
@@ -71,13 +71,9 @@ module _ (l : List ℕ) (i : ℕ) (t : List ℕ) (m : length t ≡ length l) whe
     unfolding unpacked
     unpack-more bytes e v = rw (e, v) (fill-more (λ k. numberOr bytes (2 * k) 2) l i (inside h))
 
-    pub numbers-more : t ≡ numbersBefore i ++ drop i l → set t i 42405 ≡ numbersBefore (i + 1) ++ drop (i + 1) l
-    unfolding numbersBefore
-    numbers-more e = rw e (fill-more (λ k. 42405) l i (inside h))
-
-    pub bytes-more : t ≡ bytesBefore i ++ drop i l → set t i 165 ≡ bytesBefore (i + 1) ++ drop (i + 1) l
-    unfolding bytesBefore
-    bytes-more e = rw e (fill-more (λ k. 165) l i (inside h))
+    pub before-more : (value : ℕ) → t ≡ heldBefore value i ++ drop i l → set t i value ≡ heldBefore value (i + 1) ++ drop (i + 1) l
+    unfolding heldBefore
+    before-more value e = rw e (fill-more (λ k. value) l i (inside h))
 
   module _ (h : length t ≤ i) (k : i ≤ length l) where
     over : length l ≤ i
@@ -87,27 +83,19 @@ module _ (l : List ℕ) (i : ℕ) (t : List ℕ) (m : length t ≡ length l) whe
     unfolding unpacked
     unpack-done bytes e = e ∙ fill-done (λ j. numberOr bytes (2 * j) 2) l i over k
 
-    pub numbers-done : t ≡ numbersBefore i ++ drop i l → t ≡ numbersBefore (length l)
-    unfolding numbersBefore
-    numbers-done e = e ∙ fill-done (λ j. 42405) l i over k
-
-    pub bytes-done : t ≡ bytesBefore i ++ drop i l → t ≡ bytesBefore (length l)
-    unfolding bytesBefore
-    bytes-done e = e ∙ fill-done (λ j. 165) l i over k
+    pub before-done : (value : ℕ) → t ≡ heldBefore value i ++ drop i l → t ≡ heldBefore value (length l)
+    unfolding heldBefore
+    before-done value e = e ∙ fill-done (λ j. value) l i over k
 
 pub unpack-start : (bytes l : List ℕ) → l ≡ unpacked bytes 0 ++ drop 0 l
 unfolding unpacked tab
 unpack-start bytes l = refl
 
-pub numbers-start : (l : List ℕ) → l ≡ numbersBefore 0 ++ drop 0 l
-unfolding numbersBefore tab
-numbers-start l = refl
+pub before-start : (value : ℕ) (l : List ℕ) → l ≡ heldBefore value 0 ++ drop 0 l
+unfolding heldBefore tab
+before-start value l = refl
 
-pub bytes-start : (l : List ℕ) → l ≡ bytesBefore 0 ++ drop 0 l
-unfolding bytesBefore tab
-bytes-start l = refl
-
-pub ruleset fill-cases = (unpack-start, unpack-more, unpack-done, numbers-start, numbers-more, numbers-done, bytes-start, bytes-more, bytes-done)
+pub ruleset fill-cases = (unpack-start, unpack-more, unpack-done, before-start, before-more, before-done)
 
 -- ---- checksums
 

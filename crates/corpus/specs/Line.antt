@@ -24,12 +24,16 @@ countsHeld bytes = record { groomers = numberOr bytes 0 4; slopes = numberOr byt
 unfoldable pub unpacked : List ℕ → ℕ → List ℕ
 unpacked bytes places = tab places (λ i. numberOr bytes (2 * i) 2)
 
--- what each lent place holds before a call: A5A5, and A5
-unfoldable pub numbersBefore : ℕ → List ℕ
-numbersBefore places = tab places (λ i. 42405)
+-- what so many lent places hold before a call: the same value in each
+unfoldable pub heldBefore : ℕ → ℕ → List ℕ
+heldBefore value places = tab places (λ i. value)
 
-unfoldable pub bytesBefore : ℕ → List ℕ
-bytesBefore places = tab places (λ i. 165)
+-- A5A5 for numbers, A5 for bytes
+abbrev pub numberBefore : ℕ
+numberBefore = 42405
+
+abbrev pub byteBefore : ℕ
+byteBefore = 165
 
 -- a checksum with one more value
 unfoldable pub mixed : ℕ → ℕ → ℕ

@@ -2,7 +2,7 @@
 ghost use mathlib.Core.Path.{_≡_};
 ghost use Prim.Native.Nat.{_+_, _*_, _≤_, _<_};
 ghost use lib.ListN.{length};
-ghost use Rattle.corpus.specs.Line.{numberOr, countsHeld, unpacked, numbersBefore, bytesBefore, mixed, sumOf};
+ghost use Rattle.corpus.specs.Line.{numberOr, countsHeld, unpacked, heldBefore, numberBefore, byteBefore, mixed, sumOf};
 
 // What each place of a lent buffer holds before the call.
 const NUMBER_BEFORE: u16 = 42405;
@@ -65,7 +65,7 @@ pub fn unpack(bytes: &[u8], table: &mut [u16])
 }
 
 pub fn fill_numbers(table: &mut [u16])
-    ensures { λ _. ⌜ now (table .exit) ≡ numbersBefore (length (now (table .entry))) ⌝ }
+    ensures { λ _. ⌜ now (table .exit) ≡ heldBefore numberBefore (length (now (table .entry))) ⌝ }
 {
     let mut i = 0;
     while i < table.len() {
@@ -75,7 +75,7 @@ pub fn fill_numbers(table: &mut [u16])
 }
 
 pub fn fill_bytes(bytes: &mut [u8])
-    ensures { λ _. ⌜ now (bytes .exit) ≡ bytesBefore (length (now (bytes .entry))) ⌝ }
+    ensures { λ _. ⌜ now (bytes .exit) ≡ heldBefore byteBefore (length (now (bytes .entry))) ⌝ }
 {
     let mut i = 0;
     while i < bytes.len() {

@@ -18,8 +18,6 @@ ghost use Rattle.listing.specs.Answer.{listed, refusedWith, textAnswer};
 use lines::put_refused;
 use parts::put_listing;
 
-const BOARD_HEADER: usize = 15;
-
 // Places for every listing.
 const LISTING_BYTES: usize = 3806;
 
@@ -77,7 +75,7 @@ fn list_board(table: &[u16], n: u16, groomers: u16, b: &[u8], out: &mut [u8]) ->
         table,
         n as usize,
         groomers,
-        &b[BOARD_HEADER..place],
+        &b[board::HEADER_BYTES..place],
         worth,
         tally,
         &mut *out,

@@ -4,12 +4,12 @@ use Prim.Native.Nat.{_-_, _≤_}
 use mathlib.Core.Path.{_≡_}
 use mathlib.Core.List.{_++_}
 use lib.ListN.{length, drop}
-use Rattle.corpus.specs.Line.{bytesBefore}
+use Rattle.corpus.specs.Line.{heldBefore, byteBefore}
 use Rattle.corpus.proofs.tools.fill_bytes.Statement.{statement}
 use Rattle.corpus.proofs.tools.fill_bytes.Tie as tie
 
 abbrev Inv-loop : tie.InvT-loop
-Inv-loop bytes₀ i₀ bytes i = (i ≤ length bytes₀) × (length bytes ≡ length bytes₀) × (bytes ≡ bytesBefore i ++ drop i bytes₀)
+Inv-loop bytes₀ i₀ bytes i = (i ≤ length bytes₀) × (length bytes ≡ length bytes₀) × (bytes ≡ heldBefore byteBefore i ++ drop i bytes₀)
 
 abbrev μ-loop : tie.MeasureT-loop
 μ-loop bytes₀ i₀ bytes i = length bytes₀ - i
