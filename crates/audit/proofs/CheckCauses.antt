@@ -12,10 +12,10 @@ use Rattle.refusal.specs.Cause.{firstOf, There, here, later}
 use Rattle.refusal.proofs.Order.{first-stops, first-goes, none-given}
 use Rattle.model.specs.Turns.{Turns, conflict, PositiveLengths}
 use Rattle.model.specs.Steps.{isOpen, initial, afterSteps, tally}
-use Rattle.model.specs.Lists.{every}
+use Rattle.lists.specs.Lists.{every}
 use Rattle.model.specs.Choice.{has, chosen, fits}
 use Rattle.model.specs.Rules.{independent, maximal, noneOpen, sums}
-use Rattle.model.proofs.Bools.{and-1, and-2, or-cases, or-false-1, or-false-2, not-both, every-not}
+use Rattle.lists.proofs.Bools.{and-1, and-2, or-cases, or-false-1, or-false-2, not-both, every-not}
 use Rattle.model.proofs.Minutes.{conflict-is}
 use Rattle.model.proofs.Filled.{fits-apart}
 use Rattle.model.proofs.Readings.{independent-is, maximal-is, allRight-is, noneOpen-is, sums-is}

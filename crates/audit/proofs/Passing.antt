@@ -16,7 +16,7 @@ use Rattle.model.specs.Turns.{Turns, turnsIn, PositiveLengths}
 use Rattle.model.specs.Steps.{initial, afterSteps}
 use Rattle.model.specs.Rules.{independent, maximal, allRight, noneOpen, sums}
 use Rattle.model.specs.Promises.{Promises}
-use Rattle.model.proofs.Bools.{or-false-1, or-false-2, every-at, every-of}
+use Rattle.lists.proofs.Bools.{or-false-1, or-false-2, every-at, every-of}
 use Rattle.model.proofs.Readings.{keeps-is}
 use Rattle.model.proofs.Promised.{keeps-promises}
 use Rattle.sheet.specs.Read.{turnCount, sheetCauses}

@@ -12,7 +12,7 @@ use lib.ListN.{length, getD}
 use Rattle.refusal.specs.Number.{wrongStep, turnLeftOpen}
 use Rattle.refusal.specs.Cause.{firstOf}
 use Rattle.wire.specs.Number.{valueAt}
-use Rattle.model.specs.Lists.{tab}
+use Rattle.lists.specs.Lists.{tab}
 use Rattle.model.specs.Turns.{Turns, turnsIn}
 use Rattle.model.specs.Steps.{Step, residual, part, left, initial, afterStep, afterSteps, tally}
 use Rattle.model.specs.Rules.{Right, right, allRight, noneOpen}

@@ -10,8 +10,8 @@ use lib.Dec.{T, eqb, leb, ltb, eqb→eq, leb→le}
 use lib.Bits.{bitOr}
 use lib.ListN.{length, getD}
 use lib.Count as count
-use Rattle.model.specs.Lists.{sum, below, tab}
-use Rattle.model.proofs.Sums.{tab-length, tab-at}
+use Rattle.lists.specs.Lists.{sum, below, tab}
+use Rattle.lists.proofs.Sums.{tab-length, tab-at}
 use Rattle.board.specs.Choice.{bitOf, withBit, onesOf, lowAmong}
 
 -- f at every number below n

@@ -11,10 +11,10 @@ use lib.Seq.{getD-set-same, getD-set-other, ext-getD}
 use borrow.Author.Tests.{eq-eqb, ne-eqb}
 use Rattle.wire.specs.Number.{Bytes, none, more}
 use Rattle.wire.proofs.Numbers.{byte-below}
-use Rattle.model.specs.Lists.{tab}
+use Rattle.lists.specs.Lists.{tab}
 use Rattle.model.specs.Choice.{has}
-use Rattle.model.proofs.Bools.{every-at, every-of}
-use Rattle.model.proofs.Sums.{sum-same, tab-length, tab-at}
+use Rattle.lists.proofs.Bools.{every-at, every-of}
+use Rattle.lists.proofs.Sums.{sum-same, tab-length, tab-at}
 use Rattle.board.specs.Choice.{bitOf, mapBytes, chosenIn, choiceIn, withBit, withTurn, clearPast, byteOf, mapOf, Clean}
 use Rattle.board.proofs.Bytes as byte
 

@@ -6,10 +6,10 @@ use mathlib.Core.List.{List, [], _∷_}
 use native.Mathlib.Omega.{arith}
 use lib.ListN.{length}
 use borrow.Author.Tests.{not-true}
-use Rattle.model.specs.Lists.{sum, below}
+use Rattle.lists.specs.Lists.{sum, below}
 use Rattle.model.specs.Choice.{has, chosen}
-use Rattle.model.proofs.Bools.{every-at}
-use Rattle.model.proofs.Sums.{sum-same, sum-split, sum-zero, all-below}
+use Rattle.lists.proofs.Bools.{every-at}
+use Rattle.lists.proofs.Sums.{sum-same, sum-split, sum-zero, all-below}
 use Rattle.board.specs.Choice.{bitOf, mapBytes, chosenIn, choiceIn, onesOf, onesIn, clearPast}
 use Rattle.board.proofs.Clean.{choice-has}
 

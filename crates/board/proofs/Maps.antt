@@ -7,8 +7,8 @@ use native.Mathlib.Omega.{arith}
 use native.Mathlib.Numerals.{add-one}
 use lib.ListN.{length, getD, set, drop}
 use lib.Seq.{drop-cons, drop-length}
-use Rattle.model.specs.Lists.{every}
-use Rattle.model.proofs.Bools.{every-fails}
+use Rattle.lists.specs.Lists.{every}
+use Rattle.lists.proofs.Bools.{every-fails}
 use Rattle.board.specs.Choice.{bitOf, withBit, mapBytes, chosenIn, withTurn, onesOf, onesIn, clearPast}
 
 module _ (map : List ℕ) (t : ℕ) where

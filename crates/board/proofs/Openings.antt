@@ -11,7 +11,7 @@ use Rattle.refusal.specs.Number.{malformedBoard}
 use Rattle.refusal.specs.Cause.{firstOf}
 use Rattle.wire.specs.Number.{valueAt}
 use Rattle.wire.specs.Mark.{boardMark, opensWith}
-use Rattle.model.proofs.Bools.{or-false-1, or-false-2}
+use Rattle.lists.proofs.Bools.{or-false-1, or-false-2}
 use Rattle.board.specs.Choice.{mapBytes, clearPast}
 use Rattle.board.specs.Board.{boardHeader, boardTurns, boardSteps, stepsPlace, boardLength, boardMap}
 use Rattle.board.specs.Open.{badSizes, malformed, openOf, stepsPart}

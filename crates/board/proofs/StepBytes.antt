@@ -9,9 +9,9 @@ use lib.Seq.{getD-drop}
 use Rattle.wire.specs.Number.{bytesOf, valueOf, bytesAt, valueAt, puts, Bytes}
 use Rattle.wire.proofs.Numbers.{value-front}
 use Rattle.wire.proofs.Puts.{puts-append}
-use Rattle.model.specs.Lists.{tab}
+use Rattle.lists.specs.Lists.{tab}
 use Rattle.model.specs.Steps.{Step, tally}
-use Rattle.model.proofs.Sums.{tab-length, tab-at, tab-same}
+use Rattle.lists.proofs.Sums.{tab-length, tab-at, tab-same}
 use Rattle.board.specs.Board.{stepAt, stepsIn, stepBytes}
 
 -- steps whose numbers fit two bytes

@@ -5,7 +5,7 @@ use mathlib.Core.Bool.{Bool}
 use lib.ListN.{length, take, drop}
 use Rattle.wire.specs.Number.{bytesOf, valueAt}
 use Rattle.wire.specs.Mark.{boardMark}
-use Rattle.model.specs.Lists.{tab}
+use Rattle.lists.specs.Lists.{tab}
 use Rattle.model.specs.Steps.{Step}
 use Rattle.board.specs.Choice.{mapBytes, choiceIn, mapOf}
 

@@ -6,7 +6,7 @@ use mathlib.Core.Bool.{Bool, true, false, not, cond}
 use lib.ListN.{length, getD, set}
 use lib.Dec.{eqb}
 use Rattle.wire.specs.Number.{Bytes}
-use Rattle.model.specs.Lists.{every, tab, sum, below}
+use Rattle.lists.specs.Lists.{every, tab, sum, below}
 use Rattle.model.specs.Choice.{has}
 
 -- bit k of a byte, bit 0 the lowest

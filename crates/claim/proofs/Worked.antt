@@ -12,7 +12,7 @@ use Rattle.sheet.specs.Record.{field, turnFrom, badMapFor, endAt, turnAt, curso
 use Rattle.sheet.specs.Read.{countCauses, headerCauses, recordsCauses, turnsFrom, rows, sheetCauses, turnsOf, tableOf, readCauses, readOf, outcome, refusedWith}
 use Rattle.sheet.specs.Layout.{recordOf}
 use Rattle.writer.specs.Write.{mapFor, recordsOf, sheetOf, turnsOfTable, turnsCauses, tableCauses, writeCauses, writeOf}
-use Rattle.model.specs.Lists.{every, tab}
+use Rattle.lists.specs.Lists.{every, tab}
 use Rattle.model.specs.Turns.{turnsIn, gap, overlap, bySlope, byGroomer, conflict}
 use Rattle.model.specs.Steps.{isOpen, left, initial, reduced, change, afterStep, afterSteps, tally}
 use Rattle.model.specs.Pick.{sooner, better, best, pick, nextStep, plan, steps}

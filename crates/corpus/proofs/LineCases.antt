@@ -8,8 +8,8 @@ use lib.ListN.{length, getD, set, drop}
 use lib.Seq.{drop-cons, drop-length}
 use borrow.Author.Tests.{lt-ltb, le-ltb}
 use Rattle.wire.specs.Number.{valueAt}
-use Rattle.model.specs.Lists.{tab}
-use Rattle.model.proofs.Sums.{tab-length}
+use Rattle.lists.specs.Lists.{tab}
+use Rattle.lists.proofs.Sums.{tab-length}
 use Rattle.refusal.specs.Written.{Written}
 use Rattle.sheet.specs.declared.reader.ReadAnswer.{ReadAnswer}
 use Rattle.sheet.specs.Read.{Outcome, outcome, readOf}

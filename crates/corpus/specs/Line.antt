@@ -5,7 +5,7 @@ use mathlib.Core.List.{List, [], _∷_}
 use lib.ListN.{length}
 use lib.Dec.{ltb}
 use Rattle.wire.specs.Number.{valueAt}
-use Rattle.model.specs.Lists.{tab}
+use Rattle.lists.specs.Lists.{tab}
 use Rattle.refusal.specs.Written.{Written}
 use Rattle.sheet.specs.Read.{Outcome}
 use Rattle.corpus.specs.declared.tools.Counts.{Counts}

@@ -8,7 +8,7 @@ use lib.ListN.{length, length-append}
 use Rattle.text.specs.Decimal.{decimal}
 use Rattle.text.proofs.Width.{decimal-width}
 use Rattle.refusal.specs.Cause.{firstOf}
-use Rattle.model.specs.Lists.{sum, below}
+use Rattle.lists.specs.Lists.{sum, below}
 use Rattle.model.specs.Turns.{Turns, turnsIn, PositiveLengths}
 use Rattle.model.specs.Steps.{tally}
 use Rattle.model.specs.Pick.{steps}

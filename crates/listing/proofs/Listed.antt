@@ -7,7 +7,7 @@ use native.Mathlib.Omega.{arith}
 use lib.ListN.{length}
 use Rattle.refusal.specs.Cause.{There, firstOf}
 use Rattle.refusal.proofs.Written.{number-first}
-use Rattle.model.specs.Lists.{sum, below}
+use Rattle.lists.specs.Lists.{sum, below}
 use Rattle.model.specs.Turns.{Turns, turnsIn, PositiveLengths}
 use Rattle.model.specs.Choice.{choice}
 use Rattle.model.specs.Pick.{steps}

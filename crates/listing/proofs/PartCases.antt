@@ -10,10 +10,10 @@ use lib.ListN.{length, getD, replicate, length-replicate, List·getD-eq-default}
 use borrow.Author.Tests.{eqb-true}
 use Rattle.wire.specs.Number.{puts}
 use Rattle.text.specs.Place.{lastPlace}
-use Rattle.model.specs.Lists.{tab}
+use Rattle.lists.specs.Lists.{tab}
 use Rattle.model.specs.Turns.{Turns, turnsIn}
 use Rattle.model.specs.Choice.{has}
-use Rattle.model.proofs.Sums.{tab-length, tab-at, tab-same}
+use Rattle.lists.proofs.Sums.{tab-length, tab-at, tab-same}
 use Rattle.board.specs.Choice.{choiceIn}
 use Rattle.board.proofs.Clean.{zeros-at, zeros-clean}
 use Rattle.rows.proofs.Turns.{count-is}

@@ -9,13 +9,13 @@ use native.Mathlib.Decide.{ℕ-discrete}
 use lib.Dec.{eqb}
 use lib.ListN.{length, length-append}
 use borrow.Author.Tests.{eq-eqb, eqb-true}
-use Rattle.model.specs.Lists.{sum, below, All, none, more}
+use Rattle.lists.specs.Lists.{sum, below, All, none, more}
 use Rattle.model.specs.Turns.{Turns, PositiveLengths, same-groomer}
 use Rattle.model.specs.Choice.{has, chosen}
 use Rattle.model.specs.Rules.{Independent}
 use Rattle.model.specs.Feasible.{Distinct, empty, other}
-use Rattle.model.proofs.Bools.{fails, not-apart, and-1, and-2, and-of}
-use Rattle.model.proofs.Sums.{sum-add, sum-zero, sum-same, sum-swap, sum-hit, all-of, all-map}
+use Rattle.lists.proofs.Bools.{fails, not-apart, and-1, and-2, and-of}
+use Rattle.lists.proofs.Sums.{sum-add, sum-zero, sum-same, sum-swap, sum-hit, all-of, all-map}
 use Rattle.board.specs.Choice.{onesIn, mapOf}
 use Rattle.board.proofs.Clean.{map-choice, map-clean}
 use Rattle.board.proofs.Counts.{ones-turns}

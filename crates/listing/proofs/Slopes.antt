@@ -6,12 +6,12 @@ use mathlib.Core.List.{List}
 use native.Mathlib.Omega.{arith}
 use lib.Dec.{eqb}
 use borrow.Author.Tests.{eqb-true}
-use Rattle.model.specs.Lists.{sum, below}
+use Rattle.lists.specs.Lists.{sum, below}
 use Rattle.model.specs.Turns.{Turns, same-slope}
 use Rattle.model.specs.Choice.{has, chosen}
 use Rattle.model.specs.Rules.{Independent}
-use Rattle.model.proofs.Bools.{not-apart, and-1, and-2}
-use Rattle.model.proofs.Sums.{sum-mono, sum-swap, sum-ones, sum-hit, at-most-one, all-of, all-below}
+use Rattle.lists.proofs.Bools.{not-apart, and-1, and-2}
+use Rattle.lists.proofs.Sums.{sum-mono, sum-swap, sum-ones, sum-hit, at-most-one, all-of, all-below}
 
 -- ---- the chosen turns, slope by slope: the slopes are numbered from 1
 

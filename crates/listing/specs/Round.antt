@@ -6,7 +6,7 @@ use mathlib.Core.Bool.{Bool, true, cond, _&&_}
 use mathlib.Core.List.{List, [], _∷_, _++_}
 use lib.Dec.{eqb}
 pub use Rattle.turns.specs.Turn.{shiftMinutes}
-use Rattle.model.specs.Lists.{All}
+use Rattle.lists.specs.Lists.{All}
 use Rattle.model.specs.Turns.{Turns}
 use Rattle.model.specs.Choice.{has}
 

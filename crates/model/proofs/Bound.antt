@@ -7,13 +7,13 @@ use Prim.Native.Nat.{ℕ, _*_, _≤_, _<_}
 use native.Mathlib.Omega.{arith}
 use lib.IntN.{ℤ}
 use lib.ListN.{length}
-use Rattle.model.specs.Lists.{sum, All, none, more}
+use Rattle.lists.specs.Lists.{sum, All, none, more}
 use Rattle.model.specs.Turns.{Turns, PositiveLengths, bySlope, byGroomer, conflict, Conflict}
 use Rattle.model.specs.Steps.{Step, left, initial, touches, taken, afterStep, afterSteps, final, total, tally}
 use Rattle.model.specs.Rules.{Right}
 use Rattle.model.specs.Feasible.{Distinct, Feasible, worthOf, OneTurnASlope}
-use Rattle.model.proofs.Bools.{and-1, and-2}
-use Rattle.model.proofs.Sums.{sum-mono, sum-zero, all-of, all-map, all-tail}
+use Rattle.lists.proofs.Bools.{and-1, and-2}
+use Rattle.lists.proofs.Sums.{sum-mono, sum-zero, all-of, all-map, all-tail}
 use Rattle.model.proofs.Account.{each-map, Covers, upper}
 use Rattle.model.proofs.Groups.{Apart, empty, other, held, Clique, Cliques, groups}
 use Rattle.model.proofs.Conflicts

@@ -10,10 +10,10 @@ use lib.Dec.{eqb}
 use lib.ListN.{length, set, replicate, length-set}
 use lib.Seq.{getD-set-same, getD-set-other}
 use borrow.Author.Tests.{eqb-true}
-use Rattle.model.specs.Lists.{below}
+use Rattle.lists.specs.Lists.{below}
 use Rattle.model.specs.Choice.{has, chosen, choose, back, fill}
-use Rattle.model.proofs.Bools.{not-both, up-to}
-use Rattle.model.proofs.Sums.{sum-add, sum-mono, sum-point, sum-room, all-of, all-below}
+use Rattle.lists.proofs.Bools.{not-both, up-to}
+use Rattle.lists.proofs.Sums.{sum-add, sum-mono, sum-point, sum-room, all-of, all-below}
 
 -- ---- one turn more
 

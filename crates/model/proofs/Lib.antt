@@ -1,5 +1,3 @@
-pub mod Bools
-pub mod Sums
 pub mod Account
 pub mod Groups
 pub mod Conflicts

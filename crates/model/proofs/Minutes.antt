@@ -5,7 +5,7 @@ use mathlib.Core.Bool.{true, false}
 use Prim.Native.Nat.{ℕ, _<_, max}
 use native.Mathlib.Omega.{arith}
 use Rattle.model.specs.Turns.{Turns, PositiveLengths, gap, overlap, conflict, Holds, Conflict, same-slope, same-groomer}
-use Rattle.model.proofs.Bools.{not-both, fails}
+use Rattle.lists.proofs.Bools.{not-both, fails}
 use Rattle.model.proofs.Conflicts
 
 module _ (T : Turns) where

@@ -15,7 +15,7 @@ use Rattle.model.specs.Choice.{has, fits, choose, fill, goBack, choice}
 use Rattle.model.specs.Pick.{pick, nextStep, plan, steps, Picked}
 use Rattle.model.specs.Rules.{Independent, Right}
 use Rattle.model.specs.IntervalSelection.{neighbour, w₁, w₂, AllPositive, EndsFirst, IS, line1, line3, line9, line11, Selects}
-use Rattle.model.proofs.Bools.{not-both, fails, up-to}
+use Rattle.lists.proofs.Bools.{not-both, fails, up-to}
 use Rattle.model.proofs.Choices.{put-keeps, choose-cases, choose-set, choose-not}
 use Rattle.model.proofs.Filled.{apart-fits, put-apart, goBack-apart, goBack-length, goBack-earns, goBack-none, goBack-goes}
 use Rattle.model.proofs.Picks.{pick-picked, picked-pick, pick-count, pick-none, nextStep-right}

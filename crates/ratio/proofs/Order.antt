@@ -9,7 +9,7 @@ use lib.IntN.{ℤ}
 use lib.ListN.{getD}
 use lib.Dec.{ltb, eqb}
 use borrow.Author.Tests.{eq-eqb, ne-eqb, lt-ltb, le-ltb}
-use Rattle.model.specs.Lists.{every}
+use Rattle.lists.specs.Lists.{every}
 use Rattle.model.specs.Turns.{Turns, turnsIn}
 use Rattle.model.specs.Steps.{isOpen, left}
 use Rattle.model.specs.Rules.{noEarlier, right}

@@ -4,7 +4,7 @@ use mathlib.Core.Path.{_≡_, sym}
 use mathlib.Core.Bool.{Bool, true}
 use native.Mathlib.Omega.{arith}
 use native.Mathlib.Numerals.{add-one}
-use Rattle.model.specs.Lists.{every}
+use Rattle.lists.specs.Lists.{every}
 
 module _ (p : ℕ → Bool) (t : ℕ) where
   pub every-more : p t ≡ true → every p t ≡ true → every p (t + 1) ≡ true

@@ -6,7 +6,7 @@ use mathlib.Core.List.{List, [], _∷_, _++_}
 use native.Mathlib.Omega.{arith}
 use native.Mathlib.Decide.{decLt}
 use lib.ListN.{length, getD, length-append}
-use Rattle.model.specs.Lists.{All, none, more}
+use Rattle.lists.specs.Lists.{All, none, more}
 use Rattle.text.specs.Decimal.{digit, decimal, numberFrom, Spells}
 use Rattle.text.proofs.Digits.{decimal-one, decimal-more}
 

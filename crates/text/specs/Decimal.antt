@@ -6,7 +6,7 @@ use mathlib.Core.Bool.{true, false}
 use mathlib.Core.List.{List, [], _∷_, _++_}
 use lib.Dec.{ltb}
 use lib.ListN.{length, getD}
-use Rattle.model.specs.Lists.{All}
+use Rattle.lists.specs.Lists.{All}
 
 -- digit d as a character: those of the digits follow each other
 abbrev pub digit : ℕ → ℕ

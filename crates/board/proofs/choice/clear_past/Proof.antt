@@ -1,6 +1,6 @@
 use Rattle.board.proofs.Maps.{clear-more, clear-cases}
 use Rattle.board.specs.Choice.{chosenIn}
-use Rattle.model.specs.Lists.{every}
+use Rattle.lists.specs.Lists.{every}
 use lib.ListN.{length}
 use mathlib.Core.Bool.{true, not}
 use mathlib.Core.Path.{_≡_}

@@ -8,8 +8,8 @@ use native.Mathlib.Decide.{ℕ-discrete}
 use lib.Dec.{eqb}
 use lib.ListN.{length, getD, set}
 use borrow.Author.Tests.{eq-eqb, ne-eqb}
-use Rattle.model.specs.Lists.{sum, below, tab, All, none, more}
-use Rattle.model.proofs.Bools.{fails}
+use Rattle.lists.specs.Lists.{sum, below, tab, All, none, more}
+use Rattle.lists.proofs.Bools.{fails}
 
 pub sum-add : (f g : ℕ → ℕ) (ts : List ℕ) → sum (λ t. f t + g t) ts ≡ sum f ts + sum g ts
 sum-add f g [] = refl
