@@ -1,27 +1,36 @@
 -- The claim holds. That s is a string of bytes is used only where acceptance is meant in words: of lists of any numbers the promises hold as well. Assumes nothing.
-use mathlib.Core.Path.{_≡_, refl, sym, _∙_}
+use mathlib.Core.Path.{_≡_, refl, sym, ap, _∙_}
 use mathlib.Core.Logic.{_↔_}
+use mathlib.Core.Bool.{Bool}
 use mathlib.Core.List.{List}
+use lib.ListN.{length, take, drop}
+use lib.Seq.{take-append-seam}
 use Prim.Native.Nat.{ℕ}
 use Rattle.refusal.specs.Cause.{firstOf}
+use Rattle.refusal.specs.Written.{wrote}
+use Rattle.refusal.proofs.Order.{clear-append}
+use Rattle.refusal.proofs.Written.{wrote-all}
 use Rattle.wire.specs.Number.{Bytes}
 use Rattle.model.specs.Turns.{Turns, turnsIn}
-use Rattle.model.specs.Steps.{tally}
+use Rattle.model.specs.Steps.{Step, tally}
 use Rattle.model.specs.Pick.{steps}
 use Rattle.model.specs.Choice.{chosen, choice, goBack}
 use Rattle.model.specs.Rules.{KeepsRules}
+use Rattle.model.specs.IntervalSelection.{Selects}
 use Rattle.model.proofs.Promised.{planned-keeps}
-use Rattle.model.proofs.Selection.{selection-exists, selection-filled}
+use Rattle.model.proofs.Selection.{selection-exists, selection-unique, selection-filled}
 use Rattle.sheet.specs.Read.{turnCount, tableOf, sheetCauses}
 use Rattle.sheet.specs.Accepted.{Accepted}
-use Rattle.sheet.proofs.Accepting.{accepted-iff}
+use Rattle.sheet.proofs.Readings.{sheet-numbered}
+use Rattle.sheet.proofs.Accepting.{sheet-reads, accepted-iff}
 use Rattle.board.specs.Board.{boardTurns, boardSteps, boardTally, boardWorth, boardChoice, writtenSteps}
 use Rattle.board.specs.Open.{WellFormed}
 use Rattle.audit.specs.Check.{sheetTurns, Passes, BoardKeeps, checkOf, checked}
 use Rattle.audit.proofs.Passing.{sheet-lengths, formed-board, parts-pass, passes-iff, passes-answer, passes-promises}
-use Rattle.planner.specs.Plan.{plannedBoard}
+use Rattle.planner.specs.Plan.{planCauses, plannedBoard, planOf}
+use Rattle.planner.proofs.PlanCauses.{plan-number}
 use Rattle.planner.proofs.Answers.{planned-back}
-use Rattle.claim.specs.Claim.{Claim}
+use Rattle.claim.specs.Claim.{ByMethod, Claim}
 
 -- ---- the planner's board of a sheet that is not refused
 
@@ -42,14 +51,49 @@ module _ (s : List ℕ) (e : firstOf (sheetCauses s) ≡ 0) where
   pub planned-answer : checkOf s (plannedBoard s) ≡ checked 0 (tally (steps (sheetTurns s))) (chosen (sheetTurns s .count) (choice (sheetTurns s)) (sheetTurns s .worth))
   planned-answer = let r = planned-back s e in passes-answer s (plannedBoard s) planned-passes ∙ rw (r .tallied, r .worth)
 
+-- ---- what a plan that is not refused has
+
+module _ (s lent : List ℕ) (z : planOf s lent .refusal ≡ 0) where
+  plan-fine : firstOf (planCauses s (length lent)) ≡ 0
+  plan-fine = sym (plan-number s lent) ∙ z
+
+  pub plan-accepted : firstOf (sheetCauses s) ≡ 0
+  unfolding planCauses
+  plan-accepted = clear-append (sheetCauses s) _ (sheet-numbered s) plan-fine .0
+
+  pub plan-wrote : planOf s lent ≡ wrote (plannedBoard s) lent
+  unfolding planOf
+  plan-wrote = wrote-all (planCauses s (length lent)) (plannedBoard s) lent plan-fine
+
+  -- the first so many of the lent bytes are the board
+  pub plan-front : take (planOf s lent .bytes) (planOf s lent .lent) ≡ plannedBoard s
+  plan-front = rw plan-wrote (take-append-seam (plannedBoard s) (drop (length (plannedBoard s)) lent))
+
+-- ---- the method
+
+module _ (s : List ℕ) (e : firstOf (sheetCauses s) ≡ 0) where
+  made : {S : List Bool} {xs : List Step} → Selects (sheetTurns s) S xs → ByMethod s S xs
+  made d =
+      let r = planned-back s e in
+      let u = selection-unique (sheetTurns s) (sheet-lengths s e) d in
+      record {
+        choice = r .chosen-turns ∙ selection-filled (sheetTurns s) (sheet-lengths s e) d;
+        steps = r .step-list ∙ sym (u .1);
+        tally-is = r .tallied ∙ ap tally (sym (u .1));
+        worth-is = planned-rules s e .worth-is;
+      }
+
 -- ---- the claim
 
 pub claim : (s b : List ℕ) → Bytes s → Claim s b
 claim s b y =
     record {
+      reading = λ a. let r = sheet-reads s (a .counts) (a .turns) (a .sheet) in record { counts = r .1; turns = r .2; count = r .3 };
       exactly = passes-iff s b y;
+      answers = passes-answer s b;
       ours = λ a. planned-passes s (accepted-iff y .1 a);
-      method-returns = λ a. (goBack (sheetTurns s) (steps (sheetTurns s)), selection-exists (sheetTurns s) (sheet-lengths s (accepted-iff y .1 a)));
-      method = λ a S sel. planned-back s (accepted-iff y .1 a) .chosen-turns ∙ selection-filled (sheetTurns s) (sheet-lengths s (accepted-iff y .1 a)) sel;
+      writes = λ lent z. rw (plan-front s lent z) (planned-passes s (plan-accepted s lent z));
+      method-returns = λ a. (goBack (sheetTurns s) (steps (sheetTurns s)), steps (sheetTurns s), selection-exists (sheetTurns s) (sheet-lengths s (accepted-iff y .1 a)));
+      method = λ a S xs d. made s (accepted-iff y .1 a) d;
       promises = passes-promises s b;
     }

@@ -21,21 +21,7 @@ use Rattle.planner.specs.Plan.{planCauses, plannedBoard, planOf}
 use Rattle.planner.specs.Answer.{planned}
 use Rattle.planner.proofs.PlanCauses.{plan-number}
 use Rattle.claim.specs.Confirm.{Confirmation, confirmed, plannedSums, confirmOf}
-use Rattle.claim.proofs.Claimed.{planned-answer}
-
--- ---- what a plan that is not refused has
-
-module _ (s lent : List ℕ) (z : planOf s lent .refusal ≡ 0) where
-  no-cause : firstOf (planCauses s (length lent)) ≡ 0
-  no-cause = sym (plan-number s lent) ∙ z
-
-  accepted : firstOf (sheetCauses s) ≡ 0
-  unfolding planCauses
-  accepted = clear-append (sheetCauses s) _ (sheet-numbered s) no-cause .0
-
-  planned-is : planOf s lent ≡ wrote (plannedBoard s) lent
-  unfolding planOf
-  planned-is = wrote-all (planCauses s (length lent)) (plannedBoard s) lent no-cause
+use Rattle.claim.proofs.Claimed.{planned-answer, plan-accepted, plan-wrote}
 
 module _ (s lent out : List ℕ) (a : PlanAnswer) (e : planned a out ≡ planOf s lent) where
   number : planOf s lent .refusal ≡ a .refusal
@@ -50,7 +36,7 @@ module _ (s lent out : List ℕ) (a : PlanAnswer) (e : planned a out ≡ planOf 
     fine = number ∙ z
 
     same : planned a out ≡ wrote (plannedBoard s) lent
-    same = e ∙ planned-is s lent fine
+    same = e ∙ plan-wrote s lent fine
 
     bytes-are : a .bytes ≡ length (plannedBoard s)
     bytes-are = ap (λ (p : Written). p .bytes) same
@@ -66,4 +52,4 @@ module _ (s lent out : List ℕ) (a : PlanAnswer) (e : planned a out ≡ planOf 
 
     pub confirm-done : {c : CheckAnswer} → c ≡ checkOf s (take (a .bytes) out) → confirmed (record { plan = a; check = c }) out ≡ confirmOf s lent
     unfolding confirmOf
-    confirm-done g = rw (e, fine, rw board-is at g, planned-answer s (accepted s lent fine))
+    confirm-done g = rw (e, fine, rw board-is at g, planned-answer s (plan-accepted s lent fine))

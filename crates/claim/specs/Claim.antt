@@ -3,23 +3,48 @@ use mathlib.Core.Path.{_≡_}
 use mathlib.Core.Logic.{_↔_}
 use mathlib.Core.Bool.{Bool}
 use mathlib.Core.List.{List}
+use lib.ListN.{length, take}
 use Prim.Native.Nat.{ℕ}
-use Rattle.model.specs.Choice.{fits, fill}
+use Rattle.model.specs.Steps.{Step, tally}
+use Rattle.model.specs.Choice.{chosen, fits, fill}
 use Rattle.model.specs.Promises.{Promises}
 use Rattle.model.specs.IntervalSelection.{Selects}
+use Rattle.sheet.specs.Read.{countsIn, turnCount, turnsOf}
 use Rattle.sheet.specs.Accepted.{Accepted}
-use Rattle.board.specs.Board.{boardTally, boardWorth, boardChoice}
-use Rattle.audit.specs.Check.{sheetTurns, Passes, BoardKeeps}
-use Rattle.planner.specs.Plan.{plannedBoard}
+use Rattle.board.specs.Board.{boardTally, boardWorth, boardChoice, writtenSteps}
+use Rattle.audit.specs.Check.{sheetTurns, Passes, BoardKeeps, checkOf, checked}
+use Rattle.planner.specs.Plan.{plannedBoard, planOf}
 
--- the third demand, of any two strings of bytes; and of the second, that the planner's choice is the method's, filled up
+-- what is read of s, and so what every set of its turns is made of, is what the reading a in words has
+pub record ReadsAs (s : List ℕ) (a : Accepted s) : Type 0 where
+  pub counts : countsIn s ≡ a .counts
+  pub turns : turnsOf s ≡ a .turns
+  pub count : turnCount s ≡ length (a .turns)
+
+-- the planner's board of s is that of a run of the published algorithm that returns S and makes the steps xs
+pub record ByMethod (s : List ℕ) (S : List Bool) (xs : List Step) : Type 0 where
+  -- its choice is S, filled up
+  pub choice : boardChoice (plannedBoard s) ≡ fill (fits (sheetTurns s)) (sheetTurns s .count) S
+  -- its steps are xs, and its tally is their sum
+  pub steps : writtenSteps (plannedBoard s) ≡ xs
+  pub tally-is : boardTally (plannedBoard s) ≡ tally xs
+  -- its worth is that of its choice
+  pub worth-is : boardWorth (plannedBoard s) ≡ chosen (sheetTurns s .count) (boardChoice (plannedBoard s)) (sheetTurns s .worth)
+
+-- the third demand, of any two strings of bytes; and of the second, that the planner's board is the method's, filled up
 pub record Claim (s b : List ℕ) : Type 0 where
+  -- the turns and counts that are read of an accepted sheet are those of its reading in words
+  pub reading : (a : Accepted s) → ReadsAs s a
   -- the check passes b for s exactly if s is accepted and b keeps the rules for it
   pub exactly : Passes s b ↔ (Accepted s × BoardKeeps s b)
+  -- and its answer is then the board's own tally and worth
+  pub answers : Passes s b → checkOf s b ≡ checked 0 (boardTally b) (boardWorth b)
   -- the planner's board of an accepted sheet passes
   pub ours : Accepted s → Passes s (plannedBoard s)
-  -- the published algorithm returns a choice, and whatever it returns, the planner's choice is that one filled up
-  pub method-returns : Accepted s → (S : List Bool) × Selects (sheetTurns s) S
-  pub method : Accepted s → (S : List Bool) → Selects (sheetTurns s) S → boardChoice (plannedBoard s) ≡ fill (fits (sheetTurns s)) (sheetTurns s .count) S
+  -- so does what the planner writes: in whatever bytes it is lent, where it refuses nothing, the first so many are a board that passes
+  pub writes : (lent : List ℕ) → planOf s lent .refusal ≡ 0 → Passes s (take (planOf s lent .bytes) (planOf s lent .lent))
+  -- the published algorithm returns a choice and makes steps, and whatever these are, the planner's board is theirs
+  pub method-returns : Accepted s → (S : List Bool) × (xs : List Step) × Selects (sheetTurns s) S xs
+  pub method : Accepted s → (S : List Bool) (xs : List Step) → Selects (sheetTurns s) S xs → ByMethod s S xs
   -- whenever b passes, whoever made it, it binds every feasible set of the sheet's turns
   pub promises : Passes s b → Promises (sheetTurns s) (boardChoice b) (boardTally b) (boardWorth b)

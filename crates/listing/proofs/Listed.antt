@@ -6,13 +6,17 @@ use mathlib.Core.Logic.{_↔_}
 use native.Mathlib.Omega.{arith}
 use lib.ListN.{length}
 use Rattle.refusal.specs.Cause.{There, firstOf}
-use Rattle.refusal.proofs.Written.{number-first}
+use Rattle.refusal.proofs.Written.{number-first, enough-iff}
+use Rattle.wire.specs.Number.{Bytes}
 use Rattle.lists.specs.Lists.{sum, below}
 use Rattle.model.specs.Turns.{Turns, turnsIn, PositiveLengths}
 use Rattle.model.specs.Choice.{choice}
 use Rattle.model.specs.Pick.{steps}
 use Rattle.model.proofs.Promised.{planned-keeps}
 use Rattle.sheet.specs.Read.{countsIn, turnCount, tableOf, sheetCauses}
+use Rattle.sheet.specs.Accepted.{Accepted}
+use Rattle.sheet.proofs.Readings.{sheet-numbered}
+use Rattle.sheet.proofs.Accepting.{accepted-iff}
 use Rattle.sheet.proofs.Causes.{first-same}
 use Rattle.sheet.proofs.ReadCauses.{lent-causes-iff}
 use Rattle.sheet.proofs.Unrefused.{few-turns, row-in-range, rows-bounded}
@@ -77,3 +81,11 @@ pub list-refused-iff : (s lent : List ℕ) (k : ℕ) → (k ≡ 0 → ⊥) → (
 list-refused-iff s lent k z =
     let same = first-same (listCauses s (length lent)) (ListCause s (length lent)) (list-causes-iff s (length lent)) k z in
     (λ e. same .0 (sym (list-number s lent) ∙ e), λ f. list-number s lent ∙ same .1 f)
+
+-- the listing refuses nothing just if the sheet is accepted and the lent bytes hold this very listing
+pub list-accepted-iff : {s : List ℕ} → Bytes s → (lent : List ℕ) → (listOf s lent .refusal ≡ 0) ↔ (Accepted s × (length (sheetListing s) ≤ length lent))
+unfolding listCauses
+list-accepted-iff {s} b lent =
+    let e = enough-iff (sheetCauses s) (length lent) (length (sheetListing s)) (sheet-numbered s) in
+    let a = accepted-iff b in
+    (λ z. let h = e .0 (sym (list-number s lent) ∙ z) in (a .0 (h .0), h .1), λ h. list-number s lent ∙ e .1 (a .1 (h .0), h .1))

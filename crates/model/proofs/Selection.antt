@@ -1,4 +1,4 @@
--- Algorithm IS (5.2.1, with the machines of 5.2.4) returns what going back over the planner's steps chooses: some derivation does, and so does every one, in whatever order spent intervals are removed. Assumes nothing.
+-- Algorithm IS (5.2.1, with the machines of 5.2.4) makes the planner's steps and returns what going back over them chooses: some derivation does, and so does every one, in whatever order spent intervals are removed. Assumes nothing.
 use mathlib.Core.Path.{_≡_, refl, sym, ap, _∙_}
 use mathlib.Core.Logic.{_≢_, _↔_}
 use mathlib.Core.List.{List, [], _∷_}
@@ -10,7 +10,7 @@ use lib.IntN.{ℤ, pos, _-ℤ_, +ℤ-idr}
 use lib.ListN.{set, replicate, getD-replicate}
 use lib.Seq.{getD-set-same, getD-set-other}
 use Rattle.model.specs.Turns.{Turns, PositiveLengths, bySlope, byGroomer, conflict}
-use Rattle.model.specs.Steps.{Step, residual, above, isOpen, left, initial, afterStep}
+use Rattle.model.specs.Steps.{Step, residual, above, part, isOpen, left, initial, afterStep}
 use Rattle.model.specs.Choice.{has, fits, choose, fill, goBack, choice}
 use Rattle.model.specs.Pick.{pick, nextStep, plan, steps, Picked}
 use Rattle.model.specs.Rules.{Independent, Right}
@@ -38,6 +38,10 @@ stays A i t e = go (ℕ-discrete t i)
     go : Dec (t ≡ i) → (t ≢ i) × (has A t ≡ true)
     go (yes q) = absurd (not-both (ap (has (set A i false)) (sym q) ∙ e) (removed A i))
     go (no q) = (q, sym (getD-set-other A i t false false q) ∙ e)
+
+-- the number of a weight that is one
+pos-same : {a b : ℕ} → pos a ≡ pos b → a ≡ b
+pos-same e = ap part e
 
 -- ---- the intervals and weights of a call, and the residuals of the steps
 
@@ -99,18 +103,19 @@ module _ (T : Turns) where
           earliest = λ t l m d. p .earliest t l (member-open t l m ∙ h t l m) d;
         }
 
+    -- the weight of J is the step's amount
+    weight : (x : Step) → Right T s x → w (x .turn) ≡ pos (x .amount)
+    weight x q = a .same (x .turn) (q .inside) (open-member (x .turn) (q .inside) (q .live)) ∙ Residuals.open-residual s (x .turn) (q .live) ∙ ap pos (sym (q .owed))
+
     -- line 6 does what the step does
     splitting : AllPositive T A w → (x : Step) → Right T s x → Agrees T A (w₂ T w (x .turn)) (afterStep T s x)
     unfolding w₂ w₁
     splitting h x q =
         record {
-          same = λ t l e. rw (Residuals.residual-step T s x t, Residuals.touches-open T s x (x .turn) t (member-open t l e ∙ h t l e), neighbour-is (x .turn) t, a .same t l e, weight) (go (residual s t) (conflict T (x .turn) t));
+          same = λ t l e. rw (Residuals.residual-step T s x t, Residuals.touches-open T s x (x .turn) t (member-open t l e ∙ h t l e), neighbour-is (x .turn) t, a .same t l e, weight x q) (go (residual s t) (conflict T (x .turn) t));
           gone = λ t l e. fails (isOpen (afterStep T s x) t) (λ o. omega (arith, Residuals.open-left (afterStep T s x) t o, Residuals.left-after T s x t, Residuals.closed-left s t (a .gone t l e)));
         }
       where
-        weight : w (x .turn) ≡ pos (x .amount)
-        weight = a .same (x .turn) (q .inside) (open-member (x .turn) (q .inside) (q .live)) ∙ Residuals.open-residual s (x .turn) (q .live) ∙ ap pos (sym (q .owed))
-
         go : (z : ℤ) (c : Bool) → z -ℤ cond c (pos (x .amount)) (pos 0) ≡ cond c (z -ℤ pos (x .amount)) z
         go z true = refl
         go z false = +ℤ-idr z
@@ -138,13 +143,21 @@ module _ (T : Turns) where
   -- ---- every derivation
 
   module _ (lengths : PositiveLengths T) where
+    -- what a call returns and its steps, by the residuals: those of the planner
+    abbrev Returned : List Bool → List Step → ℕ → List ℤ → Type 0
+    Returned S xs k s = (S ≡ goBack T (plan T k s)) × (xs ≡ plan T k s)
+
     -- lines 5 to 7: the call for the weights that stay has returned S
-    called : {A S : List Bool} {w : ℕ → ℤ} (j : ℕ) → AllPositive T A w → EndsFirst T A j → (k : ℕ) (s : List ℤ) → opens T s ≤ k → Agrees T A w s →
-        ((k : ℕ) (s : List ℤ) → opens T s ≤ k → Agrees T A (w₂ T w j) s → S ≡ goBack T (plan T k s)) →
-        (fits T S j ≡ true ↔ Independent T (set S j true)) × (choose (fits T) S j ≡ goBack T (plan T k s))
+    called : {A S : List Bool} {w : ℕ → ℤ} {xs : List Step} (j amount : ℕ) → AllPositive T A w → EndsFirst T A j → w j ≡ pos amount → (k : ℕ) (s : List ℤ) → opens T s ≤ k → Agrees T A w s →
+        ((k : ℕ) (s : List ℤ) → opens T s ≤ k → Agrees T A (w₂ T w j) s → Returned S xs k s) →
+        (fits T S j ≡ true ↔ Independent T (set S j true)) × (choose (fits T) S j ≡ goBack T (plan T k s)) × (_≡_ {A = List Step} (record { turn = j; amount = amount } ∷ xs) (plan T k s))
     unfolding nextStep
-    called j h e zero s m a ih = absurd (omega (arith, opens-some T s j (e .inside) (ends-first-picked a j h e .live)))
-    called {A} {S} {w} j h e (suc k) s m a ih = (rw (r, ← at-j) (feasible-is lengths (plan T k after) q (plan-right T k after)), rw (plan-goes T k s l, goBack-goes, r, ← at-j))
+    called j amount h e v zero s m a ih = absurd (omega (arith, opens-some T s j (e .inside) (ends-first-picked a j h e .live)))
+    called {A} {S} {w} {xs} j amount h e v (suc k) s m a ih = (
+      rw (r .0, ← at-j) (feasible-is lengths (plan T k after) q (plan-right T k after)),
+      rw (plan-goes T k s l, goBack-goes, r .0, ← at-j),
+      rw (plan-goes T k s l, r .1, owed, ← at-j),
+    )
       where
         at-j : pick T s ≡ j
         at-j = picked-pick T s j (ends-first-picked a j h e)
@@ -155,33 +168,36 @@ module _ (T : Turns) where
         q : Right T s (nextStep T s)
         q = nextStep-right T s l
 
+        owed : amount ≡ left s (pick T s)
+        owed = pos-same (sym v ∙ rw (← at-j) (weight a (nextStep T s) q))
+
         after : List ℤ
         after = afterStep T s (nextStep T s)
 
-        r : S ≡ goBack T (plan T k after)
+        r : Returned S xs k after
         r = ih k after (omega (arith, opens-fall T s (nextStep T s) q)) (rw (← at-j) (splitting a h (nextStep T s) q))
 
-    returns : {A S : List Bool} {w : ℕ → ℤ} → IS T A w S → (k : ℕ) (s : List ℤ) → opens T s ≤ k → Agrees T A w s → S ≡ goBack T (plan T k s)
+    returns : {A S : List Bool} {w : ℕ → ℤ} {xs : List Step} → IS T A w S xs → (k : ℕ) (s : List ℤ) → opens T s ≤ k → Agrees T A w s → Returned S xs k s
     returns (line1 e) k s m a =
         let none : pick T s ≡ T .count = pick-count T s .1 (λ t l. a .gone t l (e t l)) in
-        rw (plan-stops T k s (omega arith)) (sym (goBack-none T))
+        rw (plan-stops T k s (omega arith)) (sym (goBack-none T), refl)
     returns (line3 i l e c d) k s m a = returns d k s m (removing a i l e c)
-    returns (line9 {S = S} j h e d f) k s m a =
-        let (fit, r) = called j h e k s m a (λ k s m a. returns d k s m a) in
-        sym (choose-set (fits T) S j (fit .1 f)) ∙ r
-    returns (line11 {S = S} j h e d f) k s m a =
-        let (fit, r) = called j h e k s m a (λ k s m a. returns d k s m a) in
-        sym (choose-not (fits T) S j (fails (fits T S j) (λ i. f (fit .0 i)))) ∙ r
+    returns (line9 {S = S} j amount h e v d f) k s m a =
+        let (fit, r, x) = called j amount h e v k s m a (λ k s m a. returns d k s m a) in
+        (sym (choose-set (fits T) S j (fit .1 f)) ∙ r, x)
+    returns (line11 {S = S} j amount h e v d f) k s m a =
+        let (fit, r, x) = called j amount h e v k s m a (λ k s m a. returns d k s m a) in
+        (sym (choose-not (fits T) S j (fails (fits T S j) (λ i. f (fit .0 i)))) ∙ r, x)
 
     -- ---- some derivation
 
     -- a call with fewer intervals, those below i all open, that returns the same
     abbrev Removable : List Bool → (ℕ → ℤ) → List ℤ → ℕ → Type 0
-    Removable A w s i = (B : List Bool) × Agrees T B w s × ((t : ℕ) → t < i → has B t ≡ true → isOpen s t ≡ true) × ((S : List Bool) → IS T B w S → IS T A w S)
+    Removable A w s i = (B : List Bool) × Agrees T B w s × ((t : ℕ) → t < i → has B t ≡ true → isOpen s t ≡ true) × ((S : List Bool) (xs : List Step) → IS T B w S xs → IS T A w S xs)
 
     -- removing one by one what is not open
     removable : {A : List Bool} {w : ℕ → ℤ} {s : List ℤ} → Agrees T A w s → (i : ℕ) → i ≤ T .count → Removable A w s i
-    removable {A} a zero m = (A, a, λ t l. absurd (omega arith), λ S d. d)
+    removable {A} a zero m = (A, a, λ t l. absurd (omega arith), λ S xs d. d)
     removable {A} {w} {s} a (suc i) m = go (removable a i (omega arith))
       where
         go : Removable A w s i → Removable A w s (suc i)
@@ -194,35 +210,36 @@ module _ (T : Turns) where
                   set B i false,
                   removing b i m e spent,
                   up-to (λ t. has (set B i false) t ≡ true → isOpen s t ≡ true) i (λ t l p. o t l (stays B i t p .1)) (λ p. absurd (not-both p (removed B i))),
-                  λ S d. f S (line3 i m e spent d),
+                  λ S xs d. f S xs (line3 i m e spent d),
                 )
             by false e d q = (B, b, up-to (λ t. has B t ≡ true → isOpen s t ≡ true) i o (λ p. absurd (not-both p e)), f)
 
-    derived-none : (s : List ℤ) → Closed T s → {A : List Bool} {w : ℕ → ℤ} → Agrees T A w s → IS T A w (goBack T [])
+    derived-none : (s : List ℤ) → Closed T s → {A : List Bool} {w : ℕ → ℤ} → Agrees T A w s → IS T A w (goBack T []) []
     derived-none s h a =
         let (B, b, o, f) = removable a (T .count) (omega arith) in
-        f (goBack T []) (rw goBack-none (line1 (λ t l. fails (has B t) (λ e. not-both (o t l e) (h t l)))))
+        f (goBack T []) [] (rw goBack-none (line1 (λ t l. fails (has B t) (λ e. not-both (o t l e) (h t l)))))
 
     derived-step : (s : List ℤ) (xs : List Step) → pick T s < T .count → RightSteps T (afterStep T s (nextStep T s)) xs →
-        ((A : List Bool) (w : ℕ → ℤ) → Agrees T A w (afterStep T s (nextStep T s)) → IS T A w (goBack T xs)) →
-        {A : List Bool} {w : ℕ → ℤ} → Agrees T A w s → IS T A w (goBack T (nextStep T s ∷ xs))
+        ((A : List Bool) (w : ℕ → ℤ) → Agrees T A w (afterStep T s (nextStep T s)) → IS T A w (goBack T xs) xs) →
+        {A : List Bool} {w : ℕ → ℤ} → Agrees T A w s → IS T A w (goBack T (nextStep T s ∷ xs)) (nextStep T s ∷ xs)
     unfolding nextStep
     derived-step s xs l r ih {A} {w} a = go (removable a (T .count) (omega arith))
       where
-        go : Removable A w s (T .count) → IS T A w (goBack T (nextStep T s ∷ xs))
+        go : Removable A w s (T .count) → IS T A w (goBack T (nextStep T s ∷ xs)) (nextStep T s ∷ xs)
         go (B, b, o, f) =
             let positive : AllPositive T B w = λ t m e. sym (member-open b t m e) ∙ o t m e in
             let q = nextStep-right T s l in
             let first = picked-ends-first b (pick T s) positive (pick-picked T s l) in
-            let d : IS T B (w₂ T w (pick T s)) (goBack T xs) = ih B (w₂ T w (pick T s)) (splitting b positive (nextStep T s) q) in
+            let d : IS T B (w₂ T w (pick T s)) (goBack T xs) xs = ih B (w₂ T w (pick T s)) (splitting b positive (nextStep T s) q) in
             let fit = feasible-is lengths xs q r in
-            f (goBack T (nextStep T s ∷ xs))
+            let v = weight b (nextStep T s) q in
+            f (goBack T (nextStep T s ∷ xs)) (nextStep T s ∷ xs)
             (rw goBack-goes
-            (choose-cases (fits T) (IS T B w) (goBack T xs) (pick T s)
-            (λ e. line9 (pick T s) positive first d (fit .0 e))
-            (λ e. line11 (pick T s) positive first d (λ i. not-both (fit .1 i) e))))
+            (choose-cases (fits T) (λ S. IS T B w S (nextStep T s ∷ xs)) (goBack T xs) (pick T s)
+            (λ e. line9 (pick T s) (left s (pick T s)) positive first v d (fit .0 e))
+            (λ e. line11 (pick T s) (left s (pick T s)) positive first v d (λ i. not-both (fit .1 i) e))))
 
-    derived : (k : ℕ) (s : List ℤ) → opens T s ≤ k → (A : List Bool) (w : ℕ → ℤ) → Agrees T A w s → IS T A w (goBack T (plan T k s))
+    derived : (k : ℕ) (s : List ℤ) → opens T s ≤ k → (A : List Bool) (w : ℕ → ℤ) → Agrees T A w s → IS T A w (goBack T (plan T k s)) (plan T k s)
     derived zero s m A w a = rw (plan-stops T zero s (omega (arith, none))) (derived-none s closed a)
       where
         closed : Closed T s
@@ -235,21 +252,21 @@ module _ (T : Turns) where
         after : List ℤ
         after = afterStep T s (nextStep T s)
 
-        go : Dec (pick T s < T .count) → (opens T after ≤ k → (A : List Bool) (w : ℕ → ℤ) → Agrees T A w after → IS T A w (goBack T (plan T k after))) → IS T A w (goBack T (plan T (suc k) s))
+        go : Dec (pick T s < T .count) → (opens T after ≤ k → (A : List Bool) (w : ℕ → ℤ) → Agrees T A w after → IS T A w (goBack T (plan T k after)) (plan T k after)) → IS T A w (goBack T (plan T (suc k) s)) (plan T (suc k) s)
         go (yes l) ih = rw (plan-goes T k s l) (derived-step s (plan T k after) l (plan-right T k after) (ih (omega (arith, opens-fall T s (nextStep T s) (nextStep-right T s l)))) a)
         go (no l) ih = rw (plan-stops T (suc k) s (omega arith)) (derived-none s (pick-none T s (omega arith)) a)
 
     -- ---- the first call
 
-    pub selection-exists : Selects T (goBack T (steps T))
+    pub selection-exists : Selects T (goBack T (steps T)) (steps T)
     unfolding steps
     selection-exists = derived (T .count) (initial T) (opens-most T (initial T)) (replicate (T .count) true) (λ t. pos (T .worth t)) starts
 
-    pub selection-unique : {S : List Bool} → Selects T S → S ≡ goBack T (steps T)
+    pub selection-unique : {S : List Bool} {xs : List Step} → Selects T S xs → (S ≡ goBack T (steps T)) × (xs ≡ steps T)
     unfolding steps
     selection-unique d = returns d (T .count) (initial T) (opens-most T (initial T)) starts
 
     -- the planner's choice is what the algorithm returns, filled
-    pub selection-filled : {S : List Bool} → Selects T S → choice T ≡ fill (fits T) (T .count) S
+    pub selection-filled : {S : List Bool} {xs : List Step} → Selects T S xs → choice T ≡ fill (fits T) (T .count) S
     unfolding choice
-    selection-filled d = rw (selection-unique d)
+    selection-filled d = rw (selection-unique d .0)

@@ -2,12 +2,12 @@
 use mathlib.Core.Path.{_≡_}
 use mathlib.Core.Logic.{_≢_, _⊎_}
 use mathlib.Core.Bool.{Bool, true, false, not, cond, _&&_, _||_}
-use mathlib.Core.List.{List}
+use mathlib.Core.List.{List, [], _∷_}
 use Prim.Native.Nat.{ℕ, _<_}
 use lib.IntN.{ℤ, pos, _-ℤ_}
 use lib.ListN.{set, replicate}
 use Rattle.model.specs.Turns.{Turns, bySlope, byGroomer}
-use Rattle.model.specs.Steps.{above}
+use Rattle.model.specs.Steps.{Step, above}
 use Rattle.model.specs.Choice.{has}
 use Rattle.model.specs.Rules.{Independent}
 
@@ -37,16 +37,18 @@ pub record EndsFirst (T : Turns) (A : List Bool) (J : ℕ) : Type 0 where
   pub member : has A J ≡ true
   pub earliest : (I : ℕ) → I < T .count → has A I ≡ true → I ≢ J → (T .end J < T .end I) ⊎ ((T .end J ≡ T .end I) × (J < I))
 
--- a call with the intervals A and the weights w returns S
-pub data IS (T : Turns) : List Bool → (ℕ → ℤ) → List Bool → Type 0 where
-  line1 : {A : List Bool} {w : ℕ → ℤ} → Empty T A → IS T A w (replicate (T .count) false)
+-- a call with the intervals A and the weights w returns S; it and the calls that it makes have split off these steps, in order: each time J and the weight of J
+pub data IS (T : Turns) : List Bool → (ℕ → ℤ) → List Bool → List Step → Type 0 where
+  line1 : {A : List Bool} {w : ℕ → ℤ} → Empty T A → IS T A w (replicate (T .count) false) []
   -- lines 2 and 3: any interval without weight may be the one removed
-  line3 : {A S : List Bool} {w : ℕ → ℤ} (I : ℕ) → I < T .count → has A I ≡ true → above (w I) ≡ false → IS T (set A I false) w S → IS T A w S
+  line3 : {A S : List Bool} {w : ℕ → ℤ} {xs : List Step} (I : ℕ) → I < T .count → has A I ≡ true → above (w I) ≡ false → IS T (set A I false) w S xs → IS T A w S xs
   -- lines 4 to 9: J is added, if that is feasible: no two then conflict
-  line9 : {A S : List Bool} {w : ℕ → ℤ} (J : ℕ) → AllPositive T A w → EndsFirst T A J → IS T A (w₂ T w J) S → Independent T (set S J true) → IS T A w (set S J true)
+  line9 : {A S : List Bool} {w : ℕ → ℤ} {xs : List Step} (J amount : ℕ) → AllPositive T A w → EndsFirst T A J → w J ≡ pos amount → IS T A (w₂ T w J) S xs → Independent T (set S J true)
+      → IS T A w (set S J true) (record { turn = J; amount = amount } ∷ xs)
   -- lines 10 and 11: it is not
-  line11 : {A S : List Bool} {w : ℕ → ℤ} (J : ℕ) → AllPositive T A w → EndsFirst T A J → IS T A (w₂ T w J) S → (Independent T (set S J true) → ⊥) → IS T A w S
+  line11 : {A S : List Bool} {w : ℕ → ℤ} {xs : List Step} (J amount : ℕ) → AllPositive T A w → EndsFirst T A J → w J ≡ pos amount → IS T A (w₂ T w J) S xs → (Independent T (set S J true) → ⊥)
+      → IS T A w S (record { turn = J; amount = amount } ∷ xs)
 
 -- the first call: all intervals, with their own weights
-abbrev pub Selects : Turns → List Bool → Type 0
-Selects T S = IS T (replicate (T .count) true) (λ I. pos (T .worth I)) S
+abbrev pub Selects : Turns → List Bool → List Step → Type 0
+Selects T S xs = IS T (replicate (T .count) true) (λ I. pos (T .worth I)) S xs

@@ -3,15 +3,16 @@ use Prim.Native.Nat.{ℕ, _<_, _≤_}
 use mathlib.Core.Path.{_≡_, refl, sym, _∙_, ap}
 use mathlib.Core.Bool.{Bool, true, cond}
 use mathlib.Core.List.{List, [], _∷_, _++_}
+use mathlib.Core.Logic.{_↔_}
 use native.Mathlib.Omega.{arith}
 use native.Mathlib.Decide.{ℕ-discrete}
 use lib.Dec.{ltb}
 use lib.ListN.{length}
-use borrow.Author.Tests.{ne-eqb, lt-ltb, le-ltb}
+use borrow.Author.Tests.{ne-eqb, lt-ltb, le-ltb, ltb-false}
 use Rattle.refusal.specs.Number.{bufferTooSmall}
 use Rattle.refusal.specs.Cause.{Cause, _when_, firstOf}
 use Rattle.refusal.specs.Written.{Written, wrote, kept, writtenUnless}
-use Rattle.refusal.proofs.Order.{numbered, first-stops, first-goes}
+use Rattle.refusal.proofs.Order.{numbered, first-stops, first-goes, clear-cons, clear-append}
 
 module _ (cs : List Cause) (text lent : List ℕ) where
   -- with a cause the lent bytes stay, with none all of the text is written
@@ -54,3 +55,13 @@ module _ (cs : List Cause) (need : ℕ) (text lent : List ℕ) where
 
     pub wrote-enough : need ≤ length lent → writtenUnless (cs ++ bufferTooSmall when ltb (length lent) need ∷ []) text lent ≡ wrote text lent
     wrote-enough h = wrote-all (cs ++ bufferTooSmall when ltb (length lent) need ∷ []) text lent (alone (le-ltb (length lent) need h))
+
+-- nothing is given exactly where no cause before it is there and the lent bytes are enough
+pub enough-iff : (cs : List Cause) (places need : ℕ) → numbered cs ≡ true → (firstOf (cs ++ bufferTooSmall when ltb places need ∷ []) ≡ 0) ↔ ((firstOf cs ≡ 0) × (need ≤ places))
+unfolding firstOf
+enough-iff cs places need n = (to, λ h. first-goes cs (bufferTooSmall when ltb places need ∷ []) n (h .0) ∙ rw (le-ltb places need (h .1)))
+  where
+    to : firstOf (cs ++ bufferTooSmall when ltb places need ∷ []) ≡ 0 → (firstOf cs ≡ 0) × (need ≤ places)
+    to e =
+        let both = clear-append cs (bufferTooSmall when ltb places need ∷ []) n e in
+        (both .0, ltb-false places need (clear-cons (bufferTooSmall when ltb places need) [] (omega arith) (both .1) .0))
