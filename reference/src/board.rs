@@ -49,6 +49,19 @@ pub fn steps(board: &[u8]) -> &[u8] {
     }
 }
 
+/// The number of chosen turns, which is that of the ones in the choice map;
+/// 12 if the shape is not right.
+pub fn count(board: &[u8]) -> Result<u32, u8> {
+    let view = view(board).ok_or(refusal::BAD_BOARD)?;
+    Ok(view.map.iter().map(|byte| byte.count_ones()).sum())
+}
+
+/// Whether the turn with this number is chosen. No turn is if the shape is
+/// not right, and none that the board does not have.
+pub fn is_chosen(board: &[u8], turn: usize) -> bool {
+    view(board).is_some_and(|view| turn < view.turns && is_marked(view.map, turn))
+}
+
 /// Splits a board into its parts if its shape is right. What the numbers say
 /// is not judged here.
 pub(crate) fn view(board: &[u8]) -> Option<View<'_>> {
@@ -82,7 +95,7 @@ fn has_bit_past(map: &[u8], turns: usize) -> bool {
 }
 
 /// Whether a choice map marks this turn.
-pub(crate) fn is_chosen(map: &[u8], turn: usize) -> bool {
+pub(crate) fn is_marked(map: &[u8], turn: usize) -> bool {
     map[turn / 8] >> (turn % 8) & 1 != 0
 }
 

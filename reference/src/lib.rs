@@ -16,7 +16,7 @@ pub mod shapes;
 pub mod sheet;
 pub mod turns;
 
-pub use board::{open, steps};
+pub use board::{count, is_chosen, open, steps};
 pub use check::check;
 pub use listing::{listing, refused_line};
 pub use plan::plan;

@@ -2,7 +2,7 @@
 
 use std::fmt::Write;
 
-use crate::board::{board_len, is_chosen, view};
+use crate::board::{board_len, is_marked, view};
 use crate::plan::plan_turns;
 use crate::refusal;
 use crate::sheet::{no_turns, parse};
@@ -47,7 +47,7 @@ fn round_of(groomer: u16, turns: &[Turn], map: &[u8]) -> Vec<Turn> {
     let mut round: Vec<Turn> = turns
         .iter()
         .enumerate()
-        .filter(|(number, turn)| is_chosen(map, *number) && turn.groomer == groomer)
+        .filter(|(number, turn)| is_marked(map, *number) && turn.groomer == groomer)
         .map(|(_, turn)| *turn)
         .collect();
     round.sort_unstable_by_key(|turn| turn.start);

@@ -24,13 +24,16 @@
 //! | 4 open | 0 | bytes of the board | the board |
 //! | 5 check | bytes of the sheet | bytes of the board | the sheet, then the board |
 //! | 6 list | bytes lent | bytes of the sheet | the sheet |
+//! | 7 count | 0 | bytes of the board | the board |
+//! | 8 chosen | a turn's number | bytes of the board | the board |
 //!
 //! Before the call each lent number is A5A5 and each lent byte A5. The line
 //! has the entry's name, the refusal, the values returned (0 on a refusal) and
 //! a checksum of all that was lent, as it is after the call: from 1, for each
 //! place, times 31 plus what it holds, modulo 65,521. For `open` the values
 //! are the length of the steps handed back, and the checksum is theirs;
-//! `check` has none.
+//! `check` and `count` have none. `chosen` can refuse nothing: its line has
+//! the name, and 1 or 0 for chosen or not.
 
 use std::path::Path;
 use std::process::ExitCode;
@@ -40,6 +43,8 @@ use slopeboard_reference::plan;
 
 #[path = "corpus/check.rs"]
 mod check;
+#[path = "corpus/choice.rs"]
+mod choice;
 #[path = "corpus/list.rs"]
 mod list;
 #[path = "corpus/open.rs"]
@@ -73,13 +78,15 @@ const FILL: u8 = 0xA5;
 /// An entry's name and what adds its cases.
 type Entry = (&'static str, fn(&mut Corpus));
 
-const ENTRIES: [Entry; 6] = [
+const ENTRIES: [Entry; 8] = [
     ("read", read::add),
     ("write", write::add),
     ("plan", planning::add),
     ("open", open::add),
     ("check", check::add),
     ("list", list::add),
+    ("count", choice::add_counts),
+    ("chosen", choice::add_turns),
 ];
 
 /// The two files as they grow.
