@@ -1,8 +1,12 @@
 //! The seeded boards and shapes are what they are said to be.
 
+mod both;
+
+use both::{check, plan};
 use slopeboard_reference::boards::{self, Draft, Order};
 use slopeboard_reference::gen::{self, Rng};
-use slopeboard_reference::{check, count, is_chosen, plan, shapes};
+use slopeboard_reference::naive::{count, is_chosen};
+use slopeboard_reference::shapes;
 
 fn sheet_of(rng: &mut Rng, shape: u32, turns: usize) -> (Vec<[u16; 5]>, Vec<u8>) {
     let shift = shapes::shift(rng, shape, turns);

@@ -1,8 +1,9 @@
 //! The worked example and the named cases, refusal by refusal.
 
-use slopeboard_reference::{
-    check, count, is_chosen, listing, open, plan, read, refused_line, steps, write, Header,
-};
+mod both;
+
+use both::{check, listing, plan, read};
+use slopeboard_reference::naive::{count, is_chosen, open, refused_line, steps, write, Counts};
 
 const SHEET: [u8; 39] = [
     0x47, 0x52, 0x4D, 0x02, 0x03, 0x00, 0x04, 0x1F, 0x01, 0x01, 0x00, 0x00, 0x00, 0x3C, 0x00, 0x64,
@@ -55,12 +56,12 @@ fn board_with(map: u8, worth: u8) -> Vec<u8> {
 #[test]
 fn example_is_read() {
     let mut table = [KEPT; 22];
-    let header = Header {
+    let counts = Counts {
         groomers: 2,
         slopes: 3,
         turns: 4,
     };
-    assert_eq!(read(&SHEET, &mut table), Ok(header));
+    assert_eq!(read(&SHEET, &mut table), Ok(counts));
     assert_eq!(table[..20], TABLE);
     assert_eq!(table[20..], [KEPT; 2]);
     assert_eq!(read(&SHEET, &mut [0; 19]), Err(11));
@@ -141,7 +142,7 @@ fn no_turns_give_the_shortest_board() {
     assert_eq!(open(&out), 0);
     assert_eq!(check(sheet, &out), Ok((0, 0)));
     assert_eq!(plan(sheet, &mut [0; 14]), Err(11));
-    assert_eq!(read(sheet, &mut []).map(|header| header.turns), Ok(0));
+    assert_eq!(read(sheet, &mut []).map(|counts| counts.turns), Ok(0));
 }
 
 #[test]

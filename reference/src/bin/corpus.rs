@@ -1,5 +1,6 @@
 //! Writes the files `stdin` and `stdout` into a folder: cases for a small
-//! test program without a heap, and the lines it must print.
+//! test program without a heap, and the lines it must print, as the naive
+//! version has them.
 //!
 //! ```text
 //! corpus FOLDER ENTRY..     the cases of the named entries (all if none is named)
@@ -39,7 +40,7 @@ use std::path::Path;
 use std::process::ExitCode;
 use std::{env, fs, io};
 
-use slopeboard_reference::plan;
+use slopeboard_reference::naive::plan;
 
 #[path = "corpus/check.rs"]
 mod check;
@@ -131,7 +132,7 @@ pub fn byte_sum(bytes: &[u8]) -> u32 {
         .fold(1, |sum, &value| (sum * 31 + u32::from(value)) % 65_521)
 }
 
-/// The reference's board of an accepted sheet.
+/// The judge's board of an accepted sheet.
 pub fn planned(sheet: &[u8]) -> Vec<u8> {
     let mut board = vec![0; 1665];
     let len = plan(sheet, &mut board).expect("the sheet is accepted");

@@ -2,7 +2,8 @@
 
 use slopeboard_reference::boards;
 use slopeboard_reference::gen::Rng;
-use slopeboard_reference::{count, is_chosen, shapes};
+use slopeboard_reference::naive::{count, is_chosen};
+use slopeboard_reference::shapes;
 
 use crate::{Corpus, EXAMPLE_BOARD};
 

@@ -2,11 +2,11 @@
 
 use std::fmt::Write;
 
-use crate::board::{board_len, is_marked, view};
-use crate::plan::plan_turns;
-use crate::refusal;
-use crate::sheet::{no_turns, parse};
-use crate::turns::Turn;
+use super::board::{board_len, is_marked, view};
+use super::plan::plan_turns;
+use super::refusal;
+use super::sheet::{no_turns, parse};
+use super::turns::Turn;
 
 /// Writes the listing of a sheet's plan as text and gives its length.
 pub fn listing(sheet: &[u8], out: &mut [u8]) -> Result<usize, u8> {
@@ -18,11 +18,6 @@ pub fn listing(sheet: &[u8], out: &mut [u8]) -> Result<usize, u8> {
     };
     place.copy_from_slice(text.as_bytes());
     Ok(text.len())
-}
-
-/// The line that stands in place of a listing if the sheet is refused.
-pub fn refused_line(number: u8) -> String {
-    format!("refused {number}\n")
 }
 
 fn text(groomers: u16, turns: &[Turn]) -> String {

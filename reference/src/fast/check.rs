@@ -1,10 +1,10 @@
 //! The check of a board against its sheet.
 
-use crate::board::{each_step, is_marked, view, Step};
-use crate::plan::{charge, full_worths};
-use crate::refusal;
-use crate::sheet::{no_turns, parse};
-use crate::turns::{Selection, Turn};
+use super::board::{each_step, is_marked, view, Step};
+use super::plan::{charge, full_worths};
+use super::refusal;
+use super::sheet::{no_turns, parse};
+use super::turns::{Selection, Turn};
 
 /// Checks a board against a sheet and gives the board's tally and worth.
 pub fn check(sheet: &[u8], board: &[u8]) -> Result<(u32, u32), u8> {
