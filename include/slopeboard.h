@@ -1,5 +1,6 @@
 /* Slope board: reads and writes shift sheets, plans boards, opens and checks them, and writes the
- * drivers' listing. Link libslopeboard.a; all that it asks for beside is memcpy and memset.
+ * drivers' listing. Link libslopeboard.a; all that it asks for beside is memcpy and memset. The archive is
+ * for x86-64: its functions are called as the System V ABI says, their structs laid out as it says.
  *
  * What holds for every function:
  *
@@ -16,6 +17,9 @@
  *   answer is 0 and no lent buffer has changed. Where several numbers would fit,
  *   the order under each function says which is given.
  * - On success, the places of a lent buffer past the last one written hold what they held before.
+ * - All working space is on the caller's stack, and no function calls itself. In bytes, read off the compiled
+ *   code: slopeboard_list 30,800, slopeboard_plan 23,184, slopeboard_check 12,376, slopeboard_read 4,120, each
+ *   of the others fewer than 100. What memcpy and memset need comes on top.
  *
  * In sheets and boards, a number of several bytes begins with its high byte. Turns are numbered from 0
  * in the order of the sheet, slopes and groomers from 1.
@@ -29,6 +33,9 @@
 #ifdef __cplusplus
 extern "C" {
 #endif
+
+/* The number of this interface. Each change that a caller can see raises it. */
+#define SLOPEBOARD_VERSION 2
 
 /* The refusals. */
 enum {

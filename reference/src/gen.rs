@@ -1,7 +1,7 @@
 //! Seeded inputs for tests, corpus and comparison. The same seed always
 //! gives the same bytes.
 
-use crate::turns::{FIELDS, LAST_END, MAX_GROOMERS, MAX_SLOPES, MAX_TURNS, MAX_WORTH};
+use crate::limits::{FIELDS, LAST_END, MAX_GROOMERS, MAX_SLOPES, MAX_TURNS, MAX_WORTH};
 
 /// Bytes before the first record.
 pub const HEADER_LEN: usize = 7;

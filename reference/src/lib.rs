@@ -1,23 +1,15 @@
-//! Reference version of the slope board library.
+//! Two reference versions of the slope board library, and seeded inputs.
 //!
-//! It reads and writes shift sheets, plans boards, checks boards made by
-//! anyone, and prints the drivers' listing. Every function works on buffers
-//! of the caller. An error is one of the numbers in [`refusal`]; in that case
-//! no buffer has been changed.
+//! [`naive`] is the judge: the library under test must answer as it does.
+//! [`fast`] is what the library's times are held against, and is itself held
+//! to the judge by the tests of this package.
+//!
+//! Every function of the two works on buffers of the caller. An error is the
+//! number of a refusal; in that case no buffer has been changed.
 
-pub mod board;
 pub mod boards;
-pub mod check;
+pub mod fast;
 pub mod gen;
-pub mod listing;
-pub mod plan;
-pub mod refusal;
+pub mod limits;
+pub mod naive;
 pub mod shapes;
-pub mod sheet;
-pub mod turns;
-
-pub use board::{open, steps};
-pub use check::check;
-pub use listing::{listing, refused_line};
-pub use plan::plan;
-pub use sheet::{read, write, Header};

@@ -1,7 +1,7 @@
 //! Seeded shifts of named shapes, all of which a reader must take.
 
 use crate::gen::{self, Rng, Shift};
-use crate::turns::{FIELDS, LAST_END, MAX_GROOMERS, MAX_SLOPES, MAX_TURNS, MAX_WORTH};
+use crate::limits::{FIELDS, LAST_END, MAX_GROOMERS, MAX_SLOPES, MAX_TURNS, MAX_WORTH};
 
 /// How many shapes there are.
 pub const SHAPES: u32 = 10;

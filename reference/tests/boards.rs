@@ -1,8 +1,12 @@
 //! The seeded boards and shapes are what they are said to be.
 
+mod both;
+
+use both::{check, plan};
 use slopeboard_reference::boards::{self, Draft, Order};
 use slopeboard_reference::gen::{self, Rng};
-use slopeboard_reference::{check, plan, shapes};
+use slopeboard_reference::naive::{count, is_chosen};
+use slopeboard_reference::shapes;
 
 fn sheet_of(rng: &mut Rng, shape: u32, turns: usize) -> (Vec<[u16; 5]>, Vec<u8>) {
     let shift = shapes::shift(rng, shape, turns);
@@ -28,6 +32,24 @@ fn right_boards_pass() {
         assert_eq!(passes, full.worth >= full.tally);
     }
     assert!(others > 1000, "{others}");
+}
+
+#[test]
+fn choices_are_told_as_drafted() {
+    let mut rng = Rng::new(25);
+    for round in 0..500 {
+        let turns = rng.below(60) as usize;
+        let (turns, _) = sheet_of(&mut rng, round % shapes::SHAPES, turns);
+        let draft = boards::right(&mut rng, &turns);
+        let board = draft.bytes();
+        let told: Vec<bool> = (0..turns.len())
+            .map(|turn| is_chosen(&board, turn))
+            .collect();
+        assert_eq!(told, draft.chosen);
+        let chosen = draft.chosen.iter().filter(|&&on| on).count();
+        assert_eq!(count(&board), Ok(chosen as u32));
+        assert!((turns.len()..turns.len() + 20).all(|turn| !is_chosen(&board, turn)));
+    }
 }
 
 #[test]

@@ -1,10 +1,15 @@
-//! Brute force on small sheets, and the slow version on larger ones.
+//! Brute force on small sheets: every set, every choice, every list of steps.
+//! And both versions side by side on sheets and boards of every kind.
 
-mod naive;
+mod both;
 
-use naive::{Board, Turn};
+use both::{check, listing, plan, read};
+use slopeboard_reference::boards::{self, Draft};
 use slopeboard_reference::gen::{self, Rng, Shift};
-use slopeboard_reference::{check, open, plan, read, steps, write};
+use slopeboard_reference::naive::planning::{take, worths};
+use slopeboard_reference::naive::turns::{turns_of, Turn};
+use slopeboard_reference::naive::{best_worth, open, steps, write};
+use slopeboard_reference::shapes;
 
 /// Few turns on few slopes and in few minutes, so that conflicts
 /// of both kinds, touching turns and equal ends abound.
@@ -30,53 +35,15 @@ fn small_shift(rng: &mut Rng, most: u32) -> Shift {
     }
 }
 
+fn turns_in(shift: &Shift) -> Vec<Turn> {
+    turns_of(&shift.turns.concat())
+}
+
 fn planned(sheet: &[u8], turns: usize) -> Vec<u8> {
     let mut board = vec![0; 15 + turns.div_ceil(8) + 4 * turns];
     let len = plan(sheet, &mut board).unwrap();
     board.truncate(len);
     board
-}
-
-/// The most that a set free of conflict can be worth, by trying every set.
-fn best_worth(turns: &[Turn]) -> u32 {
-    let conflicting: Vec<u32> = (0..turns.len())
-        .map(|a| {
-            let others = (0..turns.len()).filter(|&b| naive::conflict(turns, a, b));
-            others.map(|b| 1 << b).sum()
-        })
-        .collect();
-    let mut best = 0;
-    for set in 0..1u32 << turns.len() {
-        let members = || (0..turns.len()).filter(move |turn| set >> turn & 1 != 0);
-        if members().all(|turn| conflicting[turn] & set == 0) {
-            best = best.max(members().map(|turn| u32::from(turns[turn][4])).sum());
-        }
-    }
-    best
-}
-
-fn shuffled(rng: &mut Rng, count: usize) -> Vec<usize> {
-    let mut list: Vec<usize> = (0..count).collect();
-    for place in (1..count).rev() {
-        list.swap(place, rng.below(place as u32 + 1) as usize);
-    }
-    list
-}
-
-/// Steps in a random order that the check allows.
-fn allowed_steps(rng: &mut Rng, turns: &[Turn]) -> Vec<(u16, u16)> {
-    let mut left = naive::worths(turns);
-    let mut steps = Vec::new();
-    loop {
-        let allowed: Vec<usize> = (0..turns.len())
-            .filter(|&turn| naive::may_step(turns, &left, turn))
-            .collect();
-        if allowed.is_empty() {
-            return steps;
-        }
-        let picked = rng.pick(&allowed);
-        steps.push((picked as u16, naive::take(turns, &mut left, picked)));
-    }
 }
 
 /// What must hold of every board that passes.
@@ -97,23 +64,17 @@ fn passing_boards_bound_every_set() {
     let mut foreign = 0;
     for _ in 0..1500 {
         let shift = small_shift(&mut rng, 10);
-        let turns = &shift.turns;
         let sheet = gen::encode(&mut rng, &shift, 20).bytes;
-        let best = best_worth(turns);
-        let own = planned(&sheet, turns.len());
-        assert_eq!(own, naive::plan(turns).bytes());
+        let best = best_worth(&turns_in(&shift));
+        let own = planned(&sheet, shift.turns.len());
         assert!(assert_bounds(&sheet, &own, best));
         for _ in 0..6 {
-            let steps = allowed_steps(&mut rng, turns);
-            let fill = shuffled(&mut rng, turns.len());
             // Choosing backwards always pays for the steps.
-            let chosen = naive::choose(turns, &steps, &fill);
-            let board = Board::new(turns, chosen, steps.clone()).bytes();
+            let board = boards::right(&mut rng, &shift.turns).bytes();
             assert!(assert_bounds(&sheet, &board, best));
             foreign += u32::from(board != own);
             // Any full choice passes if it is worth the tally.
-            let chosen = naive::choose(turns, &[], &fill);
-            let board = Board::new(turns, chosen, steps);
+            let board = boards::full(&mut rng, &shift.turns);
             let passes = assert_bounds(&sheet, &board.bytes(), best);
             assert_eq!(passes, board.worth >= board.tally);
             // Damage rarely passes; when it does, the bounds hold as well.
@@ -124,8 +85,8 @@ fn passing_boards_bound_every_set() {
     assert!(foreign > 1000, "{foreign}");
 }
 
-/// Compares both checks on a board and on a few of its neighbours.
-fn compare_checks(sheet: &[u8], turns: &[Turn], board: &Board, seen: &mut [u32; 18]) {
+/// Checks a board and a few of its neighbours.
+fn check_neighbours(sheet: &[u8], board: &Draft, seen: &mut [u32; 18]) {
     let mut boards = vec![board.clone(); 5];
     boards[1].tally += 1;
     boards[2].worth += 1;
@@ -133,18 +94,17 @@ fn compare_checks(sheet: &[u8], turns: &[Turn], board: &Board, seen: &mut [u32; 
         last.1 ^= 1;
     }
     if let Some(last) = boards[4].steps.last_mut() {
-        last.0 = turns.len() as u16;
+        last.0 = board.chosen.len() as u16;
     }
     for board in boards {
         let number = check(sheet, &board.bytes()).err().unwrap_or(0);
-        assert_eq!(number, naive::check(turns, &board), "{turns:?} {board:?}");
         seen[usize::from(number)] += 1;
     }
 }
 
 /// Every list of different turns, each with what is left of it by then.
 fn all_step_lists(turns: &[Turn]) -> Vec<Vec<(u16, u16)>> {
-    let mut lists = vec![(Vec::new(), naive::worths(turns))];
+    let mut lists = vec![(Vec::new(), worths(turns))];
     let mut done = 0;
     while done < lists.len() {
         let (steps, left) = lists[done].clone();
@@ -152,7 +112,9 @@ fn all_step_lists(turns: &[Turn]) -> Vec<Vec<(u16, u16)>> {
         for turn in 0..turns.len() {
             if left[turn] > 0 && steps.len() < turns.len() {
                 let (mut steps, mut left) = (steps.clone(), left.clone());
-                steps.push((turn as u16, naive::take(turns, &mut left, turn)));
+                let amount = left[turn];
+                take(turns, &mut left, turn, amount);
+                steps.push((turn as u16, amount as u16));
                 lists.push((steps, left));
             }
         }
@@ -166,14 +128,14 @@ fn check_agrees_on_all_boards_of_tiny_sheets() {
     let mut seen = [0; 18];
     for _ in 0..120 {
         let shift = small_shift(&mut rng, 4);
-        let turns = &shift.turns;
+        let turns = turns_in(&shift);
         let sheet = gen::encode(&mut rng, &shift, 0).bytes;
-        let best = best_worth(turns);
-        for steps in all_step_lists(turns) {
+        let best = best_worth(&turns);
+        for steps in all_step_lists(&turns) {
             for set in 0..1u32 << turns.len() {
                 let chosen = (0..turns.len()).map(|turn| set >> turn & 1 != 0).collect();
-                let board = Board::new(turns, chosen, steps.clone());
-                compare_checks(&sheet, turns, &board, &mut seen);
+                let board = Draft::new(&shift.turns, chosen, steps.clone());
+                check_neighbours(&sheet, &board, &mut seen);
                 assert_bounds(&sheet, &board.bytes(), best);
             }
         }
@@ -190,11 +152,60 @@ fn large_plans_agree_and_pass() {
         let shift = gen::shift(&mut rng, turns);
         let sheet = gen::encode(&mut rng, &shift, 20).bytes;
         let board = planned(&sheet, turns);
-        let slow = naive::plan(&shift.turns);
-        assert_eq!(board, slow.bytes());
-        assert_eq!(check(&sheet, &board), Ok((slow.tally, slow.worth)));
-        assert_eq!(steps(&board).len(), 4 * slow.steps.len());
+        let (tally, worth) = check(&sheet, &board).unwrap();
+        assert!(tally <= worth);
+        let amounts = steps(&board).chunks(4).map(|step| [step[2], step[3]]);
+        let sum: u32 = amounts.map(|two| u32::from(u16::from_be_bytes(two))).sum();
+        assert_eq!(tally, sum);
     }
+}
+
+#[test]
+fn shapes_of_all_sizes_agree() {
+    let mut rng = Rng::new(16);
+    for round in 0..3000 {
+        let turns = match round % 300 {
+            0 => 400,
+            1..=9 => rng.between(40, 200),
+            _ => rng.below(40),
+        };
+        let shift = shapes::shift(&mut rng, round % shapes::SHAPES, turns as usize);
+        let sheet = gen::encode(&mut rng, &shift, 10).bytes;
+        let wanted = 5 * shift.turns.len();
+        for places in [wanted, wanted + 1, wanted.saturating_sub(1)] {
+            let _ = read(&sheet, &mut vec![0xA5A5; places]);
+        }
+        let mut text = [0xA5; 4096];
+        let len = listing(&sheet, &mut text).unwrap();
+        assert_eq!(listing(&sheet, &mut text[..len - 1]), Err(11));
+        let board = planned(&sheet, shift.turns.len());
+        assert!(check(&sheet, &board).is_ok());
+        let board = boards::right(&mut rng, &shift.turns);
+        let kind = round % boards::FAULTS;
+        let faulty = boards::with_fault(&mut rng, &shift.turns, &board, kind);
+        let _ = check(&sheet, &faulty);
+    }
+}
+
+#[test]
+fn refused_sheets_agree() {
+    let mut rng = Rng::new(17);
+    let mut seen = [0; 12];
+    for _ in 0..4000 {
+        let turns = rng.between(1, 12) as usize;
+        let shift = gen::shift(&mut rng, turns);
+        let faults = rng.between(1, 3);
+        let sheet = gen::with_faults(&mut rng, &shift, faults);
+        let mut table = vec![0xA5A5; gen::places_wanted(&sheet).saturating_sub(faults as usize)];
+        let number = read(&sheet, &mut table).err().unwrap_or(0);
+        seen[usize::from(number)] += 1;
+        let refused = number > 0 && number < 11;
+        assert_eq!(plan(&sheet, &mut [0xA5; 2000]).is_err(), refused);
+        assert_eq!(listing(&sheet, &mut [0xA5; 4096]).is_err(), refused);
+        let board = boards::right(&mut rng, &shift.turns).bytes();
+        assert!(!refused || check(&sheet, &board) == Err(number));
+    }
+    assert!(seen[1..].iter().all(|&count| count > 10), "{seen:?}");
 }
 
 #[test]
@@ -208,13 +219,13 @@ fn written_sheets_are_short_and_read_back() {
         };
         let sheet = gen::typical(&mut rng, turns).bytes;
         let mut table = vec![0; turns * 5];
-        let header = read(&sheet, &mut table).unwrap();
-        let (groomers, slopes) = (u32::from(header.groomers), u32::from(header.slopes));
+        let counts = read(&sheet, &mut table).unwrap();
+        let (groomers, slopes) = (counts.groomers, counts.slopes);
         let mut out = vec![0; sheet.len()];
         // It fits the length of any sheet that reads the same.
         let len = write(groomers, slopes, &table, &mut out).unwrap();
         let mut again = vec![0; turns * 5];
-        assert_eq!(read(&out[..len], &mut again), Ok(header));
+        assert_eq!(read(&out[..len], &mut again), Ok(counts));
         assert_eq!(table, again);
         let before = out.clone();
         assert_eq!(
@@ -233,9 +244,9 @@ fn generated_shifts_are_accepted_as_meant() {
         let shift = gen::shift(&mut rng, turns);
         let encoded = gen::encode(&mut rng, &shift, 50);
         let mut table = vec![0; turns * 5];
-        let header = read(&encoded.bytes, &mut table).unwrap();
-        assert_eq!(header.groomers, u16::from(shift.groomers));
-        assert_eq!(header.slopes, u16::from(shift.slopes));
+        let counts = read(&encoded.bytes, &mut table).unwrap();
+        assert_eq!(counts.groomers, u32::from(shift.groomers));
+        assert_eq!(counts.slopes, u32::from(shift.slopes));
         assert_eq!(table, shift.turns.concat());
         assert_eq!(encoded.maps.len(), turns);
     }

@@ -1,6 +1,9 @@
 //! The worked example and the named cases, refusal by refusal.
 
-use slopeboard_reference::{check, listing, open, plan, read, refused_line, steps, write, Header};
+mod both;
+
+use both::{check, listing, plan, read};
+use slopeboard_reference::naive::{count, is_chosen, open, refused_line, steps, write, Counts};
 
 const SHEET: [u8; 39] = [
     0x47, 0x52, 0x4D, 0x02, 0x03, 0x00, 0x04, 0x1F, 0x01, 0x01, 0x00, 0x00, 0x00, 0x3C, 0x00, 0x64,
@@ -53,12 +56,12 @@ fn board_with(map: u8, worth: u8) -> Vec<u8> {
 #[test]
 fn example_is_read() {
     let mut table = [KEPT; 22];
-    let header = Header {
+    let counts = Counts {
         groomers: 2,
         slopes: 3,
         turns: 4,
     };
-    assert_eq!(read(&SHEET, &mut table), Ok(header));
+    assert_eq!(read(&SHEET, &mut table), Ok(counts));
     assert_eq!(table[..20], TABLE);
     assert_eq!(table[20..], [KEPT; 2]);
     assert_eq!(read(&SHEET, &mut [0; 19]), Err(11));
@@ -139,7 +142,7 @@ fn no_turns_give_the_shortest_board() {
     assert_eq!(open(&out), 0);
     assert_eq!(check(sheet, &out), Ok((0, 0)));
     assert_eq!(plan(sheet, &mut [0; 14]), Err(11));
-    assert_eq!(read(sheet, &mut []).map(|header| header.turns), Ok(0));
+    assert_eq!(read(sheet, &mut []).map(|counts| counts.turns), Ok(0));
 }
 
 #[test]
@@ -263,6 +266,65 @@ fn board_shape() {
     assert_eq!(open(&large), 0);
     large[15 + 8191] = 0x80;
     assert_eq!(open(&large), 12);
+}
+
+/// Numbers that no board has as a turn, the highest of them included.
+const NO_TURNS: [usize; 6] = [65_535, 65_536, 65_537, 131_070, usize::MAX - 7, usize::MAX];
+
+#[test]
+fn example_is_counted() {
+    assert_eq!(count(&BOARD), Ok(3));
+    let chosen = [0, 1, 2, 3].map(|turn| is_chosen(&BOARD, turn));
+    assert_eq!(chosen, [false, true, true, true]);
+    for turn in [4, 5, 7, 8, 9, 15, 16].into_iter().chain(NO_TURNS) {
+        assert!(!is_chosen(&BOARD, turn), "{turn}");
+    }
+}
+
+#[test]
+fn every_choice_of_four_is_counted() {
+    let ones = [0, 1, 1, 2, 1, 2, 2, 3, 1, 2, 2, 3, 2, 3, 3, 4];
+    for (map, ones) in ones.into_iter().enumerate() {
+        let board = board_with(map as u8, 0);
+        assert_eq!(count(&board), Ok(ones), "{map}");
+        for turn in 0..4 {
+            assert_eq!(
+                is_chosen(&board, turn),
+                map / 2usize.pow(turn as u32) % 2 == 1
+            );
+        }
+    }
+}
+
+#[test]
+fn bytes_that_are_no_board_choose_nothing() {
+    let mut others: Vec<Vec<u8>> = (0..BOARD.len()).map(|len| BOARD[..len].to_vec()).collect();
+    others.extend([0x1E, 0x2E, 0x8E, 0xFF].map(|map| board_with(map, 0)));
+    others.push([&BOARD[..], &[0]].concat());
+    others.push(SHEET.to_vec());
+    for bytes in others {
+        assert_eq!(count(&bytes), Err(12), "{bytes:?}");
+        for turn in (0..16).chain(NO_TURNS) {
+            assert!(!is_chosen(&bytes, turn), "{turn} {bytes:?}");
+        }
+    }
+}
+
+#[test]
+fn fewest_and_most_are_counted() {
+    let none = b"GRB\0\0\0\0\0\0\0\0\0\0\0\0";
+    assert_eq!(count(none), Ok(0));
+    assert!(!is_chosen(none, 0));
+    let mut most = b"GRB\xFF\xFF\0\0\0\0\0\0\0\0\0\0".to_vec();
+    most.extend([0xFF; 8191]);
+    most.push(0x7F);
+    assert_eq!(count(&most), Ok(65_535));
+    assert!(is_chosen(&most, 0) && is_chosen(&most, 65_534));
+    for turn in NO_TURNS {
+        assert!(!is_chosen(&most, turn), "{turn}");
+    }
+    most[15 + 8191] = 0xFF;
+    assert_eq!(count(&most), Err(12));
 }
 
 #[test]

@@ -1,5 +1,5 @@
-//! Times this library and the reference version side by side and prints a
-//! table. It judges nothing: what differs is for the comparison to find.
+//! Times this library and the fast reference version side by side and prints
+//! a table. It judges nothing: what differs is for the comparison to find.
 //!
 //! ```text
 //! SLOPEBOARD_LIB_DIR=$PWD/target/staticlib cargo run --release --manifest-path reference/bench/Cargo.toml
@@ -13,9 +13,8 @@
 use std::hint::black_box;
 use std::time::{Duration, Instant};
 
-use slopeboard_reference as reference;
 use slopeboard_reference::gen::{self, Rng, Shift};
-use slopeboard_reference::shapes;
+use slopeboard_reference::{fast, naive, shapes};
 
 /// How many times each version is timed on a sheet.
 const ROUNDS: usize = 301;
@@ -38,7 +37,7 @@ impl Job {
     fn new(rng: &mut Rng, shift: &Shift) -> Job {
         let sheet = gen::encode(rng, shift, 0).bytes;
         let mut board = vec![0; slopeboard::board_bytes(shift.turns.len())];
-        let len = reference::plan(&sheet, &mut board).expect("the sheet is accepted");
+        let len = fast::plan(&sheet, &mut board).expect("the sheet is accepted");
         board.truncate(len);
         Job {
             sheet,
@@ -49,7 +48,7 @@ impl Job {
     }
 
     fn steps(&self) -> usize {
-        reference::steps(&self.board).len() / 4
+        naive::steps(&self.board).len() / 4
     }
 }
 
@@ -64,22 +63,22 @@ const ENTRIES: [Entry; 4] = [
     Entry {
         name: "read",
         library: |job| slopeboard::read(&job.sheet, &mut job.numbers).is_ok(),
-        reference: |job| reference::read(&job.sheet, &mut job.numbers).is_ok(),
+        reference: |job| fast::read(&job.sheet, &mut job.numbers).is_ok(),
     },
     Entry {
         name: "plan",
         library: |job| slopeboard::plan(&job.sheet, &mut job.bytes).is_ok(),
-        reference: |job| reference::plan(&job.sheet, &mut job.bytes).is_ok(),
+        reference: |job| fast::plan(&job.sheet, &mut job.bytes).is_ok(),
     },
     Entry {
         name: "check",
         library: |job| slopeboard::check(&job.sheet, &job.board).is_ok(),
-        reference: |job| reference::check(&job.sheet, &job.board).is_ok(),
+        reference: |job| fast::check(&job.sheet, &job.board).is_ok(),
     },
     Entry {
         name: "list",
         library: |job| slopeboard::list(&job.sheet, &mut job.bytes).is_ok(),
-        reference: |job| reference::listing(&job.sheet, &mut job.bytes).is_ok(),
+        reference: |job| fast::listing(&job.sheet, &mut job.bytes).is_ok(),
     },
 ];
 

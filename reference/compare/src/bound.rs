@@ -1,10 +1,12 @@
 //! What a board that passes promises: on small sheets, no choice of turns
 //! without a conflict is worth more than twice its tally, and none is worth
 //! more than the board where no slope has two turns. Tried out on every
-//! choice; the reference's check and planner have no part in it.
+//! choice; the judge's check and planner have no part in it.
 
 use slopeboard_reference::boards;
 use slopeboard_reference::gen::{self, Rng, Shift};
+use slopeboard_reference::naive::best_worth;
+use slopeboard_reference::naive::turns::turns_of;
 
 use crate::foreign;
 use crate::report::{show, Report};
@@ -82,7 +84,7 @@ impl Run {
         let turns = &shift.turns;
         let sheet = gen::encode(&mut self.rng, &shift, 20).bytes;
         let best = Best {
-            worth: boards::best_worth(turns),
+            worth: best_worth(&turns_of(&turns.concat())),
             one_a_slope: slopes_differ(turns),
         };
         for round in 0..10 {

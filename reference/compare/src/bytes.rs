@@ -23,7 +23,7 @@ pub type Call<'a> = &'a dyn Fn(&mut [u8]) -> BytesAnswer;
 impl Lent {
     /// Makes both calls with so many lent bytes. The answers and everything
     /// in and around the lent bytes must agree; on a refusal, all of it must
-    /// be as before. Gives the reference's answer.
+    /// be as before. Gives the judge's answer.
     pub fn compare(
         &mut self,
         rng: &mut Rng,
@@ -48,7 +48,7 @@ impl Lent {
         ours
     }
 
-    /// What the reference wrote at the front of its lent bytes.
+    /// What the judge wrote at the front of its lent bytes.
     pub fn written(&self, bytes: usize) -> &[u8] {
         &self.ours[GUARD..GUARD + bytes]
     }
@@ -64,7 +64,7 @@ impl Lent {
     }
 }
 
-/// The reference's result in the form that the library gives.
+/// The judge's result in the form that the library gives.
 pub fn answer(result: Result<usize, u8>) -> BytesAnswer {
     match result {
         Ok(len) => BytesAnswer {

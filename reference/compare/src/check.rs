@@ -1,9 +1,8 @@
 //! Checking a board against a sheet.
 
-use slopeboard_reference as reference;
 use slopeboard_reference::boards::{self, Draft, Order};
 use slopeboard_reference::gen::{self, Rng, Shift};
-use slopeboard_reference::shapes;
+use slopeboard_reference::{naive, shapes};
 
 use crate::foreign::{self, CheckAnswer};
 use crate::placed::Placed;
@@ -35,10 +34,10 @@ struct Run {
     board: Placed,
 }
 
-/// The reference's board of an accepted sheet.
+/// The judge's board of an accepted sheet.
 fn planned(sheet: &[u8]) -> Vec<u8> {
     let mut board = vec![0; 1665];
-    let len = reference::plan(sheet, &mut board).expect("the sheet is accepted");
+    let len = naive::plan(sheet, &mut board).expect("the sheet is accepted");
     board.truncate(len);
     board
 }
@@ -226,10 +225,10 @@ impl Run {
     }
 
     /// Compares the two checks on what has been placed and gives the
-    /// reference's refusal.
+    /// judge's refusal.
     fn compare(&mut self) -> u8 {
         let (sheet, board) = (self.sheet.input(), self.board.input());
-        let ours = answer(reference::check(sheet, board));
+        let ours = answer(naive::check(sheet, board));
         let theirs = foreign::check(sheet, board);
         self.report.count(ours.refusal);
         if ours != theirs {
@@ -243,7 +242,7 @@ impl Run {
     }
 }
 
-/// The reference's result in the form that the library gives.
+/// The judge's result in the form that the library gives.
 fn answer(result: Result<(u32, u32), u8>) -> CheckAnswer {
     let (refusal, (tally, worth)) = result.map_or_else(|number| (number, (0, 0)), |sums| (0, sums));
     CheckAnswer {

@@ -1,5 +1,5 @@
-//! The library under test, through the wrapper's declarations of its C
-//! interface.
+//! The library under test, through the declarations of its C interface in
+//! `bindings/rust`.
 
 use slopeboard::raw;
 pub use slopeboard::raw::{BytesAnswer, CheckAnswer, Part, ReadAnswer};

@@ -1,9 +1,9 @@
 //! The drivers' listing.
 
 use slopeboard::MOST_TEXT_BYTES;
-use slopeboard_reference as reference;
 use slopeboard_reference::boards;
 use slopeboard_reference::gen::{self, Rng, Shift};
+use slopeboard_reference::naive;
 
 use crate::bytes::{answer, Lent};
 use crate::foreign;
@@ -79,7 +79,7 @@ impl Run {
     fn case(&mut self, rng: &mut Rng, sheet: &[u8], room: usize) -> Option<usize> {
         self.placed.put(rng, sheet);
         let sheet = self.placed.input();
-        let ours = |out: &mut [u8]| answer(reference::listing(sheet, out));
+        let ours = |out: &mut [u8]| answer(naive::listing(sheet, out));
         let theirs = |out: &mut [u8]| foreign::list(sheet, out);
         let (report, calls) = (&mut self.report, [&ours as _, &theirs as _]);
         let answer = self.lent.compare(rng, report, calls, room, sheet);

@@ -1,5 +1,5 @@
-//! Runs the library under test and the reference version on the same inputs
-//! and stops with an error if they ever differ.
+//! Runs the library under test and the judge, which is the naive reference
+//! version, on the same inputs and stops with an error if they ever differ.
 //!
 //! Each entry of the library has a module of its own with a `run` that says
 //! whether all went well.

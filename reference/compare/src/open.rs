@@ -1,8 +1,7 @@
 //! Opening a board, and its steps.
 
-use slopeboard_reference as reference;
 use slopeboard_reference::gen::Rng;
-use slopeboard_reference::{boards, shapes};
+use slopeboard_reference::{boards, naive, shapes};
 
 use crate::foreign;
 use crate::placed::Placed;
@@ -144,7 +143,7 @@ impl Run {
     /// Compares the two versions on the board that has been placed.
     fn compare(&mut self) {
         let board = self.placed.input();
-        let ours = reference::open(board);
+        let ours = naive::open(board);
         let theirs = foreign::open(board);
         self.report.count(ours);
         if ours != theirs {
@@ -164,7 +163,7 @@ impl Run {
 
 /// The steps must be the board's own bytes, at the very place.
 fn compare_steps(report: &mut Report, board: &[u8], opens: bool) {
-    let steps = reference::steps(board);
+    let steps = naive::steps(board);
     let ours = foreign::Part {
         start: if opens { board.len() - steps.len() } else { 0 },
         length: steps.len(),

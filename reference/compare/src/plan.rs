@@ -1,7 +1,7 @@
 //! Planning a board.
 
-use slopeboard_reference as reference;
 use slopeboard_reference::gen::{self, Rng};
+use slopeboard_reference::naive;
 
 use crate::bytes::{answer, Lent};
 use crate::foreign;
@@ -42,7 +42,7 @@ impl Run {
     fn case(&mut self, rng: &mut Rng, sheet: &[u8], room: usize) -> bool {
         self.placed.put(rng, sheet);
         let sheet = self.placed.input();
-        let ours = |out: &mut [u8]| answer(reference::plan(sheet, out));
+        let ours = |out: &mut [u8]| answer(naive::plan(sheet, out));
         let theirs = |out: &mut [u8]| foreign::plan(sheet, out);
         let (report, calls) = (&mut self.report, [&ours as _, &theirs as _]);
         let answer = self.lent.compare(rng, report, calls, room, sheet);

@@ -1,7 +1,7 @@
 //! Reading a sheet.
 
-use slopeboard_reference as reference;
 use slopeboard_reference::gen::{self, Encoded, Rng};
+use slopeboard_reference::naive::{self, Counts};
 
 use crate::foreign::{self, ReadAnswer};
 use crate::report::{show, Report};
@@ -209,7 +209,7 @@ impl Run {
         let first = self.lay_out(sheet, behind, places);
         let sheet = &self.bytes[first..first + sheet.len()];
         let lent = GUARD..GUARD + places;
-        let ours = answer(reference::read(sheet, &mut self.ours[lent.clone()]));
+        let ours = answer(naive::read(sheet, &mut self.ours[lent.clone()]));
         let theirs = foreign::read(sheet, &mut self.theirs[lent.clone()]);
         self.report.count(ours.refusal);
         if ours != theirs {
@@ -246,14 +246,14 @@ impl Run {
     }
 }
 
-/// The reference's result in the form that the library gives.
-fn answer(result: Result<reference::Header, u8>) -> ReadAnswer {
+/// The judge's result in the form that the library gives.
+fn answer(result: Result<Counts, u8>) -> ReadAnswer {
     match result {
-        Ok(header) => ReadAnswer {
+        Ok(counts) => ReadAnswer {
             refusal: 0,
-            groomers: header.groomers,
-            slopes: header.slopes,
-            turns: header.turns,
+            groomers: counts.groomers as u16,
+            slopes: counts.slopes as u16,
+            turns: counts.turns as u16,
         },
         Err(refusal) => ReadAnswer {
             refusal,

@@ -33,7 +33,7 @@ impl Report {
         }
     }
 
-    /// Counts an input under the reference's refusal, 0 if it is accepted.
+    /// Counts an input under the judge's refusal, 0 if it is accepted.
     pub fn count(&mut self, refusal: u8) {
         self.bins[usize::from(refusal)] += 1;
     }

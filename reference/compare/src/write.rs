@@ -1,8 +1,7 @@
 //! Writing a sheet.
 
-use slopeboard_reference as reference;
 use slopeboard_reference::gen::{self, Rng};
-use slopeboard_reference::shapes;
+use slopeboard_reference::{naive, shapes};
 
 use crate::bytes::{answer, Lent};
 use crate::foreign;
@@ -182,7 +181,7 @@ impl Run {
         self.table.extend(table);
         self.table.extend([1, 1, 0, 1, 1]);
         let table = &self.table[..table.len()];
-        let ours = |out: &mut [u8]| answer(reference::write(groomers, slopes, table, out));
+        let ours = |out: &mut [u8]| answer(naive::write(groomers, slopes, table, out));
         let theirs = |out: &mut [u8]| foreign::write(groomers, slopes, table, out);
         let (rng, report) = (&mut self.rng, &mut self.report);
         let calls = [&ours as _, &theirs as _];

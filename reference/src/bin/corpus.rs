@@ -1,5 +1,6 @@
 //! Writes the files `stdin` and `stdout` into a folder: cases for a small
-//! test program without a heap, and the lines it must print.
+//! test program without a heap, and the lines it must print, as the naive
+//! version has them.
 //!
 //! ```text
 //! corpus FOLDER ENTRY..     the cases of the named entries (all if none is named)
@@ -24,22 +25,27 @@
 //! | 4 open | 0 | bytes of the board | the board |
 //! | 5 check | bytes of the sheet | bytes of the board | the sheet, then the board |
 //! | 6 list | bytes lent | bytes of the sheet | the sheet |
+//! | 7 count | 0 | bytes of the board | the board |
+//! | 8 chosen | a turn's number | bytes of the board | the board |
 //!
 //! Before the call each lent number is A5A5 and each lent byte A5. The line
 //! has the entry's name, the refusal, the values returned (0 on a refusal) and
 //! a checksum of all that was lent, as it is after the call: from 1, for each
 //! place, times 31 plus what it holds, modulo 65,521. For `open` the values
 //! are the length of the steps handed back, and the checksum is theirs;
-//! `check` has none.
+//! `check` and `count` have none. `chosen` can refuse nothing: its line has
+//! the name, and 1 or 0 for chosen or not.
 
 use std::path::Path;
 use std::process::ExitCode;
 use std::{env, fs, io};
 
-use slopeboard_reference::plan;
+use slopeboard_reference::naive::plan;
 
 #[path = "corpus/check.rs"]
 mod check;
+#[path = "corpus/choice.rs"]
+mod choice;
 #[path = "corpus/list.rs"]
 mod list;
 #[path = "corpus/open.rs"]
@@ -73,13 +79,15 @@ const FILL: u8 = 0xA5;
 /// An entry's name and what adds its cases.
 type Entry = (&'static str, fn(&mut Corpus));
 
-const ENTRIES: [Entry; 6] = [
+const ENTRIES: [Entry; 8] = [
     ("read", read::add),
     ("write", write::add),
     ("plan", planning::add),
     ("open", open::add),
     ("check", check::add),
     ("list", list::add),
+    ("count", choice::add_counts),
+    ("chosen", choice::add_turns),
 ];
 
 /// The two files as they grow.
@@ -124,7 +132,7 @@ pub fn byte_sum(bytes: &[u8]) -> u32 {
         .fold(1, |sum, &value| (sum * 31 + u32::from(value)) % 65_521)
 }
 
-/// The reference's board of an accepted sheet.
+/// The judge's board of an accepted sheet.
 pub fn planned(sheet: &[u8]) -> Vec<u8> {
     let mut board = vec![0; 1665];
     let len = plan(sheet, &mut board).expect("the sheet is accepted");

@@ -1,6 +1,6 @@
 //! Writes the runs of the program `slopes` into a folder: for each, what it
 //! is given on standard input, `NAME.sheet`, and what it must print,
-//! `NAME.text`.
+//! `NAME.text`, as the naive version has it.
 //!
 //! ```text
 //! cargo run --release --manifest-path reference/Cargo.toml --bin runs -- tests/slopes
@@ -11,7 +11,8 @@ use std::process::ExitCode;
 use std::{env, fs, io};
 
 use slopeboard_reference::gen::{self, Rng};
-use slopeboard_reference::{listing, refused_line, shapes};
+use slopeboard_reference::naive::{listing, refused_line};
+use slopeboard_reference::shapes;
 
 /// The worked example: two groomers, three slopes, four turns.
 const EXAMPLE: [u8; 39] = [

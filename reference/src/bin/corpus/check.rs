@@ -2,7 +2,8 @@
 
 use slopeboard_reference::boards::{self, Order};
 use slopeboard_reference::gen::{self, Rng};
-use slopeboard_reference::{check, shapes};
+use slopeboard_reference::naive::check;
+use slopeboard_reference::shapes;
 
 use crate::planning::named_sheets;
 use crate::{planned, Corpus, EXAMPLE, EXAMPLE_BOARD};

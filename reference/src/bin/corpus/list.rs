@@ -1,6 +1,6 @@
 //! Cases for the drivers' listing.
 
-use slopeboard_reference::listing;
+use slopeboard_reference::naive::listing;
 
 use crate::planning::{named_sheets, seeded_sheets};
 use crate::{byte_sum, Corpus, EXAMPLE, FILL};

@@ -2,7 +2,8 @@
 
 use slopeboard_reference::boards;
 use slopeboard_reference::gen::Rng;
-use slopeboard_reference::{open, shapes, steps};
+use slopeboard_reference::naive::{open, steps};
+use slopeboard_reference::shapes;
 
 use crate::{byte_sum, Corpus, EXAMPLE_BOARD};
 

@@ -1,7 +1,8 @@
 //! Cases for planning a board, and the sheets that other entries share.
 
 use slopeboard_reference::gen::{self, Rng};
-use slopeboard_reference::{plan, shapes};
+use slopeboard_reference::naive::plan;
+use slopeboard_reference::shapes;
 
 use crate::{byte_sum, read, Corpus, EXAMPLE, FILL};
 

@@ -1,7 +1,7 @@
 //! Cases for reading a sheet.
 
 use slopeboard_reference::gen::{self, Rng};
-use slopeboard_reference::read;
+use slopeboard_reference::naive::read;
 
 use crate::{Corpus, EXAMPLE};
 
@@ -33,7 +33,7 @@ fn case(corpus: &mut Corpus, sheet: &[u8], places: usize) {
     assert!(places <= MOST_PLACES && sheet.len() <= LONGEST_SHEET);
     let mut table = vec![FILL; places];
     let (refusal, [groomers, slopes, turns]) = match read(sheet, &mut table) {
-        Ok(header) => (0, [header.groomers, header.slopes, header.turns]),
+        Ok(counts) => (0, [counts.groomers, counts.slopes, counts.turns]),
         Err(number) => (number, [0; 3]),
     };
     let sum = checksum(&table);

@@ -1,7 +1,7 @@
 //! Cases for writing a sheet.
 
 use slopeboard_reference::gen::{self, Rng};
-use slopeboard_reference::{read, write};
+use slopeboard_reference::naive::{read, write};
 
 use crate::{byte_sum, Corpus, EXAMPLE, FILL};
 

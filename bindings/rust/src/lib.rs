@@ -7,12 +7,19 @@
 //! `include/slopeboard.h`.
 //!
 //! To build, the environment variable `SLOPEBOARD_LIB_DIR` names the folder of
-//! `libslopeboard.a`.
+//! `libslopeboard.a`, an archive for x86-64. Nothing here needs an operating
+//! system or a heap; how much stack each function needs is in the header, too.
+
+#![no_std]
 
 pub mod raw;
 mod refusal;
 
 pub use refusal::Refusal;
+
+/// The number of this interface, as `SLOPEBOARD_VERSION` in the header: each
+/// change that a caller can see raises it.
+pub const VERSION: u32 = 2;
 
 /// Numbers that a turn takes in a turn table: slope, groomer, start, length,
 /// worth.

@@ -1,7 +1,7 @@
 //! The refusals and their numbers.
 
-use std::error::Error;
-use std::fmt;
+use core::error::Error;
+use core::fmt;
 
 /// Why the library refused. The number of each is fixed.
 #[derive(Clone, Copy, Debug, PartialEq, Eq)]

@@ -1,7 +1,5 @@
 //! The board: layout, opening, writing.
 
-use crate::refusal;
-
 const MAGIC: [u8; 3] = *b"GRB";
 const HEADER_LEN: usize = 15;
 const STEP_LEN: usize = 4;
@@ -14,7 +12,7 @@ pub struct Step {
 }
 
 /// A board whose shape has been found right.
-pub(crate) struct View<'a> {
+pub struct View<'a> {
     pub turns: usize,
     pub tally: u32,
     pub worth: u32,
@@ -23,35 +21,18 @@ pub(crate) struct View<'a> {
 }
 
 /// Bytes of the choice map of so many turns.
-pub(crate) fn map_len(turns: usize) -> usize {
+pub fn map_len(turns: usize) -> usize {
     turns.div_ceil(8)
 }
 
 /// Bytes of a board with so many turns and steps.
-pub(crate) fn board_len(turns: usize, steps: usize) -> usize {
+pub fn board_len(turns: usize, steps: usize) -> usize {
     HEADER_LEN + map_len(turns) + STEP_LEN * steps
-}
-
-/// Opens a board by its own count of turns: 0 if its shape is right, else 12.
-pub fn open(board: &[u8]) -> u8 {
-    match view(board) {
-        Some(_) => 0,
-        None => refusal::BAD_BOARD,
-    }
-}
-
-/// The part of the board's bytes that holds the steps; empty if the shape is
-/// not right.
-pub fn steps(board: &[u8]) -> &[u8] {
-    match view(board) {
-        Some(view) => view.steps,
-        None => &[],
-    }
 }
 
 /// Splits a board into its parts if its shape is right. What the numbers say
 /// is not judged here.
-pub(crate) fn view(board: &[u8]) -> Option<View<'_>> {
+pub fn view(board: &[u8]) -> Option<View<'_>> {
     if board.len() < HEADER_LEN || board[..3] != MAGIC {
         return None;
     }
@@ -82,17 +63,17 @@ fn has_bit_past(map: &[u8], turns: usize) -> bool {
 }
 
 /// Whether a choice map marks this turn.
-pub(crate) fn is_chosen(map: &[u8], turn: usize) -> bool {
+pub fn is_marked(map: &[u8], turn: usize) -> bool {
     map[turn / 8] >> (turn % 8) & 1 != 0
 }
 
 /// Marks a turn in a choice map.
-pub(crate) fn mark_chosen(map: &mut [u8], turn: usize) {
+pub fn mark_chosen(map: &mut [u8], turn: usize) {
     map[turn / 8] |= 1 << (turn % 8);
 }
 
 /// The steps in a stretch of a board.
-pub(crate) fn each_step(bytes: &[u8]) -> impl Iterator<Item = Step> + '_ {
+pub fn each_step(bytes: &[u8]) -> impl Iterator<Item = Step> + '_ {
     bytes.chunks_exact(STEP_LEN).map(|step| Step {
         turn: u16::from_be_bytes([step[0], step[1]]),
         amount: u16::from_be_bytes([step[2], step[3]]),
@@ -100,7 +81,7 @@ pub(crate) fn each_step(bytes: &[u8]) -> impl Iterator<Item = Step> + '_ {
 }
 
 /// What a board says, ready to be written.
-pub(crate) struct Content<'a> {
+pub struct Content<'a> {
     pub turns: u16,
     pub tally: u32,
     pub worth: u32,
@@ -110,7 +91,7 @@ pub(crate) struct Content<'a> {
 
 /// Writes a board at the front of a buffer with room for it and gives its
 /// length. What lies behind it stays.
-pub(crate) fn put(content: &Content, out: &mut [u8]) -> usize {
+pub fn put(content: &Content, out: &mut [u8]) -> usize {
     let len = board_len(usize::from(content.turns), content.steps.len());
     let (head, body) = out[..len].split_at_mut(HEADER_LEN);
     head[..3].copy_from_slice(&MAGIC);

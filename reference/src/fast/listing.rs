@@ -2,11 +2,11 @@
 
 use std::fmt::Write;
 
-use crate::board::{board_len, is_chosen, view};
-use crate::plan::plan_turns;
-use crate::refusal;
-use crate::sheet::{no_turns, parse};
-use crate::turns::Turn;
+use super::board::{board_len, is_marked, view};
+use super::plan::plan_turns;
+use super::refusal;
+use super::sheet::{no_turns, parse};
+use super::turns::Turn;
 
 /// Writes the listing of a sheet's plan as text and gives its length.
 pub fn listing(sheet: &[u8], out: &mut [u8]) -> Result<usize, u8> {
@@ -18,11 +18,6 @@ pub fn listing(sheet: &[u8], out: &mut [u8]) -> Result<usize, u8> {
     };
     place.copy_from_slice(text.as_bytes());
     Ok(text.len())
-}
-
-/// The line that stands in place of a listing if the sheet is refused.
-pub fn refused_line(number: u8) -> String {
-    format!("refused {number}\n")
 }
 
 fn text(groomers: u16, turns: &[Turn]) -> String {
@@ -47,7 +42,7 @@ fn round_of(groomer: u16, turns: &[Turn], map: &[u8]) -> Vec<Turn> {
     let mut round: Vec<Turn> = turns
         .iter()
         .enumerate()
-        .filter(|(number, turn)| is_chosen(map, *number) && turn.groomer == groomer)
+        .filter(|(number, turn)| is_marked(map, *number) && turn.groomer == groomer)
         .map(|(_, turn)| *turn)
         .collect();
     round.sort_unstable_by_key(|turn| turn.start);

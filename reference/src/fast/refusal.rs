@@ -6,7 +6,7 @@ pub const TRUNCATED: u8 = 1;
 pub const BAD_MAGIC: u8 = 2;
 /// The number of groomers or slopes is out of range.
 pub const BAD_COUNTS: u8 = 3;
-/// The sheet or table has over 400 turns.
+/// The sheet has over 400 turns.
 pub const TOO_MANY_TURNS: u8 = 4;
 /// A record's map has an unknown bit, or the first record lacks a field.
 pub const BAD_FIELD_MAP: u8 = 5;
@@ -34,5 +34,3 @@ pub const BAD_STEP: u8 = 15;
 pub const TURN_LEFT_OPEN: u8 = 16;
 /// The board's tally or worth is wrong, or the worth is less than the tally.
 pub const BAD_SUMS: u8 = 17;
-/// A turn table ends inside a turn.
-pub const BAD_TABLE_LENGTH: u8 = 18;

@@ -1,15 +1,7 @@
 //! Turns, their limits, and which of them may stand on a board together.
 
-use crate::refusal;
-
-pub const MAX_GROOMERS: u32 = 16;
-pub const MAX_SLOPES: u32 = 120;
-pub const MAX_TURNS: usize = 400;
-pub const LAST_END: u32 = 960;
-pub const MAX_WORTH: u16 = 60_000;
-
-/// Numbers that a turn takes in a turn table.
-pub const FIELDS: usize = 5;
+use super::refusal;
+use crate::limits::{FIELDS, LAST_END, MAX_GROOMERS, MAX_SLOPES, MAX_WORTH};
 
 /// One turn; the fields stand in the order of the turn table.
 #[derive(Clone, Copy, Debug, Default, PartialEq, Eq)]
@@ -22,17 +14,6 @@ pub struct Turn {
 }
 
 impl Turn {
-    /// Takes a turn from its five numbers in a table.
-    pub fn from_fields(fields: &[u16]) -> Turn {
-        Turn {
-            slope: fields[0],
-            groomer: fields[1],
-            start: fields[2],
-            length: fields[3],
-            worth: fields[4],
-        }
-    }
-
     pub fn fields(&self) -> [u16; FIELDS] {
         [
             self.slope,

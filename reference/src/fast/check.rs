@@ -1,10 +1,10 @@
 //! The check of a board against its sheet.
 
-use crate::board::{each_step, is_chosen, view, Step};
-use crate::plan::{charge, full_worths};
-use crate::refusal;
-use crate::sheet::{no_turns, parse};
-use crate::turns::{Selection, Turn};
+use super::board::{each_step, is_marked, view, Step};
+use super::plan::{charge, full_worths};
+use super::refusal;
+use super::sheet::{no_turns, parse};
+use super::turns::{Selection, Turn};
 
 /// Checks a board against a sheet and gives the board's tally and worth.
 pub fn check(sheet: &[u8], board: &[u8]) -> Result<(u32, u32), u8> {
@@ -28,12 +28,12 @@ pub fn check(sheet: &[u8], board: &[u8]) -> Result<(u32, u32), u8> {
 fn check_choice(turns: &[Turn], map: &[u8]) -> Result<u32, u8> {
     let mut selection = Selection::new();
     for (number, turn) in turns.iter().enumerate() {
-        if is_chosen(map, number) && !selection.add(turn) {
+        if is_marked(map, number) && !selection.add(turn) {
             return Err(refusal::CHOSEN_CONFLICT);
         }
     }
     for (number, turn) in turns.iter().enumerate() {
-        if !is_chosen(map, number) && selection.fits(turn) {
+        if !is_marked(map, number) && selection.fits(turn) {
             return Err(refusal::NOT_MAXIMAL);
         }
     }

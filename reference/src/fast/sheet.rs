@@ -1,12 +1,11 @@
-//! The shift sheet: reader and writer.
+//! The shift sheet's reader.
 
-use crate::refusal;
-use crate::turns::{judge_counts, Turn, FIELDS, MAX_TURNS};
+use super::refusal;
+use super::turns::{judge_counts, Turn};
+use crate::limits::{FIELDS, MAX_TURNS};
 
 const MAGIC: [u8; 3] = *b"GRM";
 const HEADER_LEN: usize = 7;
-/// The longest record is a map and all its fields.
-const MAX_LEN: usize = HEADER_LEN + MAX_TURNS * 9;
 
 const HAS_SLOPE: u8 = 1;
 const HAS_GROOMER: u8 = 1 << 1;
@@ -26,9 +25,9 @@ pub struct Header {
 }
 
 /// Room for the turns of any accepted sheet.
-pub(crate) type TurnArray = [Turn; MAX_TURNS];
+pub type TurnArray = [Turn; MAX_TURNS];
 
-pub(crate) fn no_turns() -> TurnArray {
+pub fn no_turns() -> TurnArray {
     [Turn::default(); MAX_TURNS]
 }
 
@@ -48,7 +47,7 @@ pub fn read(sheet: &[u8], table: &mut [u16]) -> Result<Header, u8> {
 }
 
 /// Goes through all bytes of a sheet and leaves its turns in the array.
-pub(crate) fn parse(sheet: &[u8], turns: &mut TurnArray) -> Result<Header, u8> {
+pub fn parse(sheet: &[u8], turns: &mut TurnArray) -> Result<Header, u8> {
     let (header, mut rest) = parse_header(sheet)?;
     let groomers = u32::from(header.groomers);
     let slopes = u32::from(header.slopes);
@@ -135,80 +134,4 @@ fn resolve(map: u8, fields: &[u8], previous: Turn) -> Turn {
         turn.worth = u16::from_be_bytes([fields[at], fields[at + 1]]);
     }
     turn
-}
-
-/// Puts the turns of a table, in their order, into as few bytes as the format
-/// allows and gives the number of bytes. The counts are wide numbers, so that
-/// one too large for its byte is refused instead of cut.
-pub fn write(groomers: u32, slopes: u32, table: &[u16], out: &mut [u8]) -> Result<usize, u8> {
-    if !table.len().is_multiple_of(FIELDS) {
-        return Err(refusal::BAD_TABLE_LENGTH);
-    }
-    judge_counts(groomers, slopes)?;
-    let count = table.len() / FIELDS;
-    if count > MAX_TURNS {
-        return Err(refusal::TOO_MANY_TURNS);
-    }
-    // A late turn may still be refused, and its refusal must leave the
-    // caller's buffer alone: hence a buffer of our own.
-    let mut sheet = [0; MAX_LEN];
-    // The counts were judged above: each fits its place.
-    put_header(groomers as u8, slopes as u8, count as u16, &mut sheet);
-    let mut len = HEADER_LEN;
-    let mut previous = None;
-    for turn in table.chunks_exact(FIELDS).map(Turn::from_fields) {
-        turn.judge(groomers, slopes)?;
-        len += put_record(shortest_map(previous, turn), turn, &mut sheet[len..]);
-        previous = Some(turn);
-    }
-    let Some(place) = out.get_mut(..len) else {
-        return Err(refusal::BUFFER_TOO_SMALL);
-    };
-    place.copy_from_slice(&sheet[..len]);
-    Ok(len)
-}
-
-fn put_header(groomers: u8, slopes: u8, turns: u16, out: &mut [u8]) {
-    out[..3].copy_from_slice(&MAGIC);
-    out[3] = groomers;
-    out[4] = slopes;
-    out[5..HEADER_LEN].copy_from_slice(&turns.to_be_bytes());
-}
-
-/// The map of a record that brings only what changed.
-fn shortest_map(previous: Option<Turn>, turn: Turn) -> u8 {
-    let Some(old) = previous else {
-        return ALL_FIELDS;
-    };
-    let flag = |changed: bool, flag: u8| if changed { flag } else { 0 };
-    flag(old.slope != turn.slope, HAS_SLOPE)
-        | flag(old.groomer != turn.groomer, HAS_GROOMER)
-        | flag(old.start != turn.start, HAS_START)
-        | flag(old.length != turn.length, HAS_LENGTH)
-        | flag(old.worth != turn.worth, HAS_WORTH)
-}
-
-/// Writes the map and the fields it announces, and gives their length. The
-/// turn has been judged, so its slope and groomer fit a byte each.
-fn put_record(map: u8, turn: Turn, out: &mut [u8]) -> usize {
-    out[0] = map;
-    let mut at = 1;
-    for (flag, value) in [(HAS_SLOPE, turn.slope), (HAS_GROOMER, turn.groomer)] {
-        if map & flag != 0 {
-            out[at] = value as u8;
-            at += 1;
-        }
-    }
-    let wide = [
-        (HAS_START, turn.start),
-        (HAS_LENGTH, turn.length),
-        (HAS_WORTH, turn.worth),
-    ];
-    for (flag, value) in wide {
-        if map & flag != 0 {
-            out[at..at + 2].copy_from_slice(&value.to_be_bytes());
-            at += 2;
-        }
-    }
-    at
 }

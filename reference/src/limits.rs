@@ -1,0 +1,11 @@
+//! The limits of sheets, for the seeded inputs and the fast version. The
+//! naive version has them where they are looked at.
+
+pub const MAX_GROOMERS: u32 = 16;
+pub const MAX_SLOPES: u32 = 120;
+pub const MAX_TURNS: usize = 400;
+pub const LAST_END: u32 = 960;
+pub const MAX_WORTH: u16 = 60_000;
+
+/// Numbers that a turn takes in a turn table.
+pub const FIELDS: usize = 5;

@@ -1,0 +1,73 @@
+//! The check of a board against a sheet.
+
+use super::board::opened;
+use super::planning::{fits, is_open, take, tally, worth, worths};
+use super::sheet::accept;
+use super::turns::{conflict, Turn};
+
+/// Checks a board against a sheet: the sheet's refusals, then 12 to 17, in
+/// their order. Gives the board's tally and worth.
+pub fn check(sheet: &[u8], board: &[u8]) -> Result<(u32, u32), u8> {
+    let turns = accept(sheet)?.turns;
+    let board = opened(board)?;
+    if board.chosen.len() != turns.len() {
+        return Err(12);
+    }
+    check_choice(&turns, &board.chosen)?;
+    check_steps(&turns, &board.steps)?;
+    let tally_is_right = board.tally == tally(&board.steps);
+    let worth_is_right = board.worth == worth(&turns, &board.chosen);
+    if !tally_is_right || !worth_is_right || board.worth < board.tally {
+        return Err(17);
+    }
+    Ok((board.tally as u32, board.worth as u32))
+}
+
+/// Refusals 13, two chosen turns that conflict, and 14, an unchosen turn that
+/// conflicts with none chosen.
+fn check_choice(turns: &[Turn], chosen: &[bool]) -> Result<(), u8> {
+    for a in 0..turns.len() {
+        for b in 0..turns.len() {
+            if chosen[a] && chosen[b] && conflict(turns, a, b) {
+                return Err(13);
+            }
+        }
+    }
+    for turn in 0..turns.len() {
+        if !chosen[turn] && fits(turns, chosen, turn) {
+            return Err(14);
+        }
+    }
+    Ok(())
+}
+
+/// Refusals 15, a step that is not right, and 16, a turn that is open after
+/// the last step.
+fn check_steps(turns: &[Turn], steps: &[(usize, i64)]) -> Result<(), u8> {
+    let mut left = worths(turns);
+    for &(turn, amount) in steps {
+        if !is_right(turns, &left, turn, amount) {
+            return Err(15);
+        }
+        take(turns, &mut left, turn, amount);
+    }
+    if (0..turns.len()).any(|turn| is_open(&left, turn)) {
+        return Err(16);
+    }
+    Ok(())
+}
+
+/// Whether a step is right: there is such a turn, it is open, the amount is
+/// what remains of it, and no open turn of its groomer has an earlier end.
+fn is_right(turns: &[Turn], left: &[i64], turn: usize, amount: i64) -> bool {
+    if turn >= turns.len() || !is_open(left, turn) || amount != left[turn] {
+        return false;
+    }
+    for other in 0..turns.len() {
+        let same_groomer = turns[other].groomer == turns[turn].groomer;
+        if is_open(left, other) && same_groomer && turns[other].end() < turns[turn].end() {
+            return false;
+        }
+    }
+    true
+}

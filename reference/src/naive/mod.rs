@@ -1,0 +1,45 @@
+//! The judge: the rules as they are worded, in their order, with nothing done
+//! for speed. Turns are a list, every search goes through all of it, minutes
+//! are looked at one by one, and nothing is kept that can be found again. So
+//! it can be read beside the description of sheets, boards and rules, a file
+//! for each part of it. The numbers in it are the description's own; an error
+//! is the number of a refusal.
+
+pub mod board;
+mod check;
+mod listing;
+pub mod planning;
+mod sets;
+pub mod sheet;
+pub mod turns;
+
+pub use board::{count, is_chosen, open, steps};
+pub use check::check;
+pub use listing::{listing, refused_line};
+pub use planning::plan;
+pub use sets::best_worth;
+pub use sheet::{read, write, Counts};
+
+/// Copies the bytes to the front of the lent ones and gives their number; 11
+/// if there are too few lent.
+fn lend(bytes: &[u8], out: &mut [u8]) -> Result<usize, u8> {
+    if out.len() < bytes.len() {
+        return Err(11);
+    }
+    out[..bytes.len()].copy_from_slice(bytes);
+    Ok(bytes.len())
+}
+
+/// The number that these bytes make up, high byte first.
+fn number(bytes: &[u8]) -> u32 {
+    let mut number = 0;
+    for &byte in bytes {
+        number = 256 * number + u32::from(byte);
+    }
+    number
+}
+
+/// Whether this bit of a byte stands, bit 0 being the lowest.
+fn bit(byte: u8, place: usize) -> bool {
+    byte >> place & 1 == 1
+}

@@ -1,0 +1,88 @@
+//! Turns, the ranges of their values, and when two of them conflict.
+
+#[derive(Clone, Copy, Debug, PartialEq, Eq)]
+pub struct Turn {
+    pub slope: u32,
+    pub groomer: u32,
+    pub start: u32,
+    pub length: u32,
+    pub worth: u32,
+}
+
+impl Turn {
+    /// The turn with these values: slope, groomer, start, length, worth.
+    pub fn new(values: [u32; 5]) -> Turn {
+        let [slope, groomer, start, length, worth] = values;
+        Turn {
+            slope,
+            groomer,
+            start,
+            length,
+            worth,
+        }
+    }
+
+    pub fn values(&self) -> [u32; 5] {
+        [
+            self.slope,
+            self.groomer,
+            self.start,
+            self.length,
+            self.worth,
+        ]
+    }
+
+    pub fn end(&self) -> u32 {
+        self.start + self.length
+    }
+
+    /// Whether this minute is one from the start up to, but not including,
+    /// the end.
+    pub fn holds(&self, minute: u32) -> bool {
+        self.start <= minute && minute < self.end()
+    }
+}
+
+/// The turns of a turn table, five numbers each.
+pub fn turns_of(table: &[u16]) -> Vec<Turn> {
+    let rows = table.chunks(5);
+    rows.map(|row| Turn::new([0, 1, 2, 3, 4].map(|field| u32::from(row[field]))))
+        .collect()
+}
+
+/// Refusal 3: groomers or slopes outside their range.
+pub fn judge_counts(groomers: u32, slopes: u32) -> Result<(), u8> {
+    if !(1..=16).contains(&groomers) || !(1..=120).contains(&slopes) {
+        return Err(3);
+    }
+    Ok(())
+}
+
+/// Refusals 6 to 9: a value of the turn outside its range, in their order.
+pub fn judge_turn(turn: &Turn, groomers: u32, slopes: u32) -> Result<(), u8> {
+    if turn.slope == 0 || turn.slope > slopes {
+        return Err(6);
+    }
+    if turn.groomer == 0 || turn.groomer > groomers {
+        return Err(7);
+    }
+    if turn.length == 0 || turn.end() > 960 {
+        return Err(8);
+    }
+    if turn.worth == 0 || turn.worth > 60_000 {
+        return Err(9);
+    }
+    Ok(())
+}
+
+/// Whether there is a minute that both turns hold.
+pub fn share_a_minute(a: &Turn, b: &Turn) -> bool {
+    (a.start..a.end()).any(|minute| b.holds(minute))
+}
+
+/// Whether the turns with these numbers conflict: they are two, and they have
+/// the same slope, or the same groomer and a minute that both hold.
+pub fn conflict(turns: &[Turn], a: usize, b: usize) -> bool {
+    let (x, y) = (&turns[a], &turns[b]);
+    a != b && (x.slope == y.slope || (x.groomer == y.groomer && share_a_minute(x, y)))
+}

@@ -1,0 +1,46 @@
+//! What both versions do, called in both: they must agree in every answer and
+//! in every place that was lent. Gives the judge's answer.
+
+// Each test file uses some of these.
+#![allow(dead_code)]
+
+use slopeboard_reference::naive::Counts;
+use slopeboard_reference::{fast, naive};
+
+pub fn read(sheet: &[u8], table: &mut [u16]) -> Result<Counts, u8> {
+    let mut other = table.to_vec();
+    let answer = naive::read(sheet, table);
+    let fast = fast::read(sheet, &mut other).map(|header| Counts {
+        groomers: header.groomers.into(),
+        slopes: header.slopes.into(),
+        turns: header.turns.into(),
+    });
+    assert_eq!(fast, answer, "{sheet:?}");
+    assert_eq!(other, table, "{sheet:?}");
+    answer
+}
+
+pub fn plan(sheet: &[u8], board: &mut [u8]) -> Result<usize, u8> {
+    written(sheet, board, [naive::plan, fast::plan])
+}
+
+pub fn listing(sheet: &[u8], text: &mut [u8]) -> Result<usize, u8> {
+    written(sheet, text, [naive::listing, fast::listing])
+}
+
+pub fn check(sheet: &[u8], board: &[u8]) -> Result<(u32, u32), u8> {
+    let answer = naive::check(sheet, board);
+    assert_eq!(fast::check(sheet, board), answer, "{sheet:?} {board:?}");
+    answer
+}
+
+/// A function from a sheet to bytes that are lent.
+type Writes = fn(&[u8], &mut [u8]) -> Result<usize, u8>;
+
+fn written(sheet: &[u8], out: &mut [u8], [naive, fast]: [Writes; 2]) -> Result<usize, u8> {
+    let mut other = out.to_vec();
+    let answer = naive(sheet, out);
+    assert_eq!(fast(sheet, &mut other), answer, "{sheet:?}");
+    assert_eq!(other, out, "{sheet:?}");
+    answer
+}
