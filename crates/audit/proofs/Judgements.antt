@@ -1,16 +1,15 @@
 -- The check by its cases, each premise in the form in which the code's calls and tests leave it. Assumes nothing.
-use Prim.Native.Nat.{ℕ, zero, suc, _+_, _-_, _*_, _<_, _≤_}
-use mathlib.Core.Path.{_≡_, refl, sym, _∙_, ap}
-use mathlib.Core.List.{List, [], _∷_, _++_}
-use mathlib.Core.Bool.{Bool, true, false, not, cond, _&&_, _||_}
+use Prim.Native.Nat.{ℕ, _+_, _-_, _*_, _≤_}
+use mathlib.Core.Path.{_≡_, refl, sym, _∙_}
+use mathlib.Core.List.{List, _++_}
+use mathlib.Core.Bool.{Bool, true, false, not, _&&_}
 use native.Mathlib.Omega.{arith}
 use lib.ListN.{length, take, drop, length-drop}
 use lib.Dec.{eqb, leb, ltb}
 use lib.Seq.{take-all, length-take-le}
-use Rattle.board.proofs.Openings.{formed-length}
-use borrow.Author.Tests.{eq-eqb, ne-eqb, lt-ltb, le-ltb, le-leb, lt-leb, ltb-true, ltb-false}
+use borrow.Author.Tests.{eq-eqb, ne-eqb, le-leb, lt-leb, ltb-true, ltb-false}
 use Rattle.refusal.specs.Number.{malformedBoard, chosenConflict, notMaximal, wrongSums}
-use Rattle.refusal.specs.Cause.{Cause, _when_, firstOf}
+use Rattle.refusal.specs.Cause.{Cause, firstOf}
 use Rattle.refusal.proofs.Order.{numbered, first-stops, first-goes}
 use Rattle.wire.specs.Number.{valueAt}
 use Rattle.model.specs.Turns.{Turns, turnsIn}
@@ -18,8 +17,9 @@ use Rattle.model.specs.Steps.{Step, tally}
 use Rattle.model.specs.Choice.{chosen}
 use Rattle.model.specs.Rules.{independent, maximal, sums}
 use Rattle.board.specs.Choice.{mapBytes, choiceIn}
-use Rattle.board.specs.Board.{boardHeader, boardTurns, boardSteps, boardTally, boardWorth, stepsPlace, boardMap, boardChoice, stepsIn, writtenSteps}
+use Rattle.board.specs.Board.{boardTurns, boardSteps, boardTally, boardWorth, stepsPlace, boardMap, boardChoice, stepsIn, writtenSteps}
 use Rattle.board.specs.Open.{malformed, openOf}
+use Rattle.board.proofs.Openings.{opened, shut, formed-length}
 use Rattle.choices.specs.Below.{apartBelow, independentBelow, maximalBelow, chosenBelow}
 use Rattle.audit.specs.Check.{choiceCauses, stepCauses, ruleCauses, sumCauses, boardCauses}
 
@@ -127,33 +127,15 @@ pub ruleset parts-cases = (parts-rules, parts-sums)
 
 -- ---- the board
 
-opened-cases : (x : Bool) {r : ℕ} → r ≡ firstOf (malformedBoard when x ∷ []) → r ≡ 0 → x ≡ false
-unfolding firstOf
-opened-cases true e z = absurd (omega arith)
-opened-cases false e z = refl
-
-closed-cases : (x : Bool) {r : ℕ} → r ≡ firstOf (malformedBoard when x ∷ []) → (r ≡ 0 → ⊥) → x ≡ true
-unfolding firstOf
-closed-cases true e z = refl
-closed-cases false e z = absurd (z e)
-
 module _ (b : List ℕ) {r : ℕ} (e : r ≡ openOf b) where
-  pub opened : r ≡ 0 → malformed b ≡ false
-  unfolding openOf
-  opened z = opened-cases (malformed b) e z
-
-  pub shut : (r ≡ 0 → ⊥) → malformed b ≡ true
-  unfolding openOf
-  shut z = closed-cases (malformed b) e z
-
   pub board-malformed : (T : Turns) → (r ≡ 0 → ⊥) → malformedBoard ≡ firstOf (boardCauses T b)
   unfolding boardCauses firstOf
-  board-malformed T z = rw (shut z)
+  board-malformed T z = rw (shut b e z)
 
   module _ (n : ℕ) (table : List ℕ) {k : ℕ} (z : r ≡ 0) (p : k ≡ valueAt b 3 2) where
     pub board-other : (k ≡ n → ⊥) → malformedBoard ≡ firstOf (boardCauses (turnsIn n table) b)
     unfolding boardCauses firstOf turnsIn
-    board-other h = rw (opened z, ← p, ne-eqb k n h)
+    board-other h = rw (opened b e z, ← p, ne-eqb k n h)
 
     module _ (h : k ≡ n) {place : ℕ} (q : place ≡ stepsPlace n) where
       turns-are : boardTurns b ≡ n
@@ -170,7 +152,7 @@ module _ (b : List ℕ) {r : ℕ} (e : r ≡ openOf b) where
       pub board-parts : {g : ℕ} → g ≡ firstOf (ruleCauses (turnsIn n table) (choiceIn n (take (place - 15) (drop 15 b))) (stepsIn (boardSteps b) (take (length b - place) (drop place b))) ++ sumCauses (turnsIn n table) (choiceIn n (take (place - 15) (drop 15 b))) (stepsIn (boardSteps b) (take (length b - place) (drop place b))) (boardTally b) (boardWorth b))
           → g ≡ firstOf (boardCauses (turnsIn n table) b)
       unfolding boardCauses firstOf turnsIn
-      board-parts d = rw (opened z, ← p, eq-eqb k n h) (rw (choice-is, steps-are) at d)
+      board-parts d = rw (opened b e z, ← p, eq-eqb k n h) (rw (choice-is, steps-are) at d)
 
 pub ruleset board-cases = (board-malformed, board-other, board-parts)
 

@@ -2,6 +2,7 @@ pub mod Bytes
 pub mod Maps
 pub mod Openings
 pub mod Clean
+pub mod OpenCauses
 pub mod StepBytes
 pub mod Fronts
 pub mod Written

@@ -1,14 +1,14 @@
 -- Opening by its cases, each premise in the form in which the code's calls and tests leave it. Assumes nothing.
 use Prim.Native.Nat.{ℕ, _+_, _-_, _*_, _<_, _≤_}
-use mathlib.Core.Path.{_≡_}
+use mathlib.Core.Path.{_≡_, refl}
 use mathlib.Core.Bool.{Bool, true, false, not, _||_}
-use mathlib.Core.List.{List, []}
+use mathlib.Core.List.{List, [], _∷_}
 use native.Mathlib.Omega.{arith}
 use lib.ListN.{length, take, drop}
 use lib.Dec.{ltb, eqb}
 use borrow.Author.Tests.{eq-eqb, ne-eqb, lt-ltb, le-ltb, ltb-false, eqb-true, not-false}
 use Rattle.refusal.specs.Number.{malformedBoard}
-use Rattle.refusal.specs.Cause.{firstOf}
+use Rattle.refusal.specs.Cause.{_when_, firstOf}
 use Rattle.wire.specs.Number.{valueAt}
 use Rattle.wire.specs.Mark.{boardMark, opensWith}
 use Rattle.lists.proofs.Bools.{or-false-1, or-false-2}
@@ -37,6 +37,26 @@ module _ (b : List ℕ) where
   pub open-accepted : {r : Bool} → r ≡ malformed b → r ≡ false → 0 ≡ openOf b
   unfolding openOf firstOf
   open-accepted e t = rw (← e, t)
+
+-- what the number says of the bytes
+opened-cases : (x : Bool) {r : ℕ} → r ≡ firstOf (malformedBoard when x ∷ []) → r ≡ 0 → x ≡ false
+unfolding firstOf
+opened-cases true e z = absurd (omega arith)
+opened-cases false e z = refl
+
+shut-cases : (x : Bool) {r : ℕ} → r ≡ firstOf (malformedBoard when x ∷ []) → (r ≡ 0 → ⊥) → x ≡ true
+unfolding firstOf
+shut-cases true e z = refl
+shut-cases false e z = absurd (z e)
+
+module _ (b : List ℕ) {r : ℕ} (e : r ≡ openOf b) where
+  pub opened : r ≡ 0 → malformed b ≡ false
+  unfolding openOf
+  opened z = opened-cases (malformed b) e z
+
+  pub shut : (r ≡ 0 → ⊥) → malformed b ≡ true
+  unfolding openOf
+  shut z = shut-cases (malformed b) e z
 
 pub ruleset open-cases = (malformed-short, malformed-mark, malformed-sizes, open-refused, open-accepted)
 

@@ -7,7 +7,7 @@ use lib.ListN.{take, drop}
 use Rattle.wire.specs.Number.{valueAt}
 use Rattle.board.specs.Board.{boardTurns, boardSteps, stepsPlace}
 use Rattle.board.specs.Open.{malformed, openOf, stepsPart}
-use Rattle.audit.proofs.Judgements.{opened, shut}
+use Rattle.board.proofs.Openings.{opened, shut}
 use Rattle.slopeboard.specs.declared.Part.{Part}
 use Rattle.slopeboard.specs.Part.{stepsPartAt}
 

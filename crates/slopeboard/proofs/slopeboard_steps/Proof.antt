@@ -1,6 +1,5 @@
 use Rattle.slopeboard.proofs.Parts.{part-none, part-at, part-named}
-use Rattle.audit.proofs.Judgements.{opened}
-use Rattle.board.proofs.Openings.{formed-header}
+use Rattle.board.proofs.Openings.{opened, formed-header}
 use native.Mathlib.Omega.{arith}
 use borrow.Author.Needs.{needs}
 use Rattle.slopeboard.proofs.slopeboard_steps.Statement.{statement}

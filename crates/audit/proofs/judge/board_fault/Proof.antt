@@ -1,6 +1,6 @@
 use native.Mathlib.Omega.{arith}
-use Rattle.board.proofs.Openings.{formed-header}
-use Rattle.audit.proofs.Judgements.{opened, board-cases, place-inside, map-room, steps-room}
+use Rattle.board.proofs.Openings.{opened, formed-header}
+use Rattle.audit.proofs.Judgements.{board-cases, place-inside, map-room, steps-room}
 use borrow.Author.Needs.{needs}
 use Rattle.audit.proofs.judge.board_fault.Statement.{statement}
 use Rattle.audit.proofs.judge.board_fault.Tie as tie
