@@ -6,7 +6,7 @@ use mathlib.Core.List.{List}
 use native.Mathlib.Omega.{arith}
 use native.Mathlib.Decide.{decLt, ℕ-discrete}
 use lib.Dec.{eqb}
-use lib.ListN.{length, getD, set, replicate, length-set, length-replicate, getD-replicate, List·getD-eq-default}
+use lib.ListN.{length, getD, set, take, drop, replicate, length-set, length-replicate, getD-replicate, List·getD-eq-default}
 use lib.Seq.{getD-set-same, getD-set-other, ext-getD}
 use borrow.Author.Tests.{eq-eqb, ne-eqb, not-true}
 use Rattle.wire.specs.Number.{Bytes, none, more}
@@ -50,6 +50,16 @@ bytes-tab : (n : ℕ) (f : ℕ → ℕ) → ((k : ℕ) → f k < 256) → Bytes 
 unfolding tab
 bytes-tab zero f h = none
 bytes-tab (suc n) f h = more (h zero) (bytes-tab n (λ k. f (suc k)) (λ k. h (suc k)))
+
+pub bytes-take : (k : ℕ) {l : List ℕ} → Bytes l → Bytes (take k l)
+bytes-take zero b = none
+bytes-take (suc k) none = none
+bytes-take (suc k) (more b r) = more b (bytes-take k r)
+
+pub bytes-drop : (k : ℕ) {l : List ℕ} → Bytes l → Bytes (drop k l)
+bytes-drop zero b = b
+bytes-drop (suc k) none = none
+bytes-drop (suc k) (more b r) = bytes-drop k r
 
 bytes-zeros : (k : ℕ) → Bytes (replicate k 0)
 bytes-zeros zero = none

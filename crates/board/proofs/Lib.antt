@@ -9,3 +9,4 @@ pub mod Written
 pub mod Next
 pub mod NextChosen
 pub mod Counts
+pub mod OnesFrom

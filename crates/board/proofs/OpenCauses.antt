@@ -11,14 +11,15 @@ use borrow.Author.Tests.{eq-eqb, eqb-true, eqb-false, lt-ltb, le-ltb, ltb-true, 
 use Rattle.refusal.specs.Number.{malformedBoard}
 use Rattle.refusal.specs.Cause.{Cause, _when_, firstOf, There, here, later, First}
 use Rattle.refusal.proofs.Order.{numbered, first-iff, none-given}
+use Rattle.wire.specs.Number.{Bytes}
 use Rattle.wire.specs.Mark.{boardMark, opensWith}
 use Rattle.wire.proofs.Marks.{board-mark-iff}
 use Rattle.lists.proofs.Bools.{not-both, fails, every-not}
-use Rattle.board.specs.Choice.{mapBytes, chosenIn, clearPast}
+use Rattle.board.specs.Choice.{mapBytes, chosenIn, clearPast, Clean}
 use Rattle.board.specs.Board.{boardHeader, boardTurns, boardSteps, boardLength, boardMap}
 use Rattle.board.specs.Open.{badSizes, malformed, openOf, WellFormed, OpenCause, short-header, other-mark, more-steps, other-length, bit-past, FirstOpenCause}
-use Rattle.board.proofs.Clean.{clear-bits, bits-clear}
-use Rattle.board.proofs.Openings.{formed-header, formed-mark, formed-steps, formed-length, formed-clear, opened}
+use Rattle.board.proofs.Clean.{clear-bits, bits-clear, bytes-take, bytes-drop}
+use Rattle.board.proofs.Openings.{formed-header, formed-mark, formed-steps, formed-length, formed-clear, formed-map, opened}
 
 -- ---- the tests, and what they say
 
@@ -38,6 +39,11 @@ pub board-formed : (b : List ℕ) {n m : ℕ} → WellFormed b n m → malformed
 unfolding malformed badSizes
 board-formed b w =
     rw (w .turns, w .steps, le-ltb (length b) boardHeader (w .header), board-mark-iff b .1 (w .mark), le-ltb _ _ (w .steps-fit), eq-eqb _ _ (w .exact), bits-clear _ (boardMap b) (w .clear))
+
+-- the map of a board that opens is clean
+pub formed-clean : (b : List ℕ) → malformed b ≡ false → Bytes b → Clean (boardTurns b) (boardMap b)
+unfolding boardMap
+formed-clean b e y = record { size = formed-map b e; bytes = bytes-take (mapBytes (boardTurns b)) (bytes-drop boardHeader y); clear = formed-clear b e }
 
 -- ---- 0 or 12
 

@@ -7,10 +7,10 @@ use mathlib.Core.Logic.{_≢_}
 use lib.ListN.{length, take, drop}
 use lib.Dec.{ltb, eqb}
 use Rattle.refusal.specs.Number.{malformedBoard}
-use Rattle.refusal.specs.Cause.{Cause, _when_, firstOf, FirstAmong}
+use Rattle.refusal.specs.Cause.{_when_, firstOf, FirstAmong}
 use Rattle.wire.specs.Mark.{boardMark, opensWith}
 use Rattle.board.specs.Choice.{mapBytes, chosenIn, clearPast}
-use Rattle.board.specs.Board.{boardHeader, boardTurns, boardSteps, stepsPlace, boardLength, boardMap}
+use Rattle.board.specs.Board.{boardHeader, stepSize, boardTurns, boardSteps, stepsPlace, boardLength, boardMap}
 
 -- more steps than turns, a length that is not the one these two numbers give, or a map bit set behind that of the last turn
 unfoldable pub badSizes : List ℕ → Bool
@@ -28,7 +28,7 @@ openOf b = firstOf (malformedBoard when malformed b ∷ [])
 
 -- the steps' stretch of the board, empty where the board does not open, and where it has no steps
 unfoldable pub stepsPart : List ℕ → List ℕ
-stepsPart b = cond (malformed b) [] (take (4 * boardSteps b) (drop (stepsPlace (boardTurns b)) b))
+stepsPart b = cond (malformed b) [] (take (stepSize * boardSteps b) (drop (stepsPlace (boardTurns b)) b))
 
 -- ---- as statements
 
