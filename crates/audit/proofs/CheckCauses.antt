@@ -26,8 +26,9 @@ use Rattle.sheet.proofs.Causes.{refused-iff, first-same, cause-there}
 use Rattle.sheet.proofs.Readings.{sheet-numbered}
 use Rattle.board.specs.Board.{boardTurns, boardSteps, boardTally, boardWorth, boardChoice, writtenSteps}
 use Rattle.board.specs.Open.{malformed, WellFormed}
+use Rattle.board.proofs.OpenCauses.{formed-board, board-formed}
 use Rattle.audit.specs.Check.{sheetTurns, choiceCauses, stepCauses, ruleCauses, sumCauses, boardCauses, checkCauses, checkOf, BoardCause, form, two-conflict, room-left, step-wrong, turn-open, sums-differ, CheckCause, of-sheet, of-board, FirstCheckCause}
-use Rattle.audit.proofs.Passing.{check-number, sheet-lengths, formed-board, board-formed}
+use Rattle.audit.proofs.Passing.{check-number, sheet-lengths}
 
 module _ (T : Turns) (lengths : PositiveLengths T) (b : List ℕ) where
   -- ---- each test that fails, in words

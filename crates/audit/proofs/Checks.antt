@@ -9,7 +9,6 @@ use borrow.Author.Tests.{ne-eqb}
 use Rattle.refusal.specs.Number.{malformedBoard}
 use Rattle.refusal.specs.Cause.{Cause, _when_, firstOf}
 use Rattle.refusal.proofs.Order.{first-stops, first-goes}
-use Rattle.wire.specs.Number.{valueAt}
 use Rattle.model.specs.Turns.{Turns, turnsIn, RowsBounded}
 use Rattle.lists.proofs.Bools.{or-false-1}
 use Rattle.sheet.specs.declared.reader.ReadAnswer.{ReadAnswer}
@@ -81,5 +80,5 @@ module _ (s b lent t : List ℕ) (a : ReadAnswer) (e : (a ≡ answerOf s) × (a 
       pub check-board : {x : CheckAnswer} → (f ≡ 0 → ⊥) → x ≡ checked f 0 0 → x ≡ checkOf s b
       check-board y x = x ∙ check-refused s b f board-is y
 
-      pub check-passed : {tallied worth : ℕ} → f ≡ 0 → tallied ≡ valueAt b 7 4 → worth ≡ valueAt b 11 4 → checked 0 tallied worth ≡ checkOf s b
+      pub check-passed : {tallied worth : ℕ} → f ≡ 0 → tallied ≡ boardTally b → worth ≡ boardWorth b → checked 0 tallied worth ≡ checkOf s b
       check-passed y p q = rw (p, q) (check-fine s b (board-is ∙ y))

@@ -1,27 +1,23 @@
 -- The check by its cases, each premise in the form in which the code's calls and tests leave it. Assumes nothing.
-use Prim.Native.Nat.{ℕ, zero, suc, _+_, _-_, _*_, _<_, _≤_}
-use mathlib.Core.Path.{_≡_, refl, sym, _∙_, ap}
-use mathlib.Core.List.{List, [], _∷_, _++_}
-use mathlib.Core.Bool.{Bool, true, false, not, cond, _&&_, _||_}
-use native.Mathlib.Omega.{arith}
-use lib.ListN.{length, take, drop, length-drop}
+use Prim.Native.Nat.{ℕ, _+_, _-_}
+use mathlib.Core.Path.{_≡_, refl, sym, _∙_}
+use mathlib.Core.List.{List, _++_}
+use mathlib.Core.Bool.{Bool, true, false, not, _&&_}
 use lib.Dec.{eqb, leb, ltb}
-use lib.Seq.{take-all, length-take-le}
-use Rattle.board.proofs.Openings.{formed-length}
-use borrow.Author.Tests.{eq-eqb, ne-eqb, lt-ltb, le-ltb, le-leb, lt-leb, ltb-true, ltb-false}
+use borrow.Author.Tests.{eq-eqb, ne-eqb, le-leb, lt-leb, ltb-true, ltb-false}
 use Rattle.refusal.specs.Number.{malformedBoard, chosenConflict, notMaximal, wrongSums}
-use Rattle.refusal.specs.Cause.{Cause, _when_, firstOf}
+use Rattle.refusal.specs.Cause.{Cause, firstOf}
 use Rattle.refusal.proofs.Order.{numbered, first-stops, first-goes}
-use Rattle.wire.specs.Number.{valueAt}
 use Rattle.model.specs.Turns.{Turns, turnsIn}
 use Rattle.model.specs.Steps.{Step, tally}
 use Rattle.model.specs.Choice.{chosen}
 use Rattle.model.specs.Rules.{independent, maximal, sums}
-use Rattle.board.specs.Choice.{mapBytes, choiceIn}
-use Rattle.board.specs.Board.{boardHeader, boardTurns, boardSteps, boardTally, boardWorth, stepsPlace, boardMap, boardChoice, stepsIn, writtenSteps}
-use Rattle.board.specs.Open.{malformed, openOf}
+use Rattle.board.specs.Choice.{choiceIn}
+use Rattle.board.specs.Board.{boardTurns, boardSteps, boardTally, boardWorth, boardMap, boardChoice, stepsIn, writtenSteps}
+use Rattle.board.specs.Open.{openOf, stepsPart}
+use Rattle.board.proofs.Openings.{opened, shut, part-steps}
 use Rattle.choices.specs.Below.{apartBelow, independentBelow, maximalBelow, chosenBelow}
-use Rattle.audit.specs.Check.{choiceCauses, stepCauses, ruleCauses, sumCauses, boardCauses}
+use Rattle.audit.specs.Check.{choiceCauses, stepCauses, ruleCauses, sumCauses, partCauses, boardCauses}
 
 -- ---- the choice
 
@@ -73,7 +69,7 @@ module _ (tallied worth amounts earned : ℕ) where
 
 pub ruleset wrong-cases = (wrong-tally, wrong-worth, wrong-below)
 
-module _ (n : ℕ) (table : List ℕ) (S : List Bool) (xs : List Step) (b : List ℕ) {tallied worth amounts earned : ℕ} (r : Bool) (u : tallied ≡ valueAt b 7 4) (v : worth ≡ valueAt b 11 4) (p : amounts ≡ tally xs) (q : earned ≡ chosenBelow (turnsIn n table) S n) (e : not r ≡ (eqb tallied amounts && (eqb worth earned && leb tallied worth))) where
+module _ (n : ℕ) (table : List ℕ) (S : List Bool) (xs : List Step) (b : List ℕ) {tallied worth amounts earned : ℕ} (r : Bool) (u : tallied ≡ boardTally b) (v : worth ≡ boardWorth b) (p : amounts ≡ tally xs) (q : earned ≡ chosenBelow (turnsIn n table) S n) (e : not r ≡ (eqb tallied amounts && (eqb worth earned && leb tallied worth))) where
   sums-is : sums (turnsIn n table) S xs (boardTally b) (boardWorth b) ≡ not r
   unfolding sums
   sums-is = sym (e ∙ rw (p, q, ← chosen-below n table S, u, v))
@@ -110,7 +106,7 @@ module _ (T : Turns) (S : List Bool) (xs : List Step) where
 
 pub ruleset rules-cases = (rules-choice, rules-steps)
 
-module _ (T : Turns) (S : List Bool) (bytes b : List ℕ) (m : ℕ) (p : m ≡ valueAt b 5 2) {f : ℕ} (e : f ≡ firstOf (ruleCauses T S (stepsIn m bytes))) where
+module _ (T : Turns) (S : List Bool) (bytes b : List ℕ) (m : ℕ) (p : m ≡ boardSteps b) {f : ℕ} (e : f ≡ firstOf (ruleCauses T S (stepsIn m bytes))) where
   counted : f ≡ firstOf (ruleCauses T S (stepsIn (boardSteps b) bytes))
   counted = rw p at e
 
@@ -118,7 +114,7 @@ module _ (T : Turns) (S : List Bool) (bytes b : List ℕ) (m : ℕ) (p : m ≡ v
   parts-rules later z = sym (first-stops (ruleCauses T S (stepsIn (boardSteps b) bytes)) later f (sym counted) z)
 
   pub parts-sums : {g : ℕ} → f ≡ 0 → g ≡ firstOf (sumCauses T S (stepsIn m bytes) (boardTally b) (boardWorth b))
-      → g ≡ firstOf (ruleCauses T S (stepsIn (boardSteps b) bytes) ++ sumCauses T S (stepsIn (boardSteps b) bytes) (boardTally b) (boardWorth b))
+      → g ≡ firstOf (partCauses T S (stepsIn (boardSteps b) bytes) (boardTally b) (boardWorth b))
   parts-sums z h =
       rw p at h
       ∙ sym (first-goes (ruleCauses T S (stepsIn (boardSteps b) bytes)) (sumCauses T S (stepsIn (boardSteps b) bytes) (boardTally b) (boardWorth b)) (rule-numbered T S (stepsIn (boardSteps b) bytes)) (sym counted ∙ z))
@@ -127,68 +123,26 @@ pub ruleset parts-cases = (parts-rules, parts-sums)
 
 -- ---- the board
 
-opened-cases : (x : Bool) {r : ℕ} → r ≡ firstOf (malformedBoard when x ∷ []) → r ≡ 0 → x ≡ false
-unfolding firstOf
-opened-cases true e z = absurd (omega arith)
-opened-cases false e z = refl
-
-closed-cases : (x : Bool) {r : ℕ} → r ≡ firstOf (malformedBoard when x ∷ []) → (r ≡ 0 → ⊥) → x ≡ true
-unfolding firstOf
-closed-cases true e z = refl
-closed-cases false e z = absurd (z e)
-
 module _ (b : List ℕ) {r : ℕ} (e : r ≡ openOf b) where
-  pub opened : r ≡ 0 → malformed b ≡ false
-  unfolding openOf
-  opened z = opened-cases (malformed b) e z
-
-  pub shut : (r ≡ 0 → ⊥) → malformed b ≡ true
-  unfolding openOf
-  shut z = closed-cases (malformed b) e z
-
   pub board-malformed : (T : Turns) → (r ≡ 0 → ⊥) → malformedBoard ≡ firstOf (boardCauses T b)
   unfolding boardCauses firstOf
-  board-malformed T z = rw (shut z)
+  board-malformed T z = rw (shut b e z)
 
-  module _ (n : ℕ) (table : List ℕ) {k : ℕ} (z : r ≡ 0) (p : k ≡ valueAt b 3 2) where
+  module _ (n : ℕ) (table : List ℕ) {k : ℕ} (z : r ≡ 0) (p : k ≡ boardTurns b) where
     pub board-other : (k ≡ n → ⊥) → malformedBoard ≡ firstOf (boardCauses (turnsIn n table) b)
     unfolding boardCauses firstOf turnsIn
-    board-other h = rw (opened z, ← p, ne-eqb k n h)
+    board-other h = rw (opened b e z, ← p, ne-eqb k n h)
 
-    module _ (h : k ≡ n) {place : ℕ} (q : place ≡ stepsPlace n) where
-      turns-are : boardTurns b ≡ n
-      turns-are = sym p ∙ h
+    module _ (h : k ≡ n) {map steps : List ℕ} (q : map ≡ boardMap b) (s : steps ≡ stepsPart b) where
+      choice-is : choiceIn n map ≡ boardChoice b
+      unfolding boardChoice
+      choice-is = rw (q, ← p, h)
 
-      choice-is : choiceIn n (take (place - 15) (drop 15 b)) ≡ boardChoice b
-      unfolding boardChoice boardMap
-      choice-is = let w : place - 15 ≡ mapBytes n = omega arith in rw (w, ← turns-are)
+      steps-are : stepsIn (boardSteps b) steps ≡ writtenSteps b
+      steps-are = rw s (part-steps b (opened b e z))
 
-      steps-are : stepsIn (boardSteps b) (take (length b - place) (drop place b)) ≡ writtenSteps b
-      unfolding writtenSteps
-      steps-are = rw (take-all (length b - place) (drop place b) (omega (arith, length-drop place b)), q, ← turns-are)
-
-      pub board-parts : {g : ℕ} → g ≡ firstOf (ruleCauses (turnsIn n table) (choiceIn n (take (place - 15) (drop 15 b))) (stepsIn (boardSteps b) (take (length b - place) (drop place b))) ++ sumCauses (turnsIn n table) (choiceIn n (take (place - 15) (drop 15 b))) (stepsIn (boardSteps b) (take (length b - place) (drop place b))) (boardTally b) (boardWorth b))
-          → g ≡ firstOf (boardCauses (turnsIn n table) b)
+      pub board-parts : {g : ℕ} → g ≡ firstOf (partCauses (turnsIn n table) (choiceIn n map) (stepsIn (boardSteps b) steps) (boardTally b) (boardWorth b)) → g ≡ firstOf (boardCauses (turnsIn n table) b)
       unfolding boardCauses firstOf turnsIn
-      board-parts d = rw (opened z, ← p, eq-eqb k n h) (rw (choice-is, steps-are) at d)
+      board-parts d = rw (opened b e z, ← p, eq-eqb k n h) (rw (choice-is, steps-are) at d)
 
 pub ruleset board-cases = (board-malformed, board-other, board-parts)
-
--- where the parts of a board that opens lie
-module _ (b : List ℕ) (f : malformed b ≡ false) {n k place : ℕ} (p : k ≡ valueAt b 3 2) (h : k ≡ n) (q : place ≡ stepsPlace n) where
-  whole : length b ≡ place + 4 * boardSteps b
-  whole = formed-length b f ∙ rw (q, ← h, p)
-
-  pub place-inside : place ≤ length b
-  place-inside = omega (arith, whole)
-
-  pub map-room : n ≤ 8 * length (take (place - 15) (drop 15 b))
-  map-room =
-      let w : place - 15 ≡ mapBytes n = omega arith in
-      let l : length (take (place - 15) (drop 15 b)) ≡ place - 15 = length-take-le (place - 15) (drop 15 b) (omega (arith, length-drop 15 b, place-inside)) in
-      omega arith
-
-  pub steps-room : 4 * boardSteps b ≤ length (take (length b - place) (drop place b))
-  steps-room =
-      let l : length (take (length b - place) (drop place b)) ≡ length b - place = length-take-le (length b - place) (drop place b) (omega (arith, length-drop place b)) in
-      omega (arith, whole)

@@ -1,20 +1,18 @@
 -- Replaying by its cases: what the loops over the written steps keep as they go on. Assumes nothing.
-use Prim.Native.Nat.{ℕ, zero, suc, _+_, _-_, _*_, _<_, _≤_}
+use Prim.Native.Nat.{ℕ, zero, suc, _+_, _-_, _<_, _≤_}
 use mathlib.Core.Path.{_≡_, refl, sym, _∙_, ap}
 use mathlib.Core.List.{List, [], _∷_}
-use mathlib.Core.Bool.{Bool, true, false, not, cond, _&&_, true≢false}
+use mathlib.Core.Bool.{Bool, true, false, cond, true≢false}
 use native.Mathlib.Omega.{arith}
-use native.Mathlib.Numerals.{add-one}
 use native.Mathlib.Nat.{add-zero, sub-zero}
 use lib.IntN.{ℤ, pos, negsuc}
 use lib.Signed.{mag}
-use lib.ListN.{length, getD}
+use lib.ListN.{length}
 use Rattle.refusal.specs.Number.{wrongStep, turnLeftOpen}
 use Rattle.refusal.specs.Cause.{firstOf}
-use Rattle.wire.specs.Number.{valueAt}
 use Rattle.lists.specs.Lists.{tab}
 use Rattle.model.specs.Turns.{Turns, turnsIn}
-use Rattle.model.specs.Steps.{Step, residual, part, left, initial, afterStep, afterSteps, tally}
+use Rattle.model.specs.Steps.{Step, residual, part, left, initial, afterStep, afterSteps}
 use Rattle.model.specs.Rules.{Right, right, allRight, noneOpen}
 use Rattle.model.proofs.Readings.{right-is}
 use Rattle.board.specs.Board.{stepAt, stepsIn}
@@ -41,10 +39,10 @@ module _ (n : ℕ) (table : List ℕ) (s : List ℤ) (j a : ℕ) {r : Bool} (e :
   unfolding left
   right-small b = omega (arith, is-right .owed, part-mag (residual s j), bounded-at s j b)
 
-pub step-is : (bytes : List ℕ) (i : ℕ) {j a : ℕ} → j ≡ valueAt bytes (4 * i) 2 → a ≡ valueAt bytes (4 * i + 2) 2 → _≡_ {A = Step} (record { turn = j; amount = a }) (stepAt bytes i)
+pub step-is : (bytes : List ℕ) (i : ℕ) {j a : ℕ} → j ≡ stepAt bytes i .turn → a ≡ stepAt bytes i .amount → _≡_ {A = Step} (record { turn = j; amount = a }) (stepAt bytes i)
 step-is bytes i p q = λ k. record { turn = p k; amount = q k }
 
-module _ (n : ℕ) (table : List ℕ) (s : List ℤ) (bytes : List ℕ) (i j a : ℕ) (p : j ≡ valueAt bytes (4 * i) 2) (q : a ≡ valueAt bytes (4 * i + 2) 2) {r : Bool} (e : r ≡ right (turnsIn n table) s (record { turn = j; amount = a })) where
+module _ (n : ℕ) (table : List ℕ) (s : List ℤ) (bytes : List ℕ) (i j a : ℕ) (p : j ≡ stepAt bytes i .turn) (q : a ≡ stepAt bytes i .amount) {r : Bool} (e : r ≡ right (turnsIn n table) s (record { turn = j; amount = a })) where
   one-right : r ≡ right (turnsIn n table) s (stepAt bytes i)
   one-right = e ∙ ap (right (turnsIn n table) s) (step-is bytes i p q)
 
@@ -54,7 +52,7 @@ module _ (n : ℕ) (table : List ℕ) (s : List ℤ) (bytes : List ℕ) (i j a :
   pub one-true : r ≡ true → true ≡ right (turnsIn n table) s (stepAt bytes i)
   one-true f = sym f ∙ one-right
 
-pub one-applied : (n : ℕ) (table : List ℕ) (s : List ℤ) (bytes : List ℕ) (i j a : ℕ) {s′ : List ℤ} → j ≡ valueAt bytes (4 * i) 2 → a ≡ valueAt bytes (4 * i + 2) 2
+pub one-applied : (n : ℕ) (table : List ℕ) (s : List ℤ) (bytes : List ℕ) (i j a : ℕ) {s′ : List ℤ} → j ≡ stepAt bytes i .turn → a ≡ stepAt bytes i .amount
     → s′ ≡ afterStep (turnsIn n table) s (record { turn = j; amount = a }) → s′ ≡ afterStep (turnsIn n table) s (stepAt bytes i)
 one-applied n table s bytes i j a p q e = e ∙ ap (afterStep (turnsIn n table) s) (step-is bytes i p q)
 
@@ -158,19 +156,3 @@ module _ (n : ℕ) (table : List ℕ) (xs : List Step) {s : List ℤ} {r : Bool}
     fault-none f = rw (shown, t, closed, f)
 
 pub ruleset fault-cases = (fault-step, fault-open, fault-none)
-
--- ---- the tally
-
-module _ (bytes : List ℕ) (m i : ℕ) where
-  pub tally-more : (sum : ℕ) {a z : ℕ} → a ≡ valueAt bytes (4 * i + 2) 2 → i < m → sum + tally (stepsFrom (m - i) i bytes) ≡ z → sum + a + tally (stepsFrom (m - (i + 1)) (i + 1) bytes) ≡ z
-  unfolding tally
-  tally-more sum e h q = let d = rw (steps-more m i bytes h) at q in omega arith
-
-  pub tally-done : (sum : ℕ) {z : ℕ} → m ≤ i → sum + tally (stepsFrom (m - i) i bytes) ≡ z → sum ≡ z
-  unfolding tally
-  tally-done sum h q = let d = rw (steps-none m i bytes h) at q in omega arith
-
-pub tally-start : (m : ℕ) (bytes : List ℕ) → 0 + tally (stepsFrom (m - 0) 0 bytes) ≡ tally (stepsIn m bytes)
-tally-start m bytes = omega (arith, ap tally (steps-start m bytes))
-
-pub ruleset tally-cases = (tally-more, tally-done, tally-start)

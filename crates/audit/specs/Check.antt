@@ -37,11 +37,15 @@ ruleCauses T S xs = choiceCauses T S ++ stepCauses T xs
 unfoldable pub sumCauses : Turns → List Bool → List Step → ℕ → ℕ → List Cause
 sumCauses T S xs tallied worth = wrongSums when not (sums T S xs tallied worth) ∷ []
 
--- all causes that a board gives for some turns: 12 for its bytes or for another number of turns, then its rules, then its sums
+-- the rules are judged before the sums
+abbrev pub partCauses : Turns → List Bool → List Step → ℕ → ℕ → List Cause
+partCauses T S xs tallied worth = ruleCauses T S xs ++ sumCauses T S xs tallied worth
+
+-- all causes that a board gives for some turns: 12 for its bytes or for another number of turns, then those of its parts
 unfoldable pub boardCauses : Turns → List ℕ → List Cause
 boardCauses T b =
     malformedBoard when (malformed b || not (eqb (boardTurns b) (T .count)))
-    ∷ (ruleCauses T (boardChoice b) (writtenSteps b) ++ sumCauses T (boardChoice b) (writtenSteps b) (boardTally b) (boardWorth b))
+    ∷ partCauses T (boardChoice b) (writtenSteps b) (boardTally b) (boardWorth b)
 
 -- the sheet's causes come first
 unfoldable pub checkCauses : List ℕ → List ℕ → List Cause

@@ -1,18 +1,16 @@
 // The check: the sheet's causes first, then the board's, one after another.
 ghost use mathlib.Core.Path.{_≡_};
 ghost use mathlib.Core.Bool.{not, _&&_};
-ghost use mathlib.Core.List.{_++_};
-ghost use Prim.Native.Nat.{_+_, _*_, _≤_, _<_};
+ghost use Prim.Native.Nat.{_*_, _≤_, _<_};
 ghost use lib.ListN.{length};
 ghost use lib.Dec.{eqb, leb};
 ghost use Rattle.refusal.specs.Cause.{firstOf};
 ghost use Rattle.model.specs.Turns.{turnsIn, RowsBounded};
 ghost use Rattle.board.specs.Choice.{choiceIn};
-ghost use Rattle.board.specs.Board.{boardHeader, boardSteps, boardTally, boardWorth, stepsIn};
+ghost use Rattle.board.specs.Board.{boardHeader, stepSize, boardSteps, boardTally, boardWorth, stepsIn};
 ghost use Rattle.choices.specs.Bounds.{Lent};
-ghost use Rattle.audit.specs.Check.{choiceCauses, ruleCauses, sumCauses, boardCauses, checkOf};
+ghost use Rattle.audit.specs.Check.{choiceCauses, ruleCauses, sumCauses, partCauses, boardCauses, checkOf};
 use super::replay::steps_fault;
-use super::replay::tally_of;
 
 // What the check returns: a refusal, 0 if none, and the board's tally and worth, 0 on a refusal.
 #[repr(C)]
@@ -52,7 +50,7 @@ fn are_wrong(tally: u32, worth: u32, amounts: u32, earned: u32) -> bool
 
 // The first cause that the choice or the steps give, 0 if none.
 fn rules_fault(table: &[u16], n: usize, map: &[u8], steps: &[u8], m: usize) -> u8
-    requires { ⌜ (n ≤ 400) × Lent n (now table) (now map) × RowsBounded n (now table) × (4 * m ≤ length (now steps)) ⌝ }
+    requires { ⌜ (n ≤ 400) × Lent n (now table) (now map) × RowsBounded n (now table) × (stepSize * m ≤ length (now steps)) ⌝ }
     ensures { λ r. ⌜ r ≡ firstOf (ruleCauses (turnsIn n (now (table .entry))) (choiceIn n (now (map .entry))) (stepsIn m (now (steps .entry)))) ⌝ }
 {
     let fault = choice_fault(table, n, map);
@@ -64,13 +62,14 @@ fn rules_fault(table: &[u16], n: usize, map: &[u8], steps: &[u8], m: usize) -> u
 }
 
 // The cause that the sums of a board give, 0 if none.
-fn sums_fault(b: &[u8], table: &[u16], n: usize, map: &[u8], steps: &[u8], m: usize) -> u8
-    requires { ⌜ (boardHeader ≤ length (now b)) × (n ≤ 400) × Lent n (now table) (now map) × (4 * m ≤ length (now steps)) × (m ≤ 65535) ⌝ }
-    ensures { λ r. ⌜ r ≡ firstOf (sumCauses (turnsIn n (now (table .entry))) (choiceIn n (now (map .entry))) (stepsIn m (now (steps .entry))) (boardTally (now (b .entry))) (boardWorth (now (b .entry)))) ⌝ }
+fn sums_fault(b: &[u8], table: &[u16], n: usize, map: &[u8], steps: &[u8], m: u16) -> u8
+    requires { ⌜ (boardHeader ≤ length (now b)) × (n ≤ 400) × Lent n (now table) (now map) × (stepSize * m ≤ length (now steps)) ⌝ }
+    ensures { λ r. ⌜ r ≡ firstOf (sumCauses (turnsIn n (now (table .entry))) (choiceIn n (now (map .entry))) (stepsIn m (now (steps .entry)))
+        (boardTally (now (b .entry))) (boardWorth (now (b .entry)))) ⌝ }
 {
-    let tally = wire::quad_at(b, 7);
-    let worth = wire::quad_at(b, 11);
-    let amounts = tally_of(steps, m);
+    let tally = board::tally(b);
+    let worth = board::worth(b);
+    let amounts = board::sum_amounts(steps, m);
     let earned = choices::chosen_worth(table, n, map);
     if are_wrong(tally, worth, amounts, earned) {
         refusal::WRONG_SUMS
@@ -81,15 +80,17 @@ fn sums_fault(b: &[u8], table: &[u16], n: usize, map: &[u8], steps: &[u8], m: us
 
 // The first cause that the parts of a board give, 0 if none: its map and its steps.
 fn parts_fault(b: &[u8], map: &[u8], steps: &[u8], table: &[u16], n: usize) -> u8
-    requires { ⌜ (boardHeader ≤ length (now b)) × (n ≤ 400) × Lent n (now table) (now map) × RowsBounded n (now table) × (4 * boardSteps (now b) ≤ length (now steps)) ⌝ }
-    ensures { λ r. ⌜ r ≡ firstOf (ruleCauses (turnsIn n (now (table .entry))) (choiceIn n (now (map .entry))) (stepsIn (boardSteps (now (b .entry))) (now (steps .entry))) ++ sumCauses (turnsIn n (now (table .entry))) (choiceIn n (now (map .entry))) (stepsIn (boardSteps (now (b .entry))) (now (steps .entry))) (boardTally (now (b .entry))) (boardWorth (now (b .entry)))) ⌝ }
+    requires { ⌜ (boardHeader ≤ length (now b)) × (n ≤ 400) × Lent n (now table) (now map) × RowsBounded n (now table)
+        × (stepSize * boardSteps (now b) ≤ length (now steps)) ⌝ }
+    ensures { λ r. ⌜ r ≡ firstOf (partCauses (turnsIn n (now (table .entry))) (choiceIn n (now (map .entry)))
+        (stepsIn (boardSteps (now (b .entry))) (now (steps .entry))) (boardTally (now (b .entry))) (boardWorth (now (b .entry)))) ⌝ }
 {
-    let m = wire::word_at(b, 5);
+    let m = board::step_count(b);
     let fault = rules_fault(table, n, map, steps, m as usize);
     if fault != 0 {
         return fault;
     }
-    sums_fault(b, table, n, map, steps, m as usize)
+    sums_fault(b, table, n, map, steps, m)
 }
 
 // The first cause to refuse a board for the n turns of a table, 0 if none.
@@ -100,17 +101,12 @@ fn board_fault(b: &[u8], table: &[u16], n: u16) -> u8
     if board::open(b) != 0 {
         return refusal::MALFORMED_BOARD;
     }
-    if wire::word_at(b, 3) != n {
+    if board::turns(b) != n {
         return refusal::MALFORMED_BOARD;
     }
-    let place = board::steps_place(n);
-    parts_fault(
-        b,
-        &b[board::HEADER_BYTES..place],
-        &b[place..],
-        table,
-        n as usize,
-    )
+    let map = board::map(b);
+    let steps = board::steps(b);
+    parts_fault(b, map, steps, table, n as usize)
 }
 
 fn refused(k: u8) -> CheckAnswer
@@ -140,7 +136,7 @@ pub fn check(s: &[u8], b: &[u8]) -> CheckAnswer
     }
     CheckAnswer {
         refusal: 0,
-        tally: wire::quad_at(b, 7),
-        worth: wire::quad_at(b, 11),
+        tally: board::tally(b),
+        worth: board::worth(b),
     }
 }

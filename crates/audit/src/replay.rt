@@ -1,13 +1,13 @@
-// Replaying the steps that stand in a board, four bytes a step: turn number, amount.
+// Replaying the steps that stand in a board.
 ghost use mathlib.Core.Path.{_≡_};
 ghost use mathlib.Core.Bool.{true, cond};
 ghost use Prim.Native.Nat.{_+_, _*_, _≤_, _<_};
 ghost use lib.ListN.{length};
 ghost use Rattle.refusal.specs.Cause.{firstOf};
 ghost use Rattle.model.specs.Turns.{turnsIn, RowsBounded};
-ghost use Rattle.model.specs.Steps.{afterStep, afterSteps, tally};
+ghost use Rattle.model.specs.Steps.{afterStep, afterSteps};
 ghost use Rattle.model.specs.Rules.{right, allRight};
-ghost use Rattle.board.specs.Board.{stepAt, stepsIn};
+ghost use Rattle.board.specs.Board.{stepSize, stepAt, stepsIn};
 ghost use Rattle.ratio.specs.Bounds.{Bounded, Held};
 ghost use Rattle.ratio.specs.Columns.{Columns};
 ghost use Rattle.audit.specs.Check.{stepCauses};
@@ -21,12 +21,13 @@ fn replay_one(
     steps: &[u8],
     i: usize,
 ) -> bool
-    requires { ⌜ Bounded (now rest) × Held n (now rest) (now table) × Columns n (now table) (now cols) × (4 * i + 4 ≤ length (now steps)) ⌝ }
-    ensures { λ r. ⌜ (r ≡ right (turnsIn n (now (table .entry))) (now (rest .entry)) (stepAt (now (steps .entry)) i)) × (now (rest .exit) ≡ cond r (afterStep (turnsIn n (now (table .entry))) (now (rest .entry)) (stepAt (now (steps .entry)) i)) (now (rest .entry))) × Bounded (now (rest .exit)) ⌝ }
+    requires { ⌜ Bounded (now rest) × Held n (now rest) (now table) × Columns n (now table) (now cols) × (stepSize * i + stepSize ≤ length (now steps)) ⌝ }
+    ensures { λ r. ⌜ (r ≡ right (turnsIn n (now (table .entry))) (now (rest .entry)) (stepAt (now (steps .entry)) i))
+        × (now (rest .exit) ≡ cond r (afterStep (turnsIn n (now (table .entry))) (now (rest .entry)) (stepAt (now (steps .entry)) i)) (now (rest .entry)))
+        × Bounded (now (rest .exit)) ⌝ }
 {
-    let at = 4 * i;
-    let turn = wire::word_at(steps, at);
-    let amount = wire::word_at(steps, at + 2);
+    let turn = board::step_turn(steps, i);
+    let amount = board::step_amount(steps, i);
     if ratio::is_right(&*rest, table, cols, n, turn, amount) {
         ratio::apply_step(&mut *rest, table, cols, n, turn as usize, amount);
         return true;
@@ -36,8 +37,10 @@ fn replay_one(
 
 // Whether each of m steps in order is right where it stands; if so, the residuals are those after the last.
 fn replay(rest: &mut [i32], table: &[u16], cols: &[u32], n: usize, steps: &[u8], m: usize) -> bool
-    requires { ⌜ Bounded (now rest) × Held n (now rest) (now table) × Columns n (now table) (now cols) × (4 * m ≤ length (now steps)) ⌝ }
-    ensures { λ r. ⌜ (r ≡ allRight (turnsIn n (now (table .entry))) (now (rest .entry)) (stepsIn m (now (steps .entry)))) × (r ≡ true → now (rest .exit) ≡ afterSteps (turnsIn n (now (table .entry))) (now (rest .entry)) (stepsIn m (now (steps .entry)))) × (length (now (rest .exit)) ≡ n) ⌝ }
+    requires { ⌜ Bounded (now rest) × Held n (now rest) (now table) × Columns n (now table) (now cols) × (stepSize * m ≤ length (now steps)) ⌝ }
+    ensures { λ r. ⌜ (r ≡ allRight (turnsIn n (now (table .entry))) (now (rest .entry)) (stepsIn m (now (steps .entry))))
+        × (r ≡ true → now (rest .exit) ≡ afterSteps (turnsIn n (now (table .entry))) (now (rest .entry)) (stepsIn m (now (steps .entry))))
+        × (length (now (rest .exit)) ≡ n) ⌝ }
 {
     let mut i = 0;
     while i < m {
@@ -52,7 +55,7 @@ fn replay(rest: &mut [i32], table: &[u16], cols: &[u32], n: usize, steps: &[u8],
 
 // The first cause to refuse m steps, 0 if none. The residuals are for this function to use.
 pub fn steps_fault(rest: &mut [i32], table: &[u16], n: usize, steps: &[u8], m: usize) -> u8
-    requires { ⌜ (n ≤ 400) × Held n (now rest) (now table) × RowsBounded n (now table) × (4 * m ≤ length (now steps)) ⌝ }
+    requires { ⌜ (n ≤ 400) × Held n (now rest) (now table) × RowsBounded n (now table) × (stepSize * m ≤ length (now steps)) ⌝ }
     ensures { λ r. ⌜ r ≡ firstOf (stepCauses (turnsIn n (now (table .entry))) (stepsIn m (now (steps .entry)))) ⌝ }
 {
     ratio::set_initial(&mut *rest, table, n);
@@ -67,18 +70,4 @@ pub fn steps_fault(rest: &mut [i32], table: &[u16], n: usize, steps: &[u8], m: u
     } else {
         refusal::WRONG_STEP
     }
-}
-
-// The sum of the amounts of m steps.
-pub fn tally_of(steps: &[u8], m: usize) -> u32
-    requires { ⌜ (4 * m ≤ length (now steps)) × (m ≤ 65535) ⌝ }
-    ensures { λ r. ⌜ r ≡ tally (stepsIn m (now (steps .entry))) ⌝ }
-{
-    let mut sum: u32 = 0;
-    let mut i = 0;
-    while i < m {
-        sum += wire::word_at(steps, 4 * i + 2) as u32;
-        i += 1;
-    }
-    sum
 }

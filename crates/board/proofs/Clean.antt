@@ -6,9 +6,9 @@ use mathlib.Core.List.{List}
 use native.Mathlib.Omega.{arith}
 use native.Mathlib.Decide.{decLt, ℕ-discrete}
 use lib.Dec.{eqb}
-use lib.ListN.{length, getD, set, replicate, length-set, length-replicate, getD-replicate, List·getD-eq-default}
+use lib.ListN.{length, getD, set, take, drop, replicate, length-set, length-replicate, getD-replicate, List·getD-eq-default}
 use lib.Seq.{getD-set-same, getD-set-other, ext-getD}
-use borrow.Author.Tests.{eq-eqb, ne-eqb}
+use borrow.Author.Tests.{eq-eqb, ne-eqb, not-true}
 use Rattle.wire.specs.Number.{Bytes, none, more}
 use Rattle.wire.proofs.Numbers.{byte-below}
 use Rattle.lists.specs.Lists.{tab}
@@ -27,6 +27,18 @@ pub choice-length : (n : ℕ) (map : List ℕ) → length (choiceIn n map) ≡ n
 unfolding choiceIn
 choice-length n map = tab-length n (chosenIn map)
 
+-- ---- no bit past the last turn stands, bit by bit
+
+pub clear-bits : (n : ℕ) (map : List ℕ) → clearPast n map ≡ true → (t : ℕ) → n ≤ t → t < 8 * mapBytes n → chosenIn map t ≡ false
+unfolding clearPast
+clear-bits n map e t l h =
+    let z : n + (t - n) ≡ t = omega arith in
+    not-true (chosenIn map t) (rw z at (every-at (λ k. not (chosenIn map (n + k))) (8 * mapBytes n - n) e (t - n) (omega arith)))
+
+pub bits-clear : (n : ℕ) (map : List ℕ) → ((t : ℕ) → n ≤ t → t < 8 * mapBytes n → chosenIn map t ≡ false) → clearPast n map ≡ true
+unfolding clearPast
+bits-clear n map h = every-of (λ k. not (chosenIn map (n + k))) (8 * mapBytes n - n) (λ k l. rw (h (n + k) (omega arith) (omega arith)))
+
 -- ---- lists of bytes
 
 bytes-set : {map : List ℕ} (i x : ℕ) → Bytes map → x < 256 → Bytes (set map i x)
@@ -38,6 +50,16 @@ bytes-tab : (n : ℕ) (f : ℕ → ℕ) → ((k : ℕ) → f k < 256) → Bytes 
 unfolding tab
 bytes-tab zero f h = none
 bytes-tab (suc n) f h = more (h zero) (bytes-tab n (λ k. f (suc k)) (λ k. h (suc k)))
+
+pub bytes-take : (k : ℕ) {l : List ℕ} → Bytes l → Bytes (take k l)
+bytes-take zero b = none
+bytes-take (suc k) none = none
+bytes-take (suc k) (more b r) = more b (bytes-take k r)
+
+pub bytes-drop : (k : ℕ) {l : List ℕ} → Bytes l → Bytes (drop k l)
+bytes-drop zero b = b
+bytes-drop (suc k) none = none
+bytes-drop (suc k) (more b r) = bytes-drop k r
 
 bytes-zeros : (k : ℕ) → Bytes (replicate k 0)
 bytes-zeros zero = none
@@ -82,10 +104,7 @@ module _ (map : List ℕ) (t : ℕ) (b : Bytes map) (h : t < 8 * length map) whe
   bytes-with = bytes-set (t / 8) (withBit (getD map (t / 8) 0) (t % 8)) b (omega (arith, byte.with-bit-least (getD map (t / 8) 0) (t % 8) (byte-below b (t / 8)) (omega arith)))
 
   clear-with : (n : ℕ) → t < n → clearPast n map ≡ true → clearPast n (withTurn map t) ≡ true
-  unfolding clearPast
-  clear-with n l c =
-      every-of (λ k. not (chosenIn (withTurn map t) (n + k))) (8 * mapBytes n - n)
-      (λ k m. ap not (with-turn (n + k)) ∙ rw (ne-eqb (n + k) t (omega arith)) (every-at (λ k. not (chosenIn map (n + k))) (8 * mapBytes n - n) c k m))
+  clear-with n l c = bits-clear n (withTurn map t) (λ u h k. with-turn u ∙ rw (ne-eqb u t (omega arith)) (clear-bits n map c u h k))
 
 length-with : (map : List ℕ) (t : ℕ) → length (withTurn map t) ≡ length map
 unfolding withTurn
@@ -121,13 +140,7 @@ zeros-choice n k =
     (λ i l. let m : i < n = omega (arith, choice-length n (replicate k 0)) in choice-has n (replicate k 0) i m ∙ zeros-none k i ∙ sym (getD-replicate n i false false m))
 
 pub zeros-clean : (n k : ℕ) → k ≡ mapBytes n → Clean n (replicate k 0)
-unfolding clearPast
-zeros-clean n k e =
-    record {
-      size = length-replicate k 0 ∙ e;
-      bytes = bytes-zeros k;
-      clear = every-of (λ i. not (chosenIn (replicate k 0) (n + i))) (8 * mapBytes n - n) (λ i l. ap not (zeros-none k (n + i)));
-    }
+zeros-clean n k e = record { size = length-replicate k 0 ∙ e; bytes = bytes-zeros k; clear = bits-clear n (replicate k 0) (λ t l h. zeros-none k t) }
 
 -- ---- a clean map is the map of its choice
 
@@ -140,17 +153,6 @@ unfolding mapOf
 map-at S k h = tab-at (mapBytes (length S)) (byteOf S) 0 k h
 
 module _ (n : ℕ) (map : List ℕ) (c : Clean n map) where
-  past : (t : ℕ) → n ≤ t → t < 8 * mapBytes n → chosenIn map t ≡ false
-  unfolding clearPast
-  past t h l =
-      let e : n + (t - n) ≡ t = omega arith in
-      let f : not (chosenIn map (n + (t - n))) ≡ true = every-at (λ k. not (chosenIn map (n + k))) (8 * mapBytes n - n) (c .clear) (t - n) (omega arith) in
-      not-true (chosenIn map t) (rw e at f)
-    where
-      not-true : (b : Bool) → not b ≡ true → b ≡ false
-      not-true true e = sym e
-      not-true false e = refl
-
   has-bit : (t : ℕ) → t < 8 * mapBytes n → has (choiceIn n map) t ≡ chosenIn map t
   has-bit t h = go (decLt t n)
     where
@@ -158,7 +160,7 @@ module _ (n : ℕ) (map : List ℕ) (c : Clean n map) where
       go (yes l) = choice-has n map t l
       go (no l) =
           let q : length (choiceIn n map) ≤ t = omega (arith, choice-length n map) in
-          List·getD-eq-default (choiceIn n map) false q ∙ sym (past t (omega arith) h)
+          List·getD-eq-default (choiceIn n map) false q ∙ sym (clear-bits n map (c .clear) t (omega arith) h)
 
   same-byte : (k : ℕ) → k < mapBytes n → getD map k 0 ≡ byteOf (choiceIn n map) k
   unfolding byteOf chosenIn
@@ -191,12 +193,10 @@ module _ (S : List Bool) where
       (λ i l. let k : i < length S = omega (arith, choice-length (length S) (mapOf S)) in choice-has (length S) (mapOf S) i k ∙ map-chosen i (omega arith))
 
   pub map-clean : Clean (length S) (mapOf S)
-  unfolding clearPast mapOf byteOf
+  unfolding mapOf byteOf
   map-clean =
       record {
         size = map-length S;
         bytes = bytes-tab (mapBytes (length S)) (byteOf S) (λ k. omega (arith, byte.byte-below (λ i. has S (8 * k + i))));
-        clear =
-            every-of (λ k. not (chosenIn (mapOf S) (length S + k))) (8 * mapBytes (length S) - length S)
-            (λ k l. ap not (map-chosen (length S + k) (omega arith) ∙ List·getD-eq-default S false (omega arith)));
+        clear = bits-clear (length S) (mapOf S) (λ t l h. map-chosen t h ∙ List·getD-eq-default S false l);
       }

@@ -14,7 +14,7 @@ use Rattle.board.specs.Choice.{bitOf, mapBytes, chosenIn, choiceIn, ones
 use Rattle.board.proofs.Clean.{choice-has}
 
 -- 1 for a bit that stands
-abbrev one : Bool → ℕ
+abbrev pub one : Bool → ℕ
 one b = cond b 1 0
 
 -- ---- byte by byte
@@ -27,7 +27,7 @@ high-turn : (x : ℕ) (map : List ℕ) (u : ℕ) → chosenIn (x ∷ map) (8 + u
 unfolding chosenIn
 high-turn x map u = let d : (8 + u) / 8 ≡ suc (u / 8) = omega arith in let m : (8 + u) % 8 ≡ u % 8 = omega arith in rw (d, m)
 
-ones-bits : (map : List ℕ) → onesIn map ≡ sum (λ t. one (chosenIn map t)) (below (8 * length map))
+pub ones-bits : (map : List ℕ) → onesIn map ≡ sum (λ t. one (chosenIn map t)) (below (8 * length map))
 unfolding onesIn onesOf
 ones-bits [] = refl
 ones-bits (x ∷ map) =

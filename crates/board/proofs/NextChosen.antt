@@ -11,7 +11,7 @@ use Rattle.board.specs.Choice.{chosenIn, nextAmong, nextChosen}
 -- what holds of the turn found, whether it is the first one or a later one
 module _ (map : List ℕ) (P : ℕ → ℕ → ℕ → Type 0) (ends : (t : ℕ) → P 0 t t) (found : (d t : ℕ) → chosenIn map t ≡ true → P (suc d) t t)
     (goes : (d t r : ℕ) → chosenIn map t ≡ false → P d (t + 1) r → P (suc d) t r) where
-  among-ind : (d t : ℕ) → P d t (nextAmong d map t)
+  pub among-ind : (d t : ℕ) → P d t (nextAmong d map t)
   unfolding nextAmong
   among-ind zero t = ends t
   among-ind (suc d) t = go (chosenIn map t) refl (among-ind d (t + 1))
@@ -20,7 +20,7 @@ module _ (map : List ℕ) (P : ℕ → ℕ → ℕ → Type 0) (ends : (t : ℕ)
       go true e ih = found d t e
       go false e ih = goes d t (nextAmong d map (t + 1)) e ih
 
-among-from : (map : List ℕ) (d t : ℕ) → (t ≤ nextAmong d map t) × (nextAmong d map t ≤ t + d)
+pub among-from : (map : List ℕ) (d t : ℕ) → (t ≤ nextAmong d map t) × (nextAmong d map t ≤ t + d)
 among-from map = among-ind map (λ d t r. (t ≤ r) × (r ≤ t + d)) (λ t. (omega arith, omega arith)) (λ d t e. (omega arith, omega arith)) (λ d t r e ih. (omega (arith, ih .0), omega (arith, ih .1)))
 
 among-clear : (map : List ℕ) (d t u : ℕ) → t ≤ u → u < nextAmong d map t → chosenIn map u ≡ false

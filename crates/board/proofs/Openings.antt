@@ -1,19 +1,19 @@
 -- Opening by its cases, each premise in the form in which the code's calls and tests leave it. Assumes nothing.
 use Prim.Native.Nat.{ℕ, _+_, _-_, _*_, _<_, _≤_}
-use mathlib.Core.Path.{_≡_}
+use mathlib.Core.Path.{_≡_, refl, sym, _∙_}
 use mathlib.Core.Bool.{Bool, true, false, not, _||_}
-use mathlib.Core.List.{List, []}
+use mathlib.Core.List.{List, [], _∷_}
 use native.Mathlib.Omega.{arith}
-use lib.ListN.{length, take, drop}
+use lib.ListN.{length, take, drop, length-drop}
+use lib.Seq.{take-all, length-take-le}
 use lib.Dec.{ltb, eqb}
 use borrow.Author.Tests.{eq-eqb, ne-eqb, lt-ltb, le-ltb, ltb-false, eqb-true, not-false}
 use Rattle.refusal.specs.Number.{malformedBoard}
-use Rattle.refusal.specs.Cause.{firstOf}
-use Rattle.wire.specs.Number.{valueAt}
+use Rattle.refusal.specs.Cause.{_when_, firstOf}
 use Rattle.wire.specs.Mark.{boardMark, opensWith}
 use Rattle.lists.proofs.Bools.{or-false-1, or-false-2}
 use Rattle.board.specs.Choice.{mapBytes, clearPast}
-use Rattle.board.specs.Board.{boardHeader, boardTurns, boardSteps, stepsPlace, boardLength, boardMap}
+use Rattle.board.specs.Board.{boardHeader, stepSize, boardTurns, boardSteps, stepsPlace, boardLength, boardMap, stepsIn, writtenSteps}
 use Rattle.board.specs.Open.{badSizes, malformed, openOf, stepsPart}
 
 module _ (b : List ℕ) where
@@ -38,21 +38,46 @@ module _ (b : List ℕ) where
   unfolding openOf firstOf
   open-accepted e t = rw (← e, t)
 
+-- what the number says of the bytes
+opens-with : (x : Bool) {r : ℕ} → r ≡ firstOf (malformedBoard when x ∷ []) → r ≡ 0 → x ≡ false
+unfolding firstOf
+opens-with true e z = absurd (omega arith)
+opens-with false e z = refl
+
+shuts-with : (x : Bool) {r : ℕ} → r ≡ firstOf (malformedBoard when x ∷ []) → (r ≡ 0 → ⊥) → x ≡ true
+unfolding firstOf
+shuts-with true e z = refl
+shuts-with false e z = absurd (z e)
+
+module _ (b : List ℕ) {r : ℕ} (e : r ≡ openOf b) where
+  pub opened : r ≡ 0 → malformed b ≡ false
+  unfolding openOf
+  opened z = opens-with (malformed b) e z
+
+  pub shut : (r ≡ 0 → ⊥) → malformed b ≡ true
+  unfolding openOf
+  shut z = shuts-with (malformed b) e z
+
 pub ruleset open-cases = (malformed-short, malformed-mark, malformed-sizes, open-refused, open-accepted)
 
-module _ (b : List ℕ) {n m : ℕ} (p : n ≡ valueAt b 3 2) (q : m ≡ valueAt b 5 2) where
+-- the map as the code cuts it out
+pub map-is : (b : List ℕ) {n place : ℕ} → n ≡ boardTurns b → place ≡ stepsPlace n → take (place - boardHeader) (drop boardHeader b) ≡ boardMap b
+unfolding boardMap
+map-is b {n} {place} p s = let w : place - boardHeader ≡ mapBytes n = omega arith in rw (w, p)
+
+module _ (b : List ℕ) {n m : ℕ} (p : n ≡ boardTurns b) (q : m ≡ boardSteps b) where
   pub sizes-steps : n < m → true ≡ badSizes b
   unfolding badSizes
   sizes-steps h = rw (← p, ← q, lt-ltb n m h)
 
-  module _ {place : ℕ} (s : place ≡ stepsPlace n) (l : m ≤ n) where
-    pub sizes-length : (length b ≡ place + 4 * m → ⊥) → true ≡ badSizes b
+  module _ (l : m ≤ n) {size : ℕ} (s : size ≡ boardLength n m) where
+    pub sizes-length : (length b ≡ size → ⊥) → true ≡ badSizes b
     unfolding badSizes
-    sizes-length h = rw (← p, ← q, le-ltb n m l, ← s, ne-eqb (length b) (place + 4 * m) h)
+    sizes-length h = rw (← p, ← q, le-ltb n m l, ← s, ne-eqb (length b) size h)
 
-    pub sizes-clear : {r : Bool} → length b ≡ place + 4 * m → r ≡ clearPast n (take (place - boardHeader) (drop boardHeader b)) → not r ≡ badSizes b
-    unfolding badSizes boardMap
-    sizes-clear h e = let w : place - boardHeader ≡ mapBytes n = omega arith in rw (← p, ← q, le-ltb n m l, ← s, eq-eqb (length b) (place + 4 * m) h, ← (rw w at e))
+    pub sizes-clear : {r : Bool} {place : ℕ} → length b ≡ size → place ≡ stepsPlace n → r ≡ clearPast n (take (place - boardHeader) (drop boardHeader b)) → not r ≡ badSizes b
+    unfolding badSizes
+    sizes-clear h k e = rw (← p, ← q, le-ltb n m l, ← s, eq-eqb (length b) size h, ← (rw (map-is b p k) at e))
 
 pub ruleset sizes-cases = (sizes-steps, sizes-length, sizes-clear)
 
@@ -85,14 +110,69 @@ module _ (b : List ℕ) (e : malformed b ≡ false) where
   pub formed-clear : clearPast (boardTurns b) (boardMap b) ≡ true
   formed-clear = not-false (clearPast (boardTurns b) (boardMap b)) (or-false-2 (not (eqb (length b) (boardLength (boardTurns b) (boardSteps b)))) _ formed-rest)
 
--- ---- the steps' part
+  pub formed-map : length (boardMap b) ≡ mapBytes (boardTurns b)
+  unfolding boardMap
+  formed-map = length-take-le (mapBytes (boardTurns b)) (drop boardHeader b) (omega (arith, length-drop boardHeader b, formed-length))
 
-pub part-none : (b : List ℕ) {r : Bool} → r ≡ malformed b → r ≡ true → [] ≡ stepsPart b
-unfolding stepsPart
-part-none b e t = rw (← e, t)
+-- ---- its parts
 
-pub part-is : (b : List ℕ) {r : Bool} {n m place : ℕ} → r ≡ malformed b → r ≡ false → n ≡ valueAt b 3 2 → m ≡ valueAt b 5 2 → place ≡ stepsPlace n → take (place + 4 * m - place) (drop place b) ≡ stepsPart b
-unfolding stepsPart
-part-is b {m = m} {place = place} e t p q s = let w : place + 4 * m - place ≡ 4 * m = omega arith in rw (w, ← e, t, ← p, ← q, ← s)
+module _ (b : List ℕ) (e : malformed b ≡ false) {n place : ℕ} (p : n ≡ boardTurns b) (s : place ≡ stepsPlace n) where
+  behind : length b ≡ place + stepSize * boardSteps b
+  behind = formed-length b e ∙ rw (s, p)
 
-pub ruleset part-cases = (part-none, part-is)
+  pub map-inside : place ≤ length b
+  map-inside = omega (arith, behind)
+
+  pub map-length : length (take (place - boardHeader) (drop boardHeader b)) ≡ mapBytes (boardTurns b)
+  map-length = rw (map-is b p s) (formed-map b e)
+
+  pub map-most : n < 65536 → length (take (place - boardHeader) (drop boardHeader b)) ≤ 8192
+  map-most h = omega (arith, map-length)
+
+pub ruleset map-part-cases = (formed-header, map-is, map-inside, map-length, map-most)
+
+module _ (b : List ℕ) {r : Bool} (e : r ≡ malformed b) where
+  pub part-none : r ≡ true → [] ≡ stepsPart b
+  unfolding stepsPart
+  part-none t = rw (← e, t)
+
+  module _ (f : r ≡ false) where
+    pub part-header : boardHeader ≤ length b
+    part-header = formed-header b (sym e ∙ f)
+
+    module _ {n place : ℕ} (p : n ≡ boardTurns b) (s : place ≡ stepsPlace n) where
+      pub part-inside : place ≤ length b
+      part-inside = map-inside b (sym e ∙ f) p s
+
+      pub part-is : take (length b - place) (drop place b) ≡ stepsPart b
+      unfolding stepsPart
+      part-is =
+          let w : length b - place ≡ stepSize * boardSteps b = omega (arith, behind b (sym e ∙ f) p s) in
+          rw (w, ← e, f, ← p, ← s)
+
+pub ruleset part-cases = (part-none, part-header, part-inside, part-is)
+
+-- ---- the steps' part of a board that opens, as callers take it
+
+module _ (b : List ℕ) (e : malformed b ≡ false) where
+  part-whole : stepsPart b ≡ drop (stepsPlace (boardTurns b)) b
+  unfolding stepsPart
+  part-whole =
+      let place = stepsPlace (boardTurns b) in
+      rw e (take-all (stepSize * boardSteps b) (drop place b) (omega (arith, length-drop place b, formed-length b e)))
+
+  pub part-length : length (stepsPart b) ≡ stepSize * boardSteps b
+  part-length = rw part-whole (omega (arith, length-drop (stepsPlace (boardTurns b)) b, formed-length b e))
+
+  pub part-steps : stepsIn (boardSteps b) (stepsPart b) ≡ writtenSteps b
+  unfolding writtenSteps
+  part-steps = rw part-whole
+
+module _ (b : List ℕ) {r : ℕ} (e : r ≡ openOf b) (z : r ≡ 0) where
+  pub opened-header : boardHeader ≤ length b
+  opened-header = formed-header b (opened b e z)
+
+  pub opened-room : {steps : List ℕ} → steps ≡ stepsPart b → stepSize * boardSteps b ≤ length steps
+  opened-room q = rw q (omega (arith, part-length b (opened b e z)))
+
+pub ruleset opened-cases = (opened, opened-header, opened-room)

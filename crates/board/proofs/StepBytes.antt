@@ -12,7 +12,7 @@ use Rattle.wire.proofs.Puts.{puts-append}
 use Rattle.lists.specs.Lists.{tab}
 use Rattle.model.specs.Steps.{Step, tally}
 use Rattle.lists.proofs.Sums.{tab-length, tab-at, tab-same}
-use Rattle.board.specs.Board.{stepAt, stepsIn, stepBytes}
+use Rattle.board.specs.Board.{stepSize, stepAt, stepsIn, stepBytes}
 
 -- steps whose numbers fit two bytes
 pub data Small : List Step → Type 0 where
@@ -23,7 +23,7 @@ pub bytes-then : (k y : ℕ) {r : List ℕ} → Bytes r → Bytes (bytesOf k y +
 bytes-then zero y b = b
 bytes-then (suc k) y b = Bytes.more {b = y / 256 ^ k % 256} (omega arith) (bytes-then k y b)
 
-pub step-bytes-length : (xs : List Step) → length (stepBytes xs) ≡ 4 * length xs
+pub step-bytes-length : (xs : List Step) → length (stepBytes xs) ≡ stepSize * length xs
 unfolding stepBytes
 step-bytes-length [] = refl
 step-bytes-length (x ∷ xs) = omega (arith, step-bytes-length xs)
@@ -40,12 +40,12 @@ bytesAt-drop d l at zero = refl
 bytesAt-drop d l at (suc k) = let e : d + at + 1 ≡ d + (at + 1) = omega arith in ap₂ _∷_ (getD-drop d l at 0) (rw e (bytesAt-drop d l (at + 1) k))
 
 -- a step of what is left behind the first
-step-behind : (l : List ℕ) (i : ℕ) → stepAt l (suc i) ≡ stepAt (drop 4 l) i
+step-behind : (l : List ℕ) (i : ℕ) → stepAt l (suc i) ≡ stepAt (drop stepSize l) i
 step-behind l i =
-    let a : 4 * suc i ≡ 4 + 4 * i = omega arith in
-    let b : 4 + 4 * i + 2 ≡ 4 + (4 * i + 2) = omega arith in
-    let t : valueAt l (4 * suc i) 2 ≡ valueAt (drop 4 l) (4 * i) 2 = rw a (sym (ap valueOf (bytesAt-drop 4 l (4 * i) 2))) in
-    let m : valueAt l (4 * suc i + 2) 2 ≡ valueAt (drop 4 l) (4 * i + 2) 2 = rw (a, b) (sym (ap valueOf (bytesAt-drop 4 l (4 * i + 2) 2))) in
+    let a : stepSize * suc i ≡ stepSize + stepSize * i = omega arith in
+    let b : stepSize + stepSize * i + 2 ≡ stepSize + (stepSize * i + 2) = omega arith in
+    let t : valueAt l (stepSize * suc i) 2 ≡ valueAt (drop stepSize l) (stepSize * i) 2 = rw a (sym (ap valueOf (bytesAt-drop stepSize l (stepSize * i) 2))) in
+    let m : valueAt l (stepSize * suc i + 2) 2 ≡ valueAt (drop stepSize l) (stepSize * i + 2) 2 = rw (a, b) (sym (ap valueOf (bytesAt-drop stepSize l (stepSize * i + 2) 2))) in
     λ j. record { turn = t j; amount = m j }
 
 pub steps-read : {xs : List Step} → Small xs → (l rest : List ℕ) → l ≡ stepBytes xs ++ rest → stepsIn (length xs) l ≡ xs
@@ -55,7 +55,7 @@ steps-read (more {x = x} {xs = xs} h k r) l rest e =
     let t : valueAt l 0 2 ≡ x .turn = value-front 2 (x .turn) l 0 (bytesOf 2 (x .amount) ++ (stepBytes xs ++ rest)) h e in
     let m : valueAt l 2 2 ≡ x .amount = value-front 2 (x .amount) l 2 (stepBytes xs ++ rest) k (ap (drop 2) e) in
     let head : stepAt l 0 ≡ x = λ j. record { turn = t j; amount = m j } in
-    let tail : tab (length xs) (λ i. stepAt l (suc i)) ≡ xs = tab-same (length xs) (λ i. stepAt l (suc i)) (stepAt (drop 4 l)) (λ i h. step-behind l i) ∙ steps-read r (drop 4 l) rest (ap (drop 4) e) in
+    let tail : tab (length xs) (λ i. stepAt l (suc i)) ≡ xs = tab-same (length xs) (λ i. stepAt l (suc i)) (stepAt (drop stepSize l)) (λ i h. step-behind l i) ∙ steps-read r (drop stepSize l) rest (ap (drop stepSize) e) in
     ap₂ _∷_ head tail
 
 pub steps-length : (m : ℕ) (l : List ℕ) → length (stepsIn m l) ≡ m
@@ -72,9 +72,9 @@ pub step-put : (l : List ℕ) (at : ℕ) (x : Step) {l₁ l₂ : List ℕ} → l
 unfolding stepBytes
 step-put l at x p q = let e : at + 2 ≡ at + 1 + 1 = omega arith in q ∙ rw (p, e)
 
-pub steps-put : (l : List ℕ) (m : ℕ) (x : Step) (xs : List Step) → puts (puts l (4 * m) (stepBytes (x ∷ []))) (4 * (m + 1)) (stepBytes xs) ≡ puts l (4 * m) (stepBytes (x ∷ xs))
+pub steps-put : (l : List ℕ) (m : ℕ) (x : Step) (xs : List Step) → puts (puts l (stepSize * m) (stepBytes (x ∷ []))) (stepSize * (m + 1)) (stepBytes xs) ≡ puts l (stepSize * m) (stepBytes (x ∷ xs))
 unfolding stepBytes
-steps-put l m x xs = puts-append (bytesOf 2 (x .turn) ++ bytesOf 2 (x .amount)) (stepBytes xs) l (4 * m) (4 * (m + 1)) (omega arith)
+steps-put l m x xs = puts-append (bytesOf 2 (x .turn) ++ bytesOf 2 (x .amount)) (stepBytes xs) l (stepSize * m) (stepSize * (m + 1)) (omega arith)
 
 -- ---- the sum of the amounts, as far as a loop has come
 

@@ -1,5 +1,5 @@
 -- The board's bytes. Assumes nothing.
-use Prim.Native.Nat.{ℕ, zero, suc, _+_, _*_}
+use Prim.Native.Nat.{ℕ, _+_, _*_}
 use mathlib.Core.List.{List, [], _∷_, _++_}
 use mathlib.Core.Bool.{Bool}
 use lib.ListN.{length, take, drop}
@@ -9,25 +9,45 @@ use Rattle.lists.specs.Lists.{tab}
 use Rattle.model.specs.Steps.{Step}
 use Rattle.board.specs.Choice.{mapBytes, choiceIn, mapOf}
 
+-- the header: behind the three bytes of the mark the number of turns, two bytes
+abbrev pub turnsPlace : ℕ
+turnsPlace = 3
+
+-- then the number of steps, two bytes
+abbrev pub stepCountPlace : ℕ
+stepCountPlace = turnsPlace + 2
+
+-- then the tally, four bytes
+abbrev pub tallyPlace : ℕ
+tallyPlace = stepCountPlace + 2
+
+-- then the worth, four bytes
+abbrev pub worthPlace : ℕ
+worthPlace = tallyPlace + 4
+
 -- the bytes before the choice map
 abbrev pub boardHeader : ℕ
-boardHeader = 15
+boardHeader = worthPlace + 4
+
+-- a step's bytes: turn number and amount, two bytes each
+abbrev pub stepSize : ℕ
+stepSize = 2 + 2
 
 -- n, the number of the sheet's turns
 abbrev pub boardTurns : List ℕ → ℕ
-boardTurns b = valueAt b 3 2
+boardTurns b = valueAt b turnsPlace 2
 
 -- m, the number of steps
 abbrev pub boardSteps : List ℕ → ℕ
-boardSteps b = valueAt b 5 2
+boardSteps b = valueAt b stepCountPlace 2
 
 -- the tally as it is written
 abbrev pub boardTally : List ℕ → ℕ
-boardTally b = valueAt b 7 4
+boardTally b = valueAt b tallyPlace 4
 
 -- the worth as it is written
 abbrev pub boardWorth : List ℕ → ℕ
-boardWorth b = valueAt b 11 4
+boardWorth b = valueAt b worthPlace 4
 
 -- where the steps start: behind the header and the choice map
 abbrev pub stepsPlace : ℕ → ℕ
@@ -35,7 +55,7 @@ stepsPlace n = boardHeader + mapBytes n
 
 -- the exact length of a board of n turns and m steps
 abbrev pub boardLength : ℕ → ℕ → ℕ
-boardLength n m = stepsPlace n + 4 * m
+boardLength n m = stepsPlace n + stepSize * m
 
 -- the choice map's bytes in a board
 unfoldable pub boardMap : List ℕ → List ℕ
@@ -45,9 +65,9 @@ boardMap b = take (mapBytes (boardTurns b)) (drop boardHeader b)
 unfoldable pub boardChoice : List ℕ → List Bool
 boardChoice b = choiceIn (boardTurns b) (boardMap b)
 
--- a step: turn number and amount, two bytes each
+-- step i of such bytes
 abbrev pub stepAt : List ℕ → ℕ → Step
-stepAt bytes i = record { turn = valueAt bytes (4 * i) 2; amount = valueAt bytes (4 * i + 2) 2 }
+stepAt bytes i = record { turn = valueAt bytes (stepSize * i) 2; amount = valueAt bytes (stepSize * i + 2) 2 }
 
 -- the first m steps of such bytes
 unfoldable pub stepsIn : ℕ → List ℕ → List Step
@@ -66,7 +86,7 @@ stepBytes (x ∷ xs) = (bytesOf 2 (x .turn) ++ bytesOf 2 (x .amount)) ++ stepByt
 unfoldable pub countBytes : ℕ → ℕ → List ℕ
 countBytes n m = boardMark ++ (bytesOf 2 n ++ bytesOf 2 m)
 
--- all fifteen bytes of the header
+-- all bytes of the header
 unfoldable pub headBytes : ℕ → ℕ → ℕ → ℕ → List ℕ
 headBytes n m tally worth = countBytes n m ++ (bytesOf 4 tally ++ bytesOf 4 worth)
 

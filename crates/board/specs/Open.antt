@@ -3,13 +3,14 @@ use Prim.Native.Nat.{ℕ, _+_, _*_, _≤_, _<_}
 use mathlib.Core.Path.{_≡_}
 use mathlib.Core.List.{List, [], _∷_}
 use mathlib.Core.Bool.{Bool, true, false, not, cond, _||_}
+use mathlib.Core.Logic.{_≢_}
 use lib.ListN.{length, take, drop}
 use lib.Dec.{ltb, eqb}
 use Rattle.refusal.specs.Number.{malformedBoard}
-use Rattle.refusal.specs.Cause.{Cause, _when_, firstOf}
+use Rattle.refusal.specs.Cause.{_when_, firstOf, FirstAmong}
 use Rattle.wire.specs.Mark.{boardMark, opensWith}
 use Rattle.board.specs.Choice.{mapBytes, chosenIn, clearPast}
-use Rattle.board.specs.Board.{boardHeader, boardTurns, boardSteps, stepsPlace, boardLength, boardMap}
+use Rattle.board.specs.Board.{boardHeader, stepSize, boardTurns, boardSteps, stepsPlace, boardLength, boardMap}
 
 -- more steps than turns, a length that is not the one these two numbers give, or a map bit set behind that of the last turn
 unfoldable pub badSizes : List ℕ → Bool
@@ -27,7 +28,7 @@ openOf b = firstOf (malformedBoard when malformed b ∷ [])
 
 -- the steps' stretch of the board, empty where the board does not open, and where it has no steps
 unfoldable pub stepsPart : List ℕ → List ℕ
-stepsPart b = cond (malformed b) [] (take (4 * boardSteps b) (drop (stepsPlace (boardTurns b)) b))
+stepsPart b = cond (malformed b) [] (take (stepSize * boardSteps b) (drop (stepsPlace (boardTurns b)) b))
 
 -- ---- as statements
 
@@ -40,3 +41,15 @@ pub record WellFormed (b : List ℕ) (n m : ℕ) : Type 0 where
   pub steps-fit : m ≤ n
   pub exact : length b ≡ boardLength n m
   pub clear : (t : ℕ) → n ≤ t → t < 8 * mapBytes n → chosenIn (boardMap b) t ≡ false
+
+-- a cause to refuse b as a board is there: its number, and its place in the order
+pub data OpenCause (b : List ℕ) : ℕ → ℕ → Type 0 where
+  short-header : length b < boardHeader → OpenCause b malformedBoard 0
+  other-mark : take 3 b ≢ boardMark → OpenCause b malformedBoard 1
+  more-steps : boardTurns b < boardSteps b → OpenCause b malformedBoard 2
+  other-length : length b ≢ boardLength (boardTurns b) (boardSteps b) → OpenCause b malformedBoard 3
+  bit-past : (t : ℕ) → boardTurns b ≤ t → t < 8 * mapBytes (boardTurns b) → chosenIn (boardMap b) t ≡ true → OpenCause b malformedBoard 4
+
+-- the first cause to refuse b as a board has number k
+abbrev pub FirstOpenCause : List ℕ → ℕ → Type 0
+FirstOpenCause b k = FirstAmong (OpenCause b) k

@@ -4,6 +4,13 @@ ghost use Prim.Native.Nat.{_+_, _-_, _*_, _≤_, _<_};
 ghost use lib.ListN.{length};
 ghost use Rattle.board.specs.Choice.{bitOf, withBit, mapBytes, chosenIn, withTurn, onesOf, onesIn, clearPast, lowAmong, nextChosen};
 
+// The bytes of a map that has a bit for each of n turns.
+pub fn map_bytes(n: u16) -> usize
+    ensures { λ r. ⌜ r ≡ mapBytes n ⌝ }
+{
+    (n as usize + 7) / 8
+}
+
 fn bit(x: u8, k: u32) -> bool
     requires { ⌜ k < 8 ⌝ }
     ensures { λ r. ⌜ r ≡ bitOf x k ⌝ }

@@ -1,33 +1,31 @@
 // Opening a board: any bytes are a board or are refused.
 ghost use mathlib.Core.Path.{_≡_};
-ghost use Prim.Native.Nat.{_+_, _*_, _≤_, _<_};
+ghost use mathlib.Core.Bool.{false};
+ghost use Prim.Native.Nat.{_≤_};
 ghost use lib.ListN.{length};
-ghost use Rattle.board.specs.Board.{boardHeader, stepsPlace};
+ghost use Rattle.board.specs.Choice.{mapBytes};
+ghost use Rattle.board.specs.Board.{boardHeader, boardTurns, boardMap};
 ghost use Rattle.board.specs.Open.{badSizes, malformed, openOf, stepsPart};
 use super::choice::clear_past;
-
-pub const HEADER_BYTES: usize = 15;
-
-// Where the steps start in a board of n turns.
-pub fn steps_place(n: u16) -> usize
-    ensures { λ r. ⌜ r ≡ stepsPlace n ⌝ }
-{
-    HEADER_BYTES + (n as usize + 7) / 8
-}
+use super::header::HEADER_BYTES;
+use super::header::board_bytes;
+use super::header::step_count;
+use super::header::steps_place;
+use super::header::turns;
 
 fn bad_sizes(b: &[u8]) -> bool
     requires { ⌜ boardHeader ≤ length (now b) ⌝ }
     ensures { λ r. ⌜ r ≡ badSizes (now (b .entry)) ⌝ }
 {
-    let n = wire::word_at(b, 3);
-    let m = wire::word_at(b, 5);
+    let n = turns(b);
+    let m = step_count(b);
     if n < m {
         return true;
     }
-    let place = steps_place(n);
-    if b.len() != place + 4 * (m as usize) {
+    if b.len() != board_bytes(n, m) {
         return true;
     }
+    let place = steps_place(n);
     !clear_past(&b[HEADER_BYTES..place], n)
 }
 
@@ -62,9 +60,15 @@ pub fn steps(b: &[u8]) -> &[u8]
     if is_malformed(b) {
         return &b[..0];
     }
-    let n = wire::word_at(b, 3);
-    let m = wire::word_at(b, 5);
-    let place = steps_place(n);
-    let end = place + 4 * (m as usize);
-    &b[place..end]
+    let place = steps_place(turns(b));
+    &b[place..]
+}
+
+// The choice map of a board that opens, as that part of the caller's bytes.
+pub fn map(b: &[u8]) -> &[u8]
+    requires { ⌜ malformed (now b) ≡ false ⌝ }
+    ensures { λ r. ⌜ (now r ≡ boardMap (now (b .entry))) × (length (now r) ≡ mapBytes (boardTurns (now (b .entry)))) × (length (now r) ≤ 8192) ⌝ }
+{
+    let place = steps_place(turns(b));
+    &b[HEADER_BYTES..place]
 }

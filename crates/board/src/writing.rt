@@ -6,29 +6,34 @@ ghost use lib.ListN.{length, drop};
 ghost use Rattle.wire.specs.Number.{puts};
 ghost use Rattle.model.specs.Steps.{tally};
 ghost use Rattle.board.specs.Choice.{mapBytes};
-ghost use Rattle.board.specs.Board.{boardHeader, stepsPlace, boardLength, stepAt, stepsIn, stepBytes, countBytes, headBytes};
-use super::opening::HEADER_BYTES;
-use super::opening::steps_place;
+ghost use Rattle.board.specs.Board.{boardHeader, stepSize, stepsPlace, boardLength, stepAt, stepsIn, stepBytes, countBytes, headBytes};
+use super::header::HEADER_BYTES;
+use super::header::STEP_COUNT_PLACE;
+use super::header::STEP_SIZE;
+use super::header::TALLY_PLACE;
+use super::header::TURNS_PLACE;
+use super::header::WORTH_PLACE;
+use super::header::steps_place;
 
 // The turn number of step i.
 pub fn step_turn(steps: &[u8], i: usize) -> u16
-    requires { ⌜ 4 * i + 4 ≤ length (now steps) ⌝ }
+    requires { ⌜ stepSize * i + stepSize ≤ length (now steps) ⌝ }
     ensures { λ r. ⌜ r ≡ stepAt (now (steps .entry)) i .turn ⌝ }
 {
-    wire::word_at(steps, 4 * i)
+    wire::word_at(steps, STEP_SIZE * i)
 }
 
 // The amount of step i.
 pub fn step_amount(steps: &[u8], i: usize) -> u16
-    requires { ⌜ 4 * i + 4 ≤ length (now steps) ⌝ }
+    requires { ⌜ stepSize * i + stepSize ≤ length (now steps) ⌝ }
     ensures { λ r. ⌜ r ≡ stepAt (now (steps .entry)) i .amount ⌝ }
 {
-    wire::word_at(steps, 4 * i + 2)
+    wire::word_at(steps, STEP_SIZE * i + 2)
 }
 
 // The sum of the amounts of m steps.
 pub fn sum_amounts(steps: &[u8], m: u16) -> u32
-    requires { ⌜ 4 * m ≤ length (now steps) ⌝ }
+    requires { ⌜ stepSize * m ≤ length (now steps) ⌝ }
     ensures { λ r. ⌜ r ≡ tally (stepsIn m (now (steps .entry))) ⌝ }
 {
     let mut sum: u32 = 0;
@@ -42,10 +47,10 @@ pub fn sum_amounts(steps: &[u8], m: u16) -> u32
 
 // Writes step i.
 pub fn put_step(steps: &mut [u8], i: usize, turn: u16, amount: u16)
-    requires { ⌜ 4 * i + 4 ≤ length (now steps) ⌝ }
-    ensures { λ _. ⌜ now (steps .exit) ≡ puts (now (steps .entry)) (4 * i) (stepBytes (record { turn = turn; amount = amount } ∷ [])) ⌝ }
+    requires { ⌜ stepSize * i + stepSize ≤ length (now steps) ⌝ }
+    ensures { λ _. ⌜ now (steps .exit) ≡ puts (now (steps .entry)) (stepSize * i) (stepBytes (record { turn = turn; amount = amount } ∷ [])) ⌝ }
 {
-    let at = 4 * i;
+    let at = STEP_SIZE * i;
     let next = at + 2;
     wire::put_word(&mut *steps, at, turn);
     wire::put_word(&mut *steps, next, amount);
@@ -57,8 +62,8 @@ fn put_counts(out: &mut [u8], n: u16, m: u16)
     ensures { λ _. ⌜ now (out .exit) ≡ puts (now (out .entry)) 0 (countBytes n m) ⌝ }
 {
     wire::put_mark(&mut *out, wire::GRB);
-    wire::put_word(&mut *out, 3, n);
-    wire::put_word(&mut *out, 5, m);
+    wire::put_word(&mut *out, TURNS_PLACE, n);
+    wire::put_word(&mut *out, STEP_COUNT_PLACE, m);
 }
 
 fn put_header(out: &mut [u8], n: u16, m: u16, tallied: u32, worth: u32)
@@ -66,14 +71,15 @@ fn put_header(out: &mut [u8], n: u16, m: u16, tallied: u32, worth: u32)
     ensures { λ _. ⌜ now (out .exit) ≡ puts (now (out .entry)) 0 (headBytes n m tallied worth) ⌝ }
 {
     put_counts(&mut *out, n, m);
-    wire::put_quad(&mut *out, 7, tallied);
-    wire::put_quad(&mut *out, 11, worth);
+    wire::put_quad(&mut *out, TALLY_PLACE, tallied);
+    wire::put_quad(&mut *out, WORTH_PLACE, worth);
 }
 
 // Writes what stands before m steps that are written already: the header, with their sum, and the map.
 pub fn put_front(out: &mut [u8], n: u16, m: u16, worth: u32, map: &[u8])
     requires { ⌜ (length (now map) ≡ mapBytes n) × (boardLength n m ≤ length (now out)) ⌝ }
-    ensures { λ _. ⌜ now (out .exit) ≡ puts (now (out .entry)) 0 (headBytes n m (tally (stepsIn m (drop (stepsPlace n) (now (out .entry))))) worth ++ now (map .entry)) ⌝ }
+    ensures { λ _. ⌜ now (out .exit) ≡ puts (now (out .entry)) 0
+        (headBytes n m (tally (stepsIn m (drop (stepsPlace n) (now (out .entry))))) worth ++ now (map .entry)) ⌝ }
 {
     let place = steps_place(n);
     let tallied = sum_amounts(&out[place..], m);

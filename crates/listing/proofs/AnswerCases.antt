@@ -2,9 +2,10 @@
 use Prim.Native.Nat.{ℕ, _+_, _-_, _*_, _<_, _≤_}
 use mathlib.Core.Path.{_≡_, refl, sym, _∙_, ap}
 use mathlib.Core.List.{List, [], _∷_, _++_}
+use mathlib.Core.Bool.{false}
 use native.Mathlib.Omega.{arith}
 use lib.Dec.{ltb}
-use lib.ListN.{length, take, drop, replicate, length-append, length-replicate, length-take, length-drop}
+use lib.ListN.{length, take, drop, replicate}
 use Rattle.refusal.specs.Number.{bufferTooSmall}
 use Rattle.refusal.specs.Cause.{_when_, firstOf}
 use Rattle.refusal.specs.Written.{Written}
@@ -13,27 +14,23 @@ use Rattle.refusal.proofs.Written.{same-first, kept-before, kept-small, wrote-e
 use Rattle.wire.specs.Number.{puts}
 use Rattle.wire.proofs.Puts.{puts-front, puts-length}
 use lib.Seq.{take-at}
-use Rattle.wire.specs.Number.{valueAt}
 use Rattle.text.specs.Place.{lastPlace}
 use Rattle.model.specs.Turns.{Turns, turnsIn, RowsBounded, PositiveLengths}
-use Rattle.model.specs.Steps.{tally}
-use Rattle.model.specs.Pick.{steps}
-use Rattle.model.specs.Choice.{chosen, choice}
-use Rattle.model.proofs.Planned.{steps-right}
-use Rattle.model.proofs.Limits.{sums-limits}
+use Rattle.model.specs.Choice.{choice}
 use Rattle.model.proofs.Promised.{planned-keeps}
 use Rattle.sheet.specs.declared.reader.ReadAnswer.{ReadAnswer}
-use Rattle.sheet.specs.Read.{countsIn, turnCount, tableOf, sheetCauses, answerOf}
+use Rattle.sheet.specs.Read.{countsIn, tableOf, sheetCauses, answerOf}
 use Rattle.sheet.proofs.Readings.{sheet-numbered}
-use Rattle.sheet.proofs.Unrefused.{few-groomers}
 use Rattle.sheet.proofs.Whole.{whole-refusal, whole-accepted, whole-answer, whole-few}
-use Rattle.board.specs.Choice.{mapBytes, choiceIn}
-use Rattle.board.specs.Board.{boardHeader, boardTurns, boardTally, boardWorth, boardMap, boardChoice, boardLength, stepsPlace}
+use Rattle.board.specs.Choice.{choiceIn, Clean}
+use Rattle.board.specs.Board.{boardHeader, boardTurns, boardTally, boardWorth, boardMap, boardChoice, boardLength}
+use Rattle.board.specs.Open.{malformed}
+use Rattle.board.proofs.Openings.{formed-header}
+use Rattle.board.proofs.OpenCauses.{formed-clean}
 use Rattle.rows.proofs.Turns.{count-is}
 use Rattle.planner.specs.Plan.{boardFor}
-use Rattle.planner.proofs.Boards.{board-size, board-most, board-back}
+use Rattle.planner.proofs.Boards.{board-bytes, board-most, ReadsBack, board-back}
 use Rattle.planner.proofs.Answers.{plan-ample, plan-rows, plan-bounded, plan-turns}
-use Rattle.listing.specs.Round.{StartsApart}
 use Rattle.listing.specs.Text.{listingOf}
 use Rattle.listing.specs.Ready.{Ready}
 use Rattle.listing.specs.Limits.{listingBytes}
@@ -88,71 +85,48 @@ pub ruleset text-cases = (text-small, counted, copy-holds, copy-part, copy-fits,
 
 -- ---- the planner's board
 
-module _ (n : ℕ) (table b : List ℕ) (e : b ≡ boardFor (turnsIn n table)) where
-  whole : length b ≡ boardLength n (length (steps (turnsIn n table)))
-  whole = rw e (board-size (turnsIn n table) ∙ rw (count-is n table))
+module _ (n : ℕ) (table b : List ℕ) (e : b ≡ boardFor (turnsIn n table)) (few : n ≤ 400) (bounded : RowsBounded n table) where
+  abbrev T : Turns
+  T = turnsIn n table
+
+  back : ReadsBack T b
+  back = rw e (board-back T (omega (arith, count-is n table)) (λ t h. bounded .worths t (omega (arith, count-is n table))))
+
+  lengths : PositiveLengths T
+  lengths t h = bounded .starts t (omega (arith, count-is n table))
+
+  pub board-opens : malformed b ≡ false
+  board-opens = back .opens
 
   pub board-header : boardHeader ≤ length b
-  board-header = omega (arith, whole)
+  board-header = formed-header b board-opens
 
-  pub board-sums : 11 ≤ length b
-  board-sums = omega (arith, whole)
+  turns-are : boardTurns b ≡ n
+  turns-are = back .turns ∙ count-is n table
 
-  pub board-part : {place : ℕ} → place ≡ stepsPlace n → place ≤ length b
-  board-part p = omega (arith, whole)
-
-  module _ (few : n ≤ 400) (rows : 5 * n ≤ length table) (bounded : RowsBounded n table) {place : ℕ} (p : place ≡ stepsPlace n) where
-    abbrev T : Turns
-    T = turnsIn n table
-
-    at-most : T .count ≤ 400
-    at-most = omega (arith, count-is n table)
-
-    worths : (t : ℕ) → t < T .count → T .worth t ≤ 60000
-    worths t h = bounded .worths t (omega (arith, count-is n table))
-
-    lengths : PositiveLengths T
-    lengths t h = bounded .starts t (omega (arith, count-is n table))
-
-    map-is : take (place - 15) (drop 15 b) ≡ boardMap (boardFor T)
-    unfolding boardMap
-    map-is =
-        let q : place - 15 ≡ mapBytes (boardTurns (boardFor T)) = omega (arith, p, ap mapBytes (board-back T at-most worths .turns ∙ count-is n table)) in
-        rw (q, e)
-
-    choice-is : choiceIn n (take (place - 15) (drop 15 b)) ≡ choice T
+  module _ {map : List ℕ} (q : map ≡ boardMap b) where
+    choice-is : choiceIn n map ≡ choice T
     unfolding boardChoice
-    choice-is = rw map-is (ap (λ k. choiceIn k (boardMap (boardFor T))) (sym (board-back T at-most worths .turns ∙ count-is n table)) ∙ board-back T at-most worths .chosen-turns)
+    choice-is = rw q (ap (λ k. choiceIn k (boardMap b)) (sym turns-are) ∙ back .chosen-turns)
 
-    map-length : length (take (place - 15) (drop 15 b)) ≡ mapBytes n
-    map-length = omega (arith, length-take (place - 15) (drop 15 b), length-drop 15 b, whole, p)
+    map-clean : Clean n map
+    map-clean = rw q (rw turns-are at (formed-clean b board-opens (rw e (board-bytes T))))
 
-    pub board-ready : Ready n table (take (place - 15) (drop 15 b))
-    board-ready =
-        record {
-          few = few;
-          rows = rows;
-          bounded = bounded;
-          bits = omega (arith, map-length);
-          short = omega (arith, map-length);
-          apart = rw choice-is (apart-starts T (choice T) (planned-keeps T lengths .apart) lengths);
-        }
+    pub board-ready : 5 * n ≤ length table → Ready n table map
+    board-ready rows = record { few = few; rows = rows; bounded = bounded; clean = map-clean; apart = rw choice-is (apart-starts T (choice T) (planned-keeps T lengths .apart) lengths) }
 
-    module _ (groomers : ℕ) {tallied worth : ℕ} (t : tallied ≡ valueAt b 7 4) (w : worth ≡ valueAt b 11 4) where
-      listing-is : listingOf groomers T (choiceIn n (take (place - 15) (drop 15 b))) worth tallied ≡ listingFor groomers T
+    module _ (groomers : ℕ) {tallied worth : ℕ} (t : tallied ≡ boardTally b) (w : worth ≡ boardWorth b) where
+      listing-is : listingOf groomers T (choiceIn n map) worth tallied ≡ listingFor groomers T
       unfolding listingFor
-      listing-is =
-          let a : tallied ≡ tally (steps T) = t ∙ rw e (board-back T at-most worths .tallied) in
-          let c : worth ≡ chosen (T .count) (choice T) (T .worth) = w ∙ rw e (board-back T at-most worths .worth) in
-          rw (choice-is, a, c)
+      listing-is = rw (choice-is, t, w, back .tallied, back .worth)
 
-      pub listing-fits : length (listingFor groomers T) ≤ listingBytes → length (listingOf groomers T (choiceIn n (take (place - 15) (drop 15 b))) worth tallied) ≤ listingBytes
+      pub listing-fits : length (listingFor groomers T) ≤ listingBytes → length (listingOf groomers T (choiceIn n map) worth tallied) ≤ listingBytes
       listing-fits g = rw listing-is g
 
-      pub listing-answer : {x : Written} (lent : List ℕ) → x ≡ textAnswer (listingOf groomers T (choiceIn n (take (place - 15) (drop 15 b))) worth tallied) lent → x ≡ textAnswer (listingFor groomers T) lent
+      pub listing-answer : {x : Written} (lent : List ℕ) → x ≡ textAnswer (listingOf groomers T (choiceIn n map) worth tallied) lent → x ≡ textAnswer (listingFor groomers T) lent
       listing-answer lent g = rw listing-is at g
 
-pub ruleset board-cases = (board-header, board-sums, board-part, board-ready, listing-fits, listing-answer)
+pub ruleset board-cases = (board-opens, board-header, board-ready, listing-fits, listing-answer)
 
 -- ---- planned into a place of its own
 

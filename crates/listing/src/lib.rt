@@ -4,7 +4,7 @@ mod notes;
 mod parts;
 
 ghost use mathlib.Core.Path.{_≡_};
-ghost use Prim.Native.Nat.{_+_, _*_, _≤_, _<_};
+ghost use Prim.Native.Nat.{_*_, _≤_, _<_};
 ghost use lib.ListN.{length, replicate};
 ghost use Rattle.wire.specs.Number.{puts};
 ghost use Rattle.model.specs.Turns.{turnsIn, RowsBounded};
@@ -49,7 +49,8 @@ fn list_map(
     out: &mut [u8],
 ) -> ListAnswer
     requires { ⌜ Ready n (now table) (now map) × (length (listingOf groomers (turnsIn n (now table)) (choiceIn n (now map)) worth tally) ≤ listingBytes) ⌝ }
-    ensures { λ r. ⌜ listed r (now (out .exit)) ≡ textAnswer (listingOf groomers (turnsIn n (now (table .entry))) (choiceIn n (now (map .entry))) worth tally) (now (out .entry)) ⌝ }
+    ensures { λ r. ⌜ listed r (now (out .exit))
+        ≡ textAnswer (listingOf groomers (turnsIn n (now (table .entry))) (choiceIn n (now (map .entry))) worth tally) (now (out .entry)) ⌝ }
 {
     let mut text = [0u8; LISTING_BYTES];
     let bytes = put_listing(&mut text, table, n, map, groomers, worth, tally);
@@ -65,26 +66,20 @@ fn list_map(
 
 // The listing of the planner's board.
 fn list_board(table: &[u16], n: u16, groomers: u16, b: &[u8], out: &mut [u8]) -> ListAnswer
-    requires { ⌜ (n ≤ 400) × (5 * n ≤ length (now table)) × RowsBounded n (now table) × (length (listingFor groomers (turnsIn n (now table))) ≤ listingBytes) × (now b ≡ boardFor (turnsIn n (now table))) ⌝ }
+    requires { ⌜ (n ≤ 400) × (5 * n ≤ length (now table)) × RowsBounded n (now table)
+        × (length (listingFor groomers (turnsIn n (now table))) ≤ listingBytes) × (now b ≡ boardFor (turnsIn n (now table))) ⌝ }
     ensures { λ r. ⌜ listed r (now (out .exit)) ≡ textAnswer (listingFor groomers (turnsIn n (now (table .entry)))) (now (out .entry)) ⌝ }
 {
-    let place = board::steps_place(n);
-    let tally = wire::quad_at(b, 7);
-    let worth = wire::quad_at(b, 11);
-    list_map(
-        table,
-        n as usize,
-        groomers,
-        &b[board::HEADER_BYTES..place],
-        worth,
-        tally,
-        &mut *out,
-    )
+    let tally = board::tally(b);
+    let worth = board::worth(b);
+    let map = board::map(b);
+    list_map(table, n as usize, groomers, map, worth, tally, &mut *out)
 }
 
 // The listing of the first n turns of a table: their board is planned into a place of its own.
 fn list_table(table: &[u16], n: u16, groomers: u16, out: &mut [u8]) -> ListAnswer
-    requires { ⌜ (n ≤ 400) × (5 * n ≤ length (now table)) × RowsBounded n (now table) × (length (listingFor groomers (turnsIn n (now table))) ≤ listingBytes) ⌝ }
+    requires { ⌜ (n ≤ 400) × (5 * n ≤ length (now table)) × RowsBounded n (now table)
+        × (length (listingFor groomers (turnsIn n (now table))) ≤ listingBytes) ⌝ }
     ensures { λ r. ⌜ listed r (now (out .exit)) ≡ textAnswer (listingFor groomers (turnsIn n (now (table .entry)))) (now (out .entry)) ⌝ }
 {
     let mut space = [0u8; 1665];

@@ -16,7 +16,7 @@ use Rattle.sheet.proofs.Readings.{sheet-numbered}
 use Rattle.sheet.proofs.Tables.{table-length}
 use Rattle.sheet.proofs.Unrefused.{few-turns, rows-bounded}
 use Rattle.sheet.proofs.Whole.{whole-refusal, whole-accepted, whole-turns, whole-few}
-use Rattle.board.specs.Board.{stepsPlace, boardLength}
+use Rattle.board.specs.Board.{boardLength}
 use Rattle.rows.proofs.Turns.{count-is}
 use Rattle.planner.proofs.Padded.{padded-turns, bounded-padded, drop-zeros}
 use Rattle.planner.specs.declared.PlanAnswer.{PlanAnswer}
@@ -68,7 +68,7 @@ module _ (s lent : List ℕ) {r : ReadAnswer} (e : r ≡ answerOf s) where
     sound : firstOf (sheetCauses s) ≡ 0
     sound = whole-accepted s e f
 
-    pub plan-small : {x : PlanAnswer} {place : ℕ} → x ≡ refusedWith bufferTooSmall → place ≡ stepsPlace (r .turns) → length lent < place + 4 * r .turns → planned x lent ≡ planOf s lent
+    pub plan-small : {x : PlanAnswer} {size : ℕ} → x ≡ refusedWith bufferTooSmall → size ≡ boardLength (r .turns) (r .turns) → length lent < size → planned x lent ≡ planOf s lent
     unfolding planOf planCauses
     plan-small g p h = rw g (sym (kept-small (sheetCauses s) _ _ lent (sheet-numbered s) sound (omega (arith, p, count))))
 
@@ -92,7 +92,7 @@ module _ (s lent : List ℕ) {r : ReadAnswer} (e : r ≡ answerOf s) where
 
       -- ---- written
 
-      pub plan-done : {place bytes : ℕ} {lent′ : List ℕ} → bytes ≡ length (boardFor (turnsIn (r .turns) t)) → lent′ ≡ puts lent 0 (boardFor (turnsIn (r .turns) t)) → place ≡ stepsPlace (r .turns) → place + 4 * r .turns ≤ length lent
+      pub plan-done : {size bytes : ℕ} {lent′ : List ℕ} → bytes ≡ length (boardFor (turnsIn (r .turns) t)) → lent′ ≡ puts lent 0 (boardFor (turnsIn (r .turns) t)) → size ≡ boardLength (r .turns) (r .turns) → size ≤ length lent
           → planned (record { refusal = 0; bytes = bytes }) lent′ ≡ planOf s lent
       unfolding planOf planCauses plannedBoard
       plan-done b l p h =

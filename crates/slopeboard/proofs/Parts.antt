@@ -1,18 +1,18 @@
 -- The steps' part by its cases. Assumes nothing.
-use Prim.Native.Nat.{ℕ, _*_}
+use Prim.Native.Nat.{ℕ, _-_, _*_, _≤_}
 use mathlib.Core.Path.{_≡_, refl}
 use mathlib.Core.List.{List, []}
 use mathlib.Core.Bool.{Bool, true, false, cond}
-use lib.ListN.{take, drop}
-use Rattle.wire.specs.Number.{valueAt}
-use Rattle.board.specs.Board.{boardTurns, boardSteps, stepsPlace}
+use native.Mathlib.Omega.{arith}
+use lib.ListN.{length, take, drop}
+use Rattle.board.specs.Board.{stepSize, boardTurns, boardSteps, stepsPlace}
 use Rattle.board.specs.Open.{malformed, openOf, stepsPart}
-use Rattle.audit.proofs.Judgements.{opened, shut}
+use Rattle.board.proofs.Openings.{opened, shut, formed-length, part-length}
 use Rattle.slopeboard.specs.declared.Part.{Part}
 use Rattle.slopeboard.specs.Part.{stepsPartAt}
 
 -- the part that is named is the one that opening hands back
-part-cases-of : (b : List ℕ) (m : Bool) → let p : Part = cond m (record { start = 0; length = 0 }) (record { start = stepsPlace (boardTurns b); length = 4 * boardSteps b }) in take (p .length) (drop (p .start) b) ≡ cond m [] (take (4 * boardSteps b) (drop (stepsPlace (boardTurns b)) b))
+part-cases-of : (b : List ℕ) (m : Bool) → let p : Part = cond m (record { start = 0; length = 0 }) (record { start = stepsPlace (boardTurns b); length = stepSize * boardSteps b }) in take (p .length) (drop (p .start) b) ≡ cond m [] (take (stepSize * boardSteps b) (drop (stepsPlace (boardTurns b)) b))
 part-cases-of b true = refl
 part-cases-of b false = refl
 
@@ -25,8 +25,17 @@ module _ (b : List ℕ) {r : ℕ} (e : r ≡ openOf b) where
   unfolding stepsPartAt
   part-none z = rw (shut b e z)
 
-  pub part-at : {n m place : ℕ} → r ≡ 0 → n ≡ valueAt b 3 2 → m ≡ valueAt b 5 2 → place ≡ stepsPlace n → _≡_ {A = Part} (record { start = place; length = 4 * m }) (stepsPartAt b)
-  unfolding stepsPartAt
-  part-at z p q s = rw (opened b e z, s, p, q)
+  module _ (z : r ≡ 0) {steps : List ℕ} (q : steps ≡ stepsPart b) where
+    steps-length : length steps ≡ stepSize * boardSteps b
+    steps-length = rw q (part-length b (opened b e z))
 
-pub ruleset part-cases = (part-none, part-at)
+    pub part-inside : length steps ≤ length b
+    part-inside = omega (arith, steps-length, formed-length b (opened b e z))
+
+    pub part-at : _≡_ {A = Part} (record { start = length b - length steps; length = length steps }) (stepsPartAt b)
+    unfolding stepsPartAt
+    part-at =
+        let w : length b - stepSize * boardSteps b ≡ stepsPlace (boardTurns b) = omega (arith, formed-length b (opened b e z)) in
+        rw (opened b e z, steps-length, w)
+
+pub ruleset part-cases = (part-none, part-inside, part-at)

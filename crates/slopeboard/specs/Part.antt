@@ -2,10 +2,10 @@
 use Prim.Native.Nat.{ℕ, _*_}
 use mathlib.Core.List.{List}
 use mathlib.Core.Bool.{cond}
-use Rattle.board.specs.Board.{boardTurns, boardSteps, stepsPlace}
+use Rattle.board.specs.Board.{stepSize, boardTurns, boardSteps, stepsPlace}
 use Rattle.board.specs.Open.{malformed}
 use Rattle.slopeboard.specs.declared.Part.{Part}
 
 -- the place and the length of the steps in a board's own bytes; nothing where the board does not open
 unfoldable pub stepsPartAt : List ℕ → Part
-stepsPartAt b = cond (malformed b) (record { start = 0; length = 0 }) (record { start = stepsPlace (boardTurns b); length = 4 * boardSteps b })
+stepsPartAt b = cond (malformed b) (record { start = 0; length = 0 }) (record { start = stepsPlace (boardTurns b); length = stepSize * boardSteps b })

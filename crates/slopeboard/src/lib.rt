@@ -61,12 +61,11 @@ pub extern "C" fn slopeboard_steps(board: &[u8]) -> Part
             length: 0,
         };
     }
-    let n = wire::word_at(board, 3);
-    let m = wire::word_at(board, 5);
-    let start = board::steps_place(n);
+    let part = board::steps(board);
+    let length = part.len();
     Part {
-        start: start,
-        length: 4 * (m as usize),
+        start: board.len() - length,
+        length: length,
     }
 }
 

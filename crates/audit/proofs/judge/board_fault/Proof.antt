@@ -1,6 +1,5 @@
-use native.Mathlib.Omega.{arith}
-use Rattle.board.proofs.Openings.{formed-header}
-use Rattle.audit.proofs.Judgements.{opened, board-cases, place-inside, map-room, steps-room}
+use Rattle.board.proofs.Openings.{opened-cases}
+use Rattle.audit.proofs.Judgements.{board-cases}
 use borrow.Author.Needs.{needs}
 use Rattle.audit.proofs.judge.board_fault.Statement.{statement}
 use Rattle.audit.proofs.judge.board_fault.Tie as tie
@@ -9,41 +8,25 @@ open-requires : tie.Need-open-requires
 open-requires c κs = search needs
 
 returns : tie.Need-returns
-returns c = search board-cases
+returns c = search (needs, opened-cases, board-cases)
 
-word-at-requires : tie.Need-word-at-requires
-word-at-requires c κs = omega (arith, formed-header _ (opened _ (c .before .open .ensures) (c .if1 .left)))
+turns-requires : tie.Need-turns-requires
+turns-requires c κs = search (needs, opened-cases, board-cases)
 
 returns-2 : tie.Need-returns-2
-returns-2 c = search board-cases
+returns-2 c = search (needs, opened-cases, board-cases)
 
-steps-place-requires : tie.Need-steps-place-requires
-steps-place-requires c κs = search needs
+map-requires : tie.Need-map-requires
+map-requires c κs = search (needs, opened-cases, board-cases)
 
-sub-parts-fault : tie.Need-sub-parts-fault
-sub-parts-fault c = search needs
-
-part-parts-fault-start : tie.Need-part-parts-fault-start
-part-parts-fault-start c = search needs
-
-part-parts-fault-end : tie.Need-part-parts-fault-end
-part-parts-fault-end c = omega (arith, place-inside _ (opened _ (c .before .before .before .before .open .ensures) (c .before .before .before .if1 .left)) (c .before .before .word-at .ensures) (c .before .if2 .left) (c .steps-place .ensures))
-
-sub-parts-fault-2 : tie.Need-sub-parts-fault-2
-sub-parts-fault-2 c = place-inside _ (opened _ (c .before .before .before .before .before .open .ensures) (c .before .before .before .before .if1 .left)) (c .before .before .before .word-at .ensures) (c .before .before .if2 .left) (c .before .steps-place .ensures)
-
-part-parts-fault-start-2 : tie.Need-part-parts-fault-start-2
-part-parts-fault-start-2 c = omega (arith, place-inside _ (opened _ (c .before .before .before .before .before .open .ensures) (c .before .before .before .before .if1 .left)) (c .before .before .before .word-at .ensures) (c .before .before .if2 .left) (c .before .steps-place .ensures))
-
-part-parts-fault-end-2 : tie.Need-part-parts-fault-end-2
-part-parts-fault-end-2 c = search needs
+steps-requires : tie.Need-steps-requires
+steps-requires c κs = search needs
 
 parts-fault-requires : tie.Need-parts-fault-requires
-parts-fault-requires c κs =
-    (formed-header _ (opened _ (c .before .before .before .before .before .before .open .ensures) (c .before .before .before .before .before .if1 .left)), search needs, record { rows = omega arith; bits = map-room _ (opened _ (c .before .before .before .before .before .before .open .ensures) (c .before .before .before .before .before .if1 .left)) (c .before .before .before .before .word-at .ensures) (c .before .before .before .if2 .left) (c .before .before .steps-place .ensures) }, search needs, steps-room _ (opened _ (c .before .before .before .before .before .before .open .ensures) (c .before .before .before .before .before .if1 .left)) (c .before .before .before .before .word-at .ensures) (c .before .before .before .if2 .left) (c .before .before .steps-place .ensures))
+parts-fault-requires c κs = search (needs, opened-cases, board-cases)
 
 returns-3 : tie.Need-returns-3
-returns-3 c = search board-cases
+returns-3 c = search (needs, opened-cases, board-cases)
 
 pub board-fault-spec : {M : Type 1} → statement M
 board-fault-spec =
@@ -51,14 +34,9 @@ board-fault-spec =
     (tie.spec
     open-requires
     returns
-    word-at-requires
+    turns-requires
     returns-2
-    steps-place-requires
-    sub-parts-fault
-    part-parts-fault-start
-    part-parts-fault-end
-    sub-parts-fault-2
-    part-parts-fault-start-2
-    part-parts-fault-end-2
+    map-requires
+    steps-requires
     parts-fault-requires
     returns-3)

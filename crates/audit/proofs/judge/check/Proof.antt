@@ -39,14 +39,14 @@ refused-requires-2 c κs = search needs
 returns-2 : tie.Need-returns-2
 returns-2 c = check-board _ _ _ _ _ (c .before .before .before .before .before .before .before .read-table .ensures) (c .before .before .before .before .if1 .left) (c .before .before .board-fault .ensures) (c .before .if2 .taken) (c .refused2 .ensures)
 
-quad-at-requires : tie.Need-quad-at-requires
-quad-at-requires c κs = omega (arith, passed-header _ _ (c .before .board-fault .ensures) (c .if2 .left))
+tally-requires : tie.Need-tally-requires
+tally-requires c κs = omega (arith, passed-header _ _ (c .before .board-fault .ensures) (c .if2 .left))
 
-quad-at-requires-2 : tie.Need-quad-at-requires-2
-quad-at-requires-2 c κs = omega (arith, passed-header _ _ (c .before .before .board-fault .ensures) (c .before .if2 .left))
+worth-requires : tie.Need-worth-requires
+worth-requires c κs = omega (arith, passed-header _ _ (c .before .before .board-fault .ensures) (c .before .if2 .left))
 
 returns-3 : tie.Need-returns-3
-returns-3 c = check-passed _ _ _ _ _ (c .before .before .before .before .before .before .before .before .read-table .ensures) (c .before .before .before .before .before .if1 .left) (c .before .before .before .board-fault .ensures) (c .before .before .if2 .left) (c .before .quad-at .ensures) (c .quad-at2 .ensures)
+returns-3 c = check-passed _ _ _ _ _ (c .before .before .before .before .before .before .before .before .read-table .ensures) (c .before .before .before .before .before .if1 .left) (c .before .before .before .board-fault .ensures) (c .before .before .if2 .left) (c .before .tally .ensures) (c .worth .ensures)
 
 pub check-spec : {M : Type 1} → statement M
 check-spec =
@@ -63,6 +63,6 @@ check-spec =
     board-fault-requires
     refused-requires-2
     returns-2
-    quad-at-requires
-    quad-at-requires-2
+    tally-requires
+    worth-requires
     returns-3)

@@ -3,8 +3,8 @@ use borrow.Author.Needs.{needs}
 use Rattle.audit.proofs.judge.parts_fault.Statement.{statement}
 use Rattle.audit.proofs.judge.parts_fault.Tie as tie
 
-word-at-requires : tie.Need-word-at-requires
-word-at-requires c κs = search needs
+step-count-requires : tie.Need-step-count-requires
+step-count-requires c κs = search needs
 
 cast-rules-fault : tie.Need-cast-rules-fault
 cast-rules-fault c = search needs
@@ -14,9 +14,6 @@ rules-fault-requires c κs = search needs
 
 returns : tie.Need-returns
 returns c = search (needs, parts-cases)
-
-cast-sums-fault : tie.Need-cast-sums-fault
-cast-sums-fault c = search needs
 
 sums-fault-requires : tie.Need-sums-fault-requires
 sums-fault-requires c κs = search needs
@@ -28,10 +25,9 @@ pub parts-fault-spec : {M : Type 1} → statement M
 parts-fault-spec =
     tie.close
     (tie.spec
-    word-at-requires
+    step-count-requires
     cast-rules-fault
     rules-fault-requires
     returns
-    cast-sums-fault
     sums-fault-requires
     returns-2)

@@ -3,14 +3,14 @@ use borrow.Author.Needs.{needs}
 use Rattle.audit.proofs.judge.sums_fault.Statement.{statement}
 use Rattle.audit.proofs.judge.sums_fault.Tie as tie
 
-quad-at-requires : tie.Need-quad-at-requires
-quad-at-requires c κs = search needs
+tally-requires : tie.Need-tally-requires
+tally-requires c κs = search needs
 
-quad-at-requires-2 : tie.Need-quad-at-requires-2
-quad-at-requires-2 c κs = search needs
+worth-requires : tie.Need-worth-requires
+worth-requires c κs = search needs
 
-tally-of-requires : tie.Need-tally-of-requires
-tally-of-requires c κs = search needs
+sum-amounts-requires : tie.Need-sum-amounts-requires
+sum-amounts-requires c κs = search needs
 
 chosen-worth-requires : tie.Need-chosen-worth-requires
 chosen-worth-requires c κs = search needs
@@ -28,9 +28,9 @@ pub sums-fault-spec : {M : Type 1} → statement M
 sums-fault-spec =
     tie.close
     (tie.spec
-    quad-at-requires
-    quad-at-requires-2
-    tally-of-requires
+    tally-requires
+    worth-requires
+    sum-amounts-requires
     chosen-worth-requires
     are-wrong-requires
     returns

@@ -3,17 +3,11 @@ use borrow.Author.Needs.{needs}
 use Rattle.audit.proofs.replay.replay_one.Statement.{statement}
 use Rattle.audit.proofs.replay.replay_one.Tie as tie
 
-mul-at : tie.Need-mul-at
-mul-at c = search needs
+step-turn-requires : tie.Need-step-turn-requires
+step-turn-requires c κs = search needs
 
-word-at-requires : tie.Need-word-at-requires
-word-at-requires c κs = search needs
-
-add-word-at : tie.Need-add-word-at
-add-word-at c = search needs
-
-word-at-requires-2 : tie.Need-word-at-requires-2
-word-at-requires-2 c κs = search needs
+step-amount-requires : tie.Need-step-amount-requires
+step-amount-requires c κs = search needs
 
 is-right-requires : tie.Need-is-right-requires
 is-right-requires c κs = search needs
@@ -22,7 +16,7 @@ cast-apply-step : tie.Need-cast-apply-step
 cast-apply-step c = search needs
 
 apply-step-requires : tie.Need-apply-step-requires
-apply-step-requires c κs = search (needs, one-cases)
+apply-step-requires c κs = (search one-cases, search needs, search needs, search one-cases, search needs)
 
 same-length : tie.Need-same-length
 same-length c = search needs
@@ -40,10 +34,8 @@ pub replay-one-spec : {M : Type 1} → statement M
 replay-one-spec =
     tie.close
     (tie.spec
-    mul-at
-    word-at-requires
-    add-word-at
-    word-at-requires-2
+    step-turn-requires
+    step-amount-requires
     is-right-requires
     cast-apply-step
     apply-step-requires

@@ -3,29 +3,23 @@ use borrow.Author.Needs.{needs}
 use Rattle.board.proofs.opening.bad_sizes.Statement.{statement}
 use Rattle.board.proofs.opening.bad_sizes.Tie as tie
 
-word-at-requires : tie.Need-word-at-requires
-word-at-requires c κs = search needs
+turns-requires : tie.Need-turns-requires
+turns-requires c κs = search needs
 
-word-at-requires-2 : tie.Need-word-at-requires-2
-word-at-requires-2 c κs = search needs
+step-count-requires : tie.Need-step-count-requires
+step-count-requires c κs = search needs
 
 returns : tie.Need-returns
 returns c = search (needs, sizes-cases)
 
-steps-place-requires : tie.Need-steps-place-requires
-steps-place-requires c κs = search needs
-
-cast-if2 : tie.Need-cast-if2
-cast-if2 c = search needs
-
-mul-if2 : tie.Need-mul-if2
-mul-if2 c = search needs
-
-add-if2 : tie.Need-add-if2
-add-if2 c = search needs
+board-bytes-requires : tie.Need-board-bytes-requires
+board-bytes-requires c κs = search needs
 
 returns-2 : tie.Need-returns-2
 returns-2 c = search (needs, sizes-cases)
+
+steps-place-requires : tie.Need-steps-place-requires
+steps-place-requires c κs = search needs
 
 sub-clear-past : tie.Need-sub-clear-past
 sub-clear-past c = search needs
@@ -46,14 +40,12 @@ pub bad-sizes-spec : {M : Type 1} → statement M
 bad-sizes-spec =
     tie.close
     (tie.spec
-    word-at-requires
-    word-at-requires-2
+    turns-requires
+    step-count-requires
     returns
-    steps-place-requires
-    cast-if2
-    mul-if2
-    add-if2
+    board-bytes-requires
     returns-2
+    steps-place-requires
     sub-clear-past
     part-clear-past-start
     part-clear-past-end

@@ -1,6 +1,4 @@
-use Rattle.board.proofs.Openings.{formed-header, formed-length, part-is, part-cases}
-use native.Mathlib.Omega.{arith}
-use mathlib.Core.Path.{sym, _∙_}
+use Rattle.board.proofs.Openings.{part-cases}
 use borrow.Author.Needs.{needs}
 use Rattle.board.proofs.opening.steps.Statement.{statement}
 use Rattle.board.proofs.opening.steps.Tie as tie
@@ -12,38 +10,25 @@ slice-aggregate-result : tie.Need-slice-aggregate-result
 slice-aggregate-result c = search needs
 
 returns : tie.Need-returns
-returns c = search part-cases
+returns c = search (needs, part-cases)
 
-word-at-requires : tie.Need-word-at-requires
-word-at-requires c κs = omega (arith, formed-header _ (sym (c .before .is-malformed .ensures) ∙ c .if1 .left))
-
-word-at-requires-2 : tie.Need-word-at-requires-2
-word-at-requires-2 c κs = omega (arith, formed-header _ (sym (c .before .before .is-malformed .ensures) ∙ c .before .if1 .left))
+turns-requires : tie.Need-turns-requires
+turns-requires c κs = search (needs, part-cases)
 
 steps-place-requires : tie.Need-steps-place-requires
 steps-place-requires c κs = search needs
 
-cast-end : tie.Need-cast-end
-cast-end c = search needs
-
-mul-end : tie.Need-mul-end
-mul-end c = search needs
-
-add-end : tie.Need-add-end
-add-end c = search needs
-
 sub-result : tie.Need-sub-result
-sub-result c = search needs
+sub-result c = search (needs, part-cases)
 
 part-result-start : tie.Need-part-result-start
-part-result-start c = search needs
+part-result-start c = search (needs, part-cases)
 
 part-result-end : tie.Need-part-result-end
-part-result-end c = omega (arith, formed-length _ (sym (c .before .before .before .before .is-malformed .ensures) ∙ c .before .before .before .if1 .left))
+part-result-end c = search needs
 
 returns-2 : tie.Need-returns-2
-returns-2 c =
-    part-is _ (c .before .before .before .before .before .is-malformed .ensures) (c .before .before .before .before .if1 .left) (c .before .before .before .word-at .ensures) (c .before .before .word-at2 .ensures) (c .before .steps-place .ensures)
+returns-2 c = search (needs, part-cases)
 
 pub steps-spec : {M : Type 1} → statement M
 steps-spec =
@@ -52,12 +37,8 @@ steps-spec =
     is-malformed-requires
     slice-aggregate-result
     returns
-    word-at-requires
-    word-at-requires-2
+    turns-requires
     steps-place-requires
-    cast-end
-    mul-end
-    add-end
     sub-result
     part-result-start
     part-result-end
