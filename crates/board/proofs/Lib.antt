@@ -9,4 +9,5 @@ pub mod Written
 pub mod Next
 pub mod NextChosen
 pub mod Counts
+pub mod Chosen
 pub mod OnesFrom

@@ -1,3 +1,4 @@
 pub mod Choice
 pub mod Board
 pub mod Open
+pub mod Chosen

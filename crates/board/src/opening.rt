@@ -6,12 +6,22 @@ ghost use lib.ListN.{length};
 ghost use Rattle.board.specs.Choice.{mapBytes};
 ghost use Rattle.board.specs.Board.{boardHeader, boardTurns, boardMap};
 ghost use Rattle.board.specs.Open.{badSizes, malformed, openOf, stepsPart};
+ghost use Rattle.board.specs.Chosen.{countOf, turnChosen};
 use super::choice::clear_past;
+use super::choice::count_chosen;
+use super::choice::is_chosen;
 use super::header::HEADER_BYTES;
 use super::header::board_bytes;
 use super::header::step_count;
 use super::header::steps_place;
 use super::header::turns;
+
+// What counting returns: a refusal, 0 if none, and the number of chosen turns, 0 on a refusal.
+#[repr(C)]
+pub struct CountAnswer {
+    pub refusal: u8,
+    pub turns: u32,
+}
 
 fn bad_sizes(b: &[u8]) -> bool
     requires { ⌜ boardHeader ≤ length (now b) ⌝ }
@@ -71,4 +81,33 @@ pub fn map(b: &[u8]) -> &[u8]
 {
     let place = steps_place(turns(b));
     &b[HEADER_BYTES..place]
+}
+
+// How many turns any bytes choose as a board.
+pub fn count(b: &[u8]) -> CountAnswer
+    ensures { λ r. ⌜ r ≡ countOf (now (b .entry)) ⌝ }
+{
+    if is_malformed(b) {
+        return CountAnswer {
+            refusal: refusal::MALFORMED_BOARD,
+            turns: 0,
+        };
+    }
+    CountAnswer {
+        refusal: 0,
+        turns: count_chosen(map(b)),
+    }
+}
+
+// Whether any bytes choose turn t as a board; they choose none that they do not have.
+pub fn chooses(b: &[u8], t: usize) -> bool
+    ensures { λ r. ⌜ r ≡ turnChosen (now (b .entry)) t ⌝ }
+{
+    if is_malformed(b) {
+        return false;
+    }
+    if t < turns(b) as usize {
+        return is_chosen(map(b), t);
+    }
+    false
 }

@@ -4,6 +4,7 @@ ghost use lib.ListN.{take, drop};
 ghost use Rattle.sheet.specs.Read.{readOf, outcome};
 ghost use Rattle.writer.specs.Write.{countsOf, writeOf, written};
 ghost use Rattle.board.specs.Open.{openOf, stepsPart};
+ghost use Rattle.board.specs.Chosen.{countOf, turnChosen};
 ghost use Rattle.audit.specs.Check.{checkOf};
 ghost use Rattle.planner.specs.Answer.{planned};
 ghost use Rattle.planner.specs.Plan.{planOf};
@@ -11,6 +12,7 @@ ghost use Rattle.listing.specs.Answer.{listed};
 ghost use Rattle.listing.specs.List.{listOf};
 ghost use Rattle.slopeboard.specs.Part.{stepsPartAt};
 use audit::CheckAnswer;
+use board::CountAnswer;
 use listing::ListAnswer;
 use planner::PlanAnswer;
 use sheet::ReadAnswer;
@@ -67,6 +69,20 @@ pub extern "C" fn slopeboard_steps(board: &[u8]) -> Part
         start: board.len() - length,
         length: length,
     }
+}
+
+#[no_mangle]
+pub extern "C" fn slopeboard_count(board: &[u8]) -> CountAnswer
+    ensures { λ r. ⌜ r ≡ countOf (now (board .entry)) ⌝ }
+{
+    board::count(board)
+}
+
+#[no_mangle]
+pub extern "C" fn slopeboard_is_chosen(board: &[u8], turn: usize) -> bool
+    ensures { λ r. ⌜ r ≡ turnChosen (now (board .entry)) turn ⌝ }
+{
+    board::chooses(board, turn)
 }
 
 #[no_mangle]
