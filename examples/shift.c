@@ -58,8 +58,11 @@ int main(void) {
 
     slopeboard_check_answer checked = slopeboard_check(sheet, written.bytes, board, planned.bytes);
     if (checked.refusal != 0) return refused("check", checked.refusal);
+    slopeboard_count_answer chosen = slopeboard_count(board, planned.bytes);
+    if (chosen.refusal != 0) return refused("count", chosen.refusal);
+    printf("%u of %u turns are driven\n", (unsigned)chosen.turns, TURNS);
     for (unsigned turn = 0; turn < TURNS; turn++) {
-        if (board[15 + turn / 8] >> turn % 8 & 1) printf("turn %u is driven\n", turn);
+        if (slopeboard_is_chosen(board, planned.bytes, turn)) printf("turn %u is driven\n", turn);
     }
     printf("checked: worth %u tally %u\n", (unsigned)checked.worth, (unsigned)checked.tally);
 

@@ -27,6 +27,7 @@
 #ifndef SLOPEBOARD_H
 #define SLOPEBOARD_H
 
+#include <stdbool.h>
 #include <stddef.h>
 #include <stdint.h>
 
@@ -100,6 +101,11 @@ typedef struct {
 
 typedef struct {
     uint8_t refusal;
+    uint32_t turns;
+} slopeboard_count_answer;
+
+typedef struct {
+    uint8_t refusal;
     uint32_t tally;
     uint32_t worth;
 } slopeboard_check_answer;
@@ -133,6 +139,15 @@ uint8_t slopeboard_open(const uint8_t *board, size_t board_len);
 /* Where the steps of a board stand in its own bytes: the place of the first one's first byte, and the
  * length of all, four bytes a step. Both are 0 if the board does not open. */
 slopeboard_part slopeboard_steps(const uint8_t *board, size_t board_len);
+
+/* How many turns are chosen in a board: as many as its choice map has ones.
+ *
+ * Refusal: 12 if the board does not open. */
+slopeboard_count_answer slopeboard_count(const uint8_t *board, size_t board_len);
+
+/* Whether the turn with this number is chosen in a board. It is not if the board does not open, nor if the
+ * board has no turn with this number. */
+bool slopeboard_is_chosen(const uint8_t *board, size_t board_len, size_t turn);
 
 /* Checks a board, whoever made it, against a sheet. The answer has the board's tally and worth. If
  * nothing is refused, no set of the sheet's turns without a conflict is worth more than twice that tally.

@@ -33,8 +33,10 @@ fn main() -> Result<(), Box<dyn std::error::Error>> {
     }
 
     let sums = slopeboard::check(sheet, board)?;
+    let chosen = slopeboard::count(board)?;
+    println!("{chosen} of {} turns are driven", TURNS.len());
     for turn in 0..TURNS.len() {
-        if board[15 + turn / 8] >> (turn % 8) & 1 == 1 {
+        if slopeboard::is_chosen(board, turn) {
             println!("turn {turn} is driven");
         }
     }

@@ -100,6 +100,19 @@ pub fn steps(board: &[u8]) -> &[u8] {
     &board[part.start..][..part.length]
 }
 
+/// How many turns are chosen in a board.
+pub fn count(board: &[u8]) -> Result<u32, Refusal> {
+    let answer = unsafe { raw::slopeboard_count(board.as_ptr(), board.len()) };
+    refusal::none(answer.refusal)?;
+    Ok(answer.turns)
+}
+
+/// Whether the turn with this number is chosen in a board. It is not if the
+/// board does not open, nor if the board has no turn with this number.
+pub fn is_chosen(board: &[u8], turn: usize) -> bool {
+    unsafe { raw::slopeboard_is_chosen(board.as_ptr(), board.len(), turn) }
+}
+
 /// Checks a board, whoever made it, against a sheet.
 pub fn check(sheet: &[u8], board: &[u8]) -> Result<Sums, Refusal> {
     let (board, board_len) = (board.as_ptr(), board.len());

@@ -27,6 +27,14 @@ pub struct Part {
     pub length: usize,
 }
 
+/// What counting the chosen turns of a board gives; 0 turns on a refusal.
+#[repr(C)]
+#[derive(Clone, Copy, Debug, PartialEq, Eq)]
+pub struct CountAnswer {
+    pub refusal: u8,
+    pub turns: u32,
+}
+
 /// What checking a board gives. Both sums are 0 on a refusal.
 #[repr(C)]
 #[derive(Clone, Copy, Debug, PartialEq, Eq)]
@@ -63,6 +71,10 @@ extern "C" {
     pub fn slopeboard_open(board: *const u8, board_len: usize) -> u8;
 
     pub fn slopeboard_steps(board: *const u8, board_len: usize) -> Part;
+
+    pub fn slopeboard_count(board: *const u8, board_len: usize) -> CountAnswer;
+
+    pub fn slopeboard_is_chosen(board: *const u8, board_len: usize, turn: usize) -> bool;
 
     pub fn slopeboard_check(
         sheet: *const u8,

@@ -2,7 +2,7 @@
 //! `bindings/rust`.
 
 use slopeboard::raw;
-pub use slopeboard::raw::{BytesAnswer, CheckAnswer, Part, ReadAnswer};
+pub use slopeboard::raw::{BytesAnswer, CheckAnswer, CountAnswer, Part, ReadAnswer};
 
 /// A slice as the library takes it. An empty one may come with any pointer,
 /// so it comes with the worst.
@@ -53,6 +53,18 @@ pub fn open(board: &[u8]) -> u8 {
 pub fn steps(board: &[u8]) -> Part {
     let (board, board_len) = parts(board);
     unsafe { raw::slopeboard_steps(board, board_len) }
+}
+
+/// Counts the chosen turns of a board.
+pub fn count(board: &[u8]) -> CountAnswer {
+    let (board, board_len) = parts(board);
+    unsafe { raw::slopeboard_count(board, board_len) }
+}
+
+/// Finds out whether a turn is chosen in a board.
+pub fn is_chosen(board: &[u8], turn: usize) -> bool {
+    let (board, board_len) = parts(board);
+    unsafe { raw::slopeboard_is_chosen(board, board_len, turn) }
 }
 
 /// Checks a board against a sheet.

@@ -7,6 +7,7 @@
 mod bound;
 mod bytes;
 mod check;
+mod choice;
 mod foreign;
 mod list;
 mod open;
@@ -24,6 +25,7 @@ fn main() -> ExitCode {
         read::run,
         write::run,
         open::run,
+        choice::run,
         plan::run,
         check::run,
         bound::run,

@@ -10,7 +10,7 @@
 //! repository, with the entries that the crate runs:
 //!
 //! ```text
-//! cargo run --release --manifest-path reference/Cargo.toml --bin corpus -- crates/corpus read write plan open check list
+//! cargo run --release --manifest-path reference/Cargo.toml --bin corpus -- crates/corpus read write plan open check list count chosen
 //! ```
 //!
 //! A case is five bytes and an input. Byte 0 is the entry's number, bytes 1

@@ -85,7 +85,7 @@ fn main() -> ExitCode {
     };
     let found = functions(&String::from_utf8_lossy(&output.stdout));
     for name in found.keys().filter(|name| name.starts_with("slopeboard_")) {
-        println!("{name:18}{:>8}", need(&found, name));
+        println!("{name:20}{:>8}", need(&found, name));
     }
     if found.is_empty() {
         eprintln!("no function in {archive}");
