@@ -4,11 +4,13 @@ ghost use lib.ListN.{length};
 ghost use Rattle.sheet.specs.Read.{readOf};
 ghost use Rattle.writer.specs.Write.{countsOf, writeOf};
 ghost use Rattle.board.specs.Open.{openOf, stepsPart};
+ghost use Rattle.board.specs.Chosen.{countOf, turnChosen};
 ghost use Rattle.audit.specs.Check.{checkOf};
 ghost use Rattle.planner.specs.Plan.{planOf};
 ghost use Rattle.listing.specs.List.{listOf};
 ghost use Rattle.corpus.specs.Line.{countsHeld, unpacked, sumOf, writtenLine, readLine};
 use super::tools;
+use board::CountAnswer;
 
 // The values of a line behind its name: the refusal, what the entry returned, and a checksum or what
 // else ends the line.
@@ -65,6 +67,20 @@ pub fn open(board: &[u8]) -> Line
         value: steps.len() as u64,
         last: tools::byte_sum(steps),
     }
+}
+
+// How many turns a board chooses.
+pub fn count(board: &[u8]) -> CountAnswer
+    ensures { λ r. ⌜ r ≡ countOf (now (board .entry)) ⌝ }
+{
+    board::count(board)
+}
+
+// Whether a board chooses a turn.
+pub fn chosen(board: &[u8], turn: u16) -> bool
+    ensures { λ r. ⌜ r ≡ turnChosen (now (board .entry)) turn ⌝ }
+{
+    board::chooses(board, turn as usize)
 }
 
 // Checking a board against a sheet: nothing is lent, and the worth ends the line.

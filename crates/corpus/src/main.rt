@@ -6,6 +6,7 @@
 mod entries;
 mod tools;
 
+use board::CountAnswer;
 use libc::STDIN_FILENO;
 use libc::STDOUT_FILENO;
 
@@ -19,7 +20,7 @@ const MOST_BYTES: usize = 8192;
 // How many bytes of input follow a case's head.
 fn input_size(entry: u8, first: u16, second: u16) -> usize {
     match entry {
-        1 | 3 | 4 | 6 => second as usize,
+        1 | 3 | 4 | 6 | 7 | 8 => second as usize,
         2 => 8 + 2 * (second as usize),
         5 => first as usize + second as usize,
         _ => 0,
@@ -30,7 +31,7 @@ fn input_size(entry: u8, first: u16, second: u16) -> usize {
 // board to be checked, or the numbers of the writer's table.
 fn front_size(entry: u8, first: u16, second: u16) -> usize {
     match entry {
-        1 | 3 | 4 | 6 => second as usize,
+        1 | 3 | 4 | 6 | 7 | 8 => second as usize,
         2 => 8,
         5 => first as usize,
         _ => 0,
@@ -79,8 +80,28 @@ fn print_read(line: entries::ReadLine) {
     io::write_all(STDOUT_FILENO, b"\n");
 }
 
+fn print_count(line: CountAnswer) {
+    io::write_all(STDOUT_FILENO, b"count");
+    put(line.refusal as u64);
+    put(line.turns as u64);
+    io::write_all(STDOUT_FILENO, b"\n");
+}
+
+fn print_chosen(is: bool) {
+    io::write_all(STDOUT_FILENO, b"chosen");
+    put(is as u64);
+    io::write_all(STDOUT_FILENO, b"\n");
+}
+
 // Runs one case, and says whether there is such an entry.
-fn run_entry(entry: u8, front: &[u8], rest: &[u8], numbers: &mut [u16], bytes: &mut [u8]) -> bool {
+fn run_entry(
+    entry: u8,
+    first: u16,
+    front: &[u8],
+    rest: &[u8],
+    numbers: &mut [u16],
+    bytes: &mut [u8],
+) -> bool {
     tools::fill_numbers(&mut *numbers);
     tools::fill_bytes(&mut *bytes);
     match entry {
@@ -93,6 +114,8 @@ fn run_entry(entry: u8, front: &[u8], rest: &[u8], numbers: &mut [u16], bytes: &
         4 => print_line(b"open", entries::open(front)),
         5 => print_line(b"check", entries::check(front, rest)),
         6 => print_line(b"list", entries::list(front, &mut *bytes)),
+        7 => print_count(entries::count(front)),
+        8 => print_chosen(entries::chosen(front, first)),
         _ => {
             return false;
         }
@@ -121,6 +144,7 @@ fn run_case(
     }
     run_entry(
         entry,
+        first,
         &input[..cut],
         &input[cut..end],
         &mut numbers[..places],
