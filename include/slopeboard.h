@@ -18,7 +18,7 @@
  *   the order under each function says which is given.
  * - On success, the places of a lent buffer past the last one written hold what they held before.
  * - All working space is on the caller's stack, and no function calls itself. In bytes, read off the compiled
- *   code: slopeboard_list 30,800, slopeboard_plan 23,184, slopeboard_check 12,376, slopeboard_read 4,120, each
+ *   code: slopeboard_list 16,160, slopeboard_plan 12,304, slopeboard_check 9,784, slopeboard_read 4,136, each
  *   of the others fewer than 100. What memcpy and memset need comes on top.
  *
  * In sheets and boards, a number of several bytes begins with its high byte. Turns are numbered from 0

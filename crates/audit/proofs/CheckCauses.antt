@@ -27,8 +27,10 @@ use Rattle.sheet.proofs.Readings.{sheet-numbered}
 use Rattle.board.specs.Board.{boardTurns, boardSteps, boardTally, boardWorth, boardChoice, writtenSteps}
 use Rattle.board.specs.Open.{malformed, WellFormed}
 use Rattle.board.proofs.OpenCauses.{formed-board, board-formed}
-use Rattle.audit.specs.Check.{sheetTurns, choiceCauses, stepCauses, ruleCauses, sumCauses, boardCauses, checkCauses, checkOf, BoardCause, form, two-conflict, room-left, step-wrong, turn-open, sums-differ, CheckCause, of-sheet, of-board, FirstCheckCause}
-use Rattle.audit.proofs.Passing.{check-number, sheet-lengths}
+use Rattle.problem.specs.Problem.{sheetTurns}
+use Rattle.problem.proofs.Posed.{sheet-lengths}
+use Rattle.audit.specs.Check.{choiceCauses, stepCauses, ruleCauses, sumCauses, boardCauses, checkCauses, checkOf, BoardCause, form, two-conflict, room-left, step-wrong, turn-open, sums-differ, CheckCause, of-sheet, of-board, FirstCheckCause}
+use Rattle.audit.proofs.Passing.{check-number}
 
 module _ (T : Turns) (lengths : PositiveLengths T) (b : List ℕ) where
   -- ---- each test that fails, in words

@@ -1,26 +1,29 @@
 -- The check's answer by its cases, each premise in the form in which the code's calls and tests leave it. Assumes nothing.
-use Prim.Native.Nat.{ℕ, _+_, _*_, _≤_}
+use Prim.Native.Nat.{ℕ, _≤_}
 use mathlib.Core.Path.{_≡_, refl, sym, _∙_}
-use mathlib.Core.List.{List, _∷_, _++_}
+use mathlib.Core.List.{List, _∷_}
 use mathlib.Core.Bool.{Bool, true, false}
 use native.Mathlib.Omega.{arith}
-use lib.ListN.{length, take, drop}
+use lib.ListN.{length}
 use borrow.Author.Tests.{ne-eqb}
 use Rattle.refusal.specs.Number.{malformedBoard}
 use Rattle.refusal.specs.Cause.{Cause, _when_, firstOf}
 use Rattle.refusal.proofs.Order.{first-stops, first-goes}
-use Rattle.model.specs.Turns.{Turns, turnsIn, RowsBounded}
+use Rattle.model.specs.Turns.{Turns}
 use Rattle.lists.proofs.Bools.{or-false-1}
 use Rattle.sheet.specs.declared.reader.ReadAnswer.{ReadAnswer}
-use Rattle.sheet.specs.Read.{tableOf, sheetCauses, answerOf}
+use Rattle.sheet.specs.Read.{sheetCauses, answerOf}
 use Rattle.sheet.proofs.Readings.{sheet-numbered}
-use Rattle.sheet.proofs.Unrefused.{rows-bounded}
-use Rattle.sheet.proofs.Whole.{whole-refusal, whole-accepted, whole-turns, whole-table, whole-rows}
+use Rattle.sheet.proofs.Whole.{whole-refusal, whole-accepted, whole-turns}
 use Rattle.board.specs.Board.{boardHeader, boardTally, boardWorth}
 use Rattle.board.specs.Open.{malformed}
 use Rattle.board.proofs.Openings.{formed-header}
+use Rattle.problem.specs.declared.columns.Size.{Size}
+use Rattle.problem.specs.Columns.{turnsBy, Held}
+use Rattle.problem.specs.Problem.{sheetTurns}
+use Rattle.problem.specs.Load.{shiftSize, Posed}
 use Rattle.audit.specs.declared.judge.CheckAnswer.{CheckAnswer}
-use Rattle.audit.specs.Check.{sheetTurns, boardCauses, checkCauses, checked, checkOf}
+use Rattle.audit.specs.Check.{boardCauses, checkCauses, checked, checkOf}
 
 -- ---- a refusal, and a pass
 
@@ -51,34 +54,27 @@ pub passed-header : (T : Turns) (b : List ℕ) {f : ℕ} → f ≡ firstOf (boar
 unfolding boardCauses
 passed-header T b e z = formed-header b (or-false-1 (malformed b) _ (head-none _ _ (sym e ∙ z)))
 
--- ---- the table that was read
-
-module _ (s lent t : List ℕ) (a : ReadAnswer) (e : (a ≡ answerOf s) × (a .refusal ≡ 0 → t ≡ tableOf s ++ drop (length (tableOf s)) lent)) (z : a .refusal ≡ 0) where
-  accepted : firstOf (sheetCauses s) ≡ 0
-  accepted = whole-accepted s (e .0) z
-
-  pub check-bounded : RowsBounded (a .turns) (take (5 * a .turns) t)
-  check-bounded = rw (whole-table s (e .0) z lent (e .1), whole-turns s (e .0) z) (rows-bounded s accepted)
-
-  pub check-rows : length (take (5 * a .turns) t) ≡ 5 * a .turns
-  check-rows = whole-rows s (e .0) z lent (e .1)
-
 -- ---- the entry
 
-module _ (s b lent t : List ℕ) (a : ReadAnswer) (e : (a ≡ answerOf s) × (a .refusal ≡ 0 → t ≡ tableOf s ++ drop (length (tableOf s)) lent)) where
+module _ (s b : List ℕ) {a : ReadAnswer} (e : a ≡ answerOf s) where
   pub check-sheet : {x : CheckAnswer} → (a .refusal ≡ 0 → ⊥) → x ≡ checked (a .refusal) 0 0 → x ≡ checkOf s b
-  check-sheet z x = x ∙ check-refused s b (a .refusal) (by-sheet s b (a .refusal) (sym (whole-refusal s (e .0))) z) z
+  check-sheet z x = x ∙ check-refused s b (a .refusal) (by-sheet s b (a .refusal) (sym (whole-refusal s e)) z) z
 
-  module _ (z : a .refusal ≡ 0) where
-    turns-are : turnsIn (a .turns) (take (5 * a .turns) t) ≡ sheetTurns s
-    turns-are = rw (whole-table s (e .0) z lent (e .1), whole-turns s (e .0) z)
+  module _ (z : a .refusal ≡ 0) (cols : List ℕ) {p : Size} (w : a .refusal ≡ 0 → Posed s cols) (q : p ≡ shiftSize (a .turns)) where
+    pub check-held : Held p cols
+    check-held = rw (q, whole-turns s e z) (w z .held)
 
-    module _ {f : ℕ} (g : f ≡ firstOf (boardCauses (turnsIn (a .turns) (take (5 * a .turns) t)) b)) where
+    turns-are : turnsBy p cols ≡ sheetTurns s
+    turns-are = rw (q, whole-turns s e z) (w z .turns)
+
+    module _ {f : ℕ} (g : f ≡ firstOf (boardCauses (turnsBy p cols) b)) where
       board-is : firstOf (checkCauses s b) ≡ f
-      board-is = by-board s b (accepted s lent t a e z) ∙ sym (rw turns-are at g)
+      board-is = by-board s b (whole-accepted s e z) ∙ sym (rw turns-are at g)
 
       pub check-board : {x : CheckAnswer} → (f ≡ 0 → ⊥) → x ≡ checked f 0 0 → x ≡ checkOf s b
       check-board y x = x ∙ check-refused s b f board-is y
 
       pub check-passed : {tallied worth : ℕ} → f ≡ 0 → tallied ≡ boardTally b → worth ≡ boardWorth b → checked 0 tallied worth ≡ checkOf s b
-      check-passed y p q = rw (p, q) (check-fine s b (board-is ∙ y))
+      check-passed y t v = rw (t, v) (check-fine s b (board-is ∙ y))
+
+pub ruleset check-cases = (passed-header, check-sheet, check-held, check-board, check-passed)

@@ -1,50 +1,55 @@
 -- The check by its cases, each premise in the form in which the code's calls and tests leave it. Assumes nothing.
 use Prim.Native.Nat.{ℕ, _+_, _-_}
-use mathlib.Core.Path.{_≡_, refl, sym, _∙_}
+use mathlib.Core.Path.{_≡_, refl, sym, _∙_, ap}
 use mathlib.Core.List.{List, _++_}
 use mathlib.Core.Bool.{Bool, true, false, not, _&&_}
+use native.Mathlib.Omega.{arith}
 use lib.Dec.{eqb, leb, ltb}
+use lib.ListN.{length}
 use borrow.Author.Tests.{eq-eqb, ne-eqb, le-leb, lt-leb, ltb-true, ltb-false}
 use Rattle.refusal.specs.Number.{malformedBoard, chosenConflict, notMaximal, wrongSums}
 use Rattle.refusal.specs.Cause.{Cause, firstOf}
 use Rattle.refusal.proofs.Order.{numbered, first-stops, first-goes}
-use Rattle.model.specs.Turns.{Turns, turnsIn}
+use Rattle.model.specs.Turns.{Turns}
 use Rattle.model.specs.Steps.{Step, tally}
 use Rattle.model.specs.Choice.{chosen}
 use Rattle.model.specs.Rules.{independent, maximal, sums}
 use Rattle.board.specs.Choice.{choiceIn}
 use Rattle.board.specs.Board.{boardTurns, boardSteps, boardTally, boardWorth, boardMap, boardChoice, stepsIn, writtenSteps}
 use Rattle.board.specs.Open.{openOf, stepsPart}
-use Rattle.board.proofs.Openings.{opened, shut, part-steps}
+use Rattle.board.proofs.Openings.{opened, shut, formed-map, part-steps}
+use Rattle.problem.specs.declared.columns.Size.{Size}
+use Rattle.problem.specs.Columns.{turnsBy, Held}
+use Rattle.choices.specs.Bounds.{Lent}
 use Rattle.choices.specs.Below.{apartBelow, independentBelow, maximalBelow, chosenBelow}
 use Rattle.audit.specs.Check.{choiceCauses, stepCauses, ruleCauses, sumCauses, partCauses, boardCauses}
 
 -- ---- the choice
 
-module _ (n : ℕ) (table : List ℕ) (S : List Bool) where
-  independent-below : independent (turnsIn n table) S ≡ independentBelow (turnsIn n table) S n
-  unfolding independent independentBelow apartBelow turnsIn
+module _ (p : Size) (cols : List ℕ) (S : List Bool) where
+  independent-below : independent (turnsBy p cols) S ≡ independentBelow (turnsBy p cols) S (p .count)
+  unfolding independent independentBelow apartBelow turnsBy
   independent-below = refl
 
-  maximal-below : maximal (turnsIn n table) S ≡ maximalBelow (turnsIn n table) S n
-  unfolding maximal maximalBelow turnsIn
+  maximal-below : maximal (turnsBy p cols) S ≡ maximalBelow (turnsBy p cols) S (p .count)
+  unfolding maximal maximalBelow turnsBy
   maximal-below = refl
 
-  chosen-below : chosen (turnsIn n table .count) S (turnsIn n table .worth) ≡ chosenBelow (turnsIn n table) S n
-  unfolding chosen chosenBelow turnsIn
+  chosen-below : chosen (turnsBy p cols .count) S (turnsBy p cols .worth) ≡ chosenBelow (turnsBy p cols) S (p .count)
+  unfolding chosen chosenBelow turnsBy
   chosen-below = refl
 
-  module _ {i : Bool} (e : i ≡ independentBelow (turnsIn n table) S n) where
-    pub choice-conflict : i ≡ false → chosenConflict ≡ firstOf (choiceCauses (turnsIn n table) S)
+  module _ {i : Bool} (e : i ≡ independentBelow (turnsBy p cols) S (p .count)) where
+    pub choice-conflict : i ≡ false → chosenConflict ≡ firstOf (choiceCauses (turnsBy p cols) S)
     unfolding choiceCauses firstOf
     choice-conflict f = rw (independent-below, ← e, f)
 
-    module _ {m : Bool} (t : i ≡ true) (g : m ≡ maximalBelow (turnsIn n table) S n) where
-      pub choice-room : m ≡ false → notMaximal ≡ firstOf (choiceCauses (turnsIn n table) S)
+    module _ {m : Bool} (t : i ≡ true) (g : m ≡ maximalBelow (turnsBy p cols) S (p .count)) where
+      pub choice-room : m ≡ false → notMaximal ≡ firstOf (choiceCauses (turnsBy p cols) S)
       unfolding choiceCauses firstOf
       choice-room f = rw (independent-below, ← e, t, maximal-below, ← g, f)
 
-      pub choice-fine : m ≡ true → 0 ≡ firstOf (choiceCauses (turnsIn n table) S)
+      pub choice-fine : m ≡ true → 0 ≡ firstOf (choiceCauses (turnsBy p cols) S)
       unfolding choiceCauses firstOf
       choice-fine f = rw (independent-below, ← e, t, maximal-below, ← g, f)
 
@@ -69,16 +74,16 @@ module _ (tallied worth amounts earned : ℕ) where
 
 pub ruleset wrong-cases = (wrong-tally, wrong-worth, wrong-below)
 
-module _ (n : ℕ) (table : List ℕ) (S : List Bool) (xs : List Step) (b : List ℕ) {tallied worth amounts earned : ℕ} (r : Bool) (u : tallied ≡ boardTally b) (v : worth ≡ boardWorth b) (p : amounts ≡ tally xs) (q : earned ≡ chosenBelow (turnsIn n table) S n) (e : not r ≡ (eqb tallied amounts && (eqb worth earned && leb tallied worth))) where
-  sums-is : sums (turnsIn n table) S xs (boardTally b) (boardWorth b) ≡ not r
+module _ (size : Size) (cols : List ℕ) (S : List Bool) (xs : List Step) (b : List ℕ) {tallied worth amounts earned : ℕ} (r : Bool) (u : tallied ≡ boardTally b) (v : worth ≡ boardWorth b) (p : amounts ≡ tally xs) (q : earned ≡ chosenBelow (turnsBy size cols) S (size .count)) (e : not r ≡ (eqb tallied amounts && (eqb worth earned && leb tallied worth))) where
+  sums-is : sums (turnsBy size cols) S xs (boardTally b) (boardWorth b) ≡ not r
   unfolding sums
-  sums-is = sym (e ∙ rw (p, q, ← chosen-below n table S, u, v))
+  sums-is = sym (e ∙ rw (p, q, ← chosen-below size cols S, u, v))
 
-  pub sums-wrong : r ≡ true → wrongSums ≡ firstOf (sumCauses (turnsIn n table) S xs (boardTally b) (boardWorth b))
+  pub sums-wrong : r ≡ true → wrongSums ≡ firstOf (sumCauses (turnsBy size cols) S xs (boardTally b) (boardWorth b))
   unfolding sumCauses firstOf
   sums-wrong f = rw (sums-is, f)
 
-  pub sums-fine : r ≡ false → 0 ≡ firstOf (sumCauses (turnsIn n table) S xs (boardTally b) (boardWorth b))
+  pub sums-fine : r ≡ false → 0 ≡ firstOf (sumCauses (turnsBy size cols) S xs (boardTally b) (boardWorth b))
   unfolding sumCauses firstOf
   sums-fine f = rw (sums-is, f)
 
@@ -128,21 +133,24 @@ module _ (b : List ℕ) {r : ℕ} (e : r ≡ openOf b) where
   unfolding boardCauses firstOf
   board-malformed T z = rw (shut b e z)
 
-  module _ (n : ℕ) (table : List ℕ) {k : ℕ} (z : r ≡ 0) (p : k ≡ boardTurns b) where
-    pub board-other : (k ≡ n → ⊥) → malformedBoard ≡ firstOf (boardCauses (turnsIn n table) b)
-    unfolding boardCauses firstOf turnsIn
-    board-other h = rw (opened b e z, ← p, ne-eqb k n h)
+  module _ (size : Size) (cols : List ℕ) {k : ℕ} (z : r ≡ 0) (p : k ≡ boardTurns b) where
+    pub board-other : (k ≡ size .count → ⊥) → malformedBoard ≡ firstOf (boardCauses (turnsBy size cols) b)
+    unfolding boardCauses firstOf turnsBy
+    board-other h = rw (opened b e z, ← p, ne-eqb k (size .count) h)
 
-    module _ (h : k ≡ n) {map steps : List ℕ} (q : map ≡ boardMap b) (s : steps ≡ stepsPart b) where
-      choice-is : choiceIn n map ≡ boardChoice b
+    module _ (h : k ≡ size .count) {map steps : List ℕ} (q : map ≡ boardMap b) (s : steps ≡ stepsPart b) where
+      pub board-lent : Held size cols → Lent size cols map
+      board-lent held = record { held = held; bits = omega (arith, formed-map b (opened b e z), ap length q, p, h) }
+
+      choice-is : choiceIn (size .count) map ≡ boardChoice b
       unfolding boardChoice
       choice-is = rw (q, ← p, h)
 
       steps-are : stepsIn (boardSteps b) steps ≡ writtenSteps b
       steps-are = rw s (part-steps b (opened b e z))
 
-      pub board-parts : {g : ℕ} → g ≡ firstOf (partCauses (turnsIn n table) (choiceIn n map) (stepsIn (boardSteps b) steps) (boardTally b) (boardWorth b)) → g ≡ firstOf (boardCauses (turnsIn n table) b)
-      unfolding boardCauses firstOf turnsIn
-      board-parts d = rw (opened b e z, ← p, eq-eqb k n h) (rw (choice-is, steps-are) at d)
+      pub board-parts : {g : ℕ} → g ≡ firstOf (partCauses (turnsBy size cols) (choiceIn (size .count) map) (stepsIn (boardSteps b) steps) (boardTally b) (boardWorth b)) → g ≡ firstOf (boardCauses (turnsBy size cols) b)
+      unfolding boardCauses firstOf turnsBy
+      board-parts d = rw (opened b e z, ← p, eq-eqb k (size .count) h) (rw (choice-is, steps-are) at d)
 
-pub ruleset board-cases = (board-malformed, board-other, board-parts)
+pub ruleset board-cases = (board-malformed, board-other, board-lent, board-parts)

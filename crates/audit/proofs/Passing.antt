@@ -10,7 +10,7 @@ use borrow.Author.Tests.{eqb-true, eq-eqb, not-false}
 use Rattle.refusal.specs.Cause.{firstOf}
 use Rattle.refusal.proofs.Order.{first-goes, clear-cons, clear-append}
 use Rattle.wire.specs.Number.{Bytes}
-use Rattle.model.specs.Turns.{Turns, turnsIn, PositiveLengths}
+use Rattle.model.specs.Turns.{Turns}
 use Rattle.model.specs.Steps.{initial, afterSteps}
 use Rattle.model.specs.Rules.{independent, maximal, allRight, noneOpen, sums}
 use Rattle.model.specs.Promises.{Promises}
@@ -21,12 +21,13 @@ use Rattle.sheet.specs.Read.{turnCount, sheetCauses}
 use Rattle.sheet.specs.Accepted.{Accepted}
 use Rattle.sheet.proofs.Accepting.{accepted-iff}
 use Rattle.sheet.proofs.Readings.{sheet-numbered}
-use Rattle.sheet.proofs.Unrefused.{row-in-range}
 use Rattle.board.specs.Board.{boardTurns, boardTally, boardWorth, boardChoice, writtenSteps}
 use Rattle.board.specs.Open.{malformed}
 pub use Rattle.board.proofs.OpenCauses.{formed-board}
 use Rattle.board.proofs.OpenCauses.{board-formed}
-use Rattle.audit.specs.Check.{sheetTurns, choiceCauses, stepCauses, ruleCauses, sumCauses, boardCauses, checkCauses, checkOf, checked, Passes, BoardKeeps}
+use Rattle.problem.specs.Problem.{sheetTurns}
+use Rattle.problem.proofs.Posed.{sheet-count, sheet-lengths}
+use Rattle.audit.specs.Check.{choiceCauses, stepCauses, ruleCauses, sumCauses, boardCauses, checkCauses, checkOf, checked, Passes, BoardKeeps}
 
 -- ---- the number
 
@@ -40,12 +41,6 @@ answer-number f t w = go (eqb f 0) refl
 pub check-number : (s b : List ℕ) → checkOf s b .refusal ≡ firstOf (checkCauses s b)
 unfolding checkOf
 check-number s b = answer-number (firstOf (checkCauses s b)) (boardTally b) (boardWorth b)
-
--- ---- lengths of an accepted sheet's turns
-
-pub sheet-lengths : (s : List ℕ) → firstOf (sheetCauses s) ≡ 0 → PositiveLengths (sheetTurns s)
-unfolding turnsIn
-sheet-lengths s e t h = omega (arith, row-in-range s e t h .length-from)
 
 -- ---- a board without a cause
 
@@ -94,22 +89,18 @@ module _ (s b : List ℕ) where
   unfolding checkCauses
   parts-check e f = first-goes (sheetCauses s) (boardCauses (sheetTurns s) b) (sheet-numbered s) e ∙ f
 
-  turns-count : sheetTurns s .count ≡ turnCount s
-  unfolding turnsIn
-  turns-count = refl
-
   -- for every list of numbers: nothing is refused exactly where the sheet gives no cause and the board keeps the rules
   pub passes-parts : Passes s b → (firstOf (sheetCauses s) ≡ 0) × BoardKeeps s b
   passes-parts p =
       let q = check-parts (sym (check-number s b) ∙ p) in
       let c = board-clear (sheetTurns s) b (q .1) in
       let k = keeps-is (sheetTurns s) (boardChoice b) (writtenSteps b) (boardTally b) (boardWorth b) (sheet-lengths s (q .0)) .0 (c .apart, c .full, c .steps-right, c .closed, c .summed) in
-      (q .0, record { form = rw (c .counted ∙ turns-count) at (formed-board b (c .formed)); rules = k })
+      (q .0, record { form = rw (c .counted ∙ sheet-count s (q .0)) at (formed-board b (c .formed)); rules = k })
 
   pub parts-pass : firstOf (sheetCauses s) ≡ 0 → BoardKeeps s b → Passes s b
   parts-pass e k =
       let t = keeps-is (sheetTurns s) (boardChoice b) (writtenSteps b) (boardTally b) (boardWorth b) (sheet-lengths s e) .1 (k .rules) in
-      let c : Clear (sheetTurns s) b = record { formed = board-formed b (k .form); counted = k .form .turns ∙ sym turns-count; apart = t .0; full = t .1; steps-right = t .2; closed = t .3; summed = t .4 } in
+      let c : Clear (sheetTurns s) b = record { formed = board-formed b (k .form); counted = k .form .turns ∙ sym (sheet-count s e); apart = t .0; full = t .1; steps-right = t .2; closed = t .3; summed = t .4 } in
       check-number s b ∙ parts-check e (clear-board (sheetTurns s) b c)
 
   -- exactly: of bytes, the check passes a board if and only if the sheet is accepted and the board keeps the rules

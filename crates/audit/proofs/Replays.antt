@@ -11,15 +11,18 @@ use lib.ListN.{length}
 use Rattle.refusal.specs.Number.{wrongStep, turnLeftOpen}
 use Rattle.refusal.specs.Cause.{firstOf}
 use Rattle.lists.specs.Lists.{tab}
-use Rattle.model.specs.Turns.{Turns, turnsIn}
+use Rattle.model.specs.Turns.{Turns}
 use Rattle.model.specs.Steps.{Step, residual, part, left, initial, afterStep, afterSteps}
 use Rattle.model.specs.Rules.{Right, right, allRight, noneOpen}
 use Rattle.model.proofs.Readings.{right-is}
 use Rattle.board.specs.Board.{stepAt, stepsIn}
-use Rattle.ratio.specs.Bounds.{Bounded}
+use Rattle.turns.specs.Turn.{mostWorth}
+use Rattle.problem.specs.declared.columns.Size.{Size}
+use Rattle.problem.specs.Columns.{turnsBy}
+use Rattle.problem.proofs.Rows.{count-is}
+use Rattle.ratio.specs.Bounds.{Residuals}
 use Rattle.ratio.specs.Below.{closedBelow}
-use Rattle.ratio.proofs.Signed.{bounded-at}
-use Rattle.rows.proofs.Turns.{count-is}
+use Rattle.ratio.proofs.Signed.{small-at}
 use Rattle.audit.specs.Check.{stepCauses}
 
 -- ---- one step
@@ -28,33 +31,33 @@ part-mag : (z : ℤ) → part z ≤ mag z
 part-mag (pos k) = omega arith
 part-mag (negsuc k) = omega arith
 
-module _ (n : ℕ) (table : List ℕ) (s : List ℤ) (j a : ℕ) {r : Bool} (e : r ≡ right (turnsIn n table) s (record { turn = j; amount = a })) (t : r ≡ true) where
-  is-right : Right (turnsIn n table) s (record { turn = j; amount = a })
-  is-right = right-is (turnsIn n table) s (record { turn = j; amount = a }) .0 (sym e ∙ t)
+module _ (p : Size) (cols : List ℕ) (s : List ℤ) (j a : ℕ) {r : Bool} (e : r ≡ right (turnsBy p cols) s (record { turn = j; amount = a })) (t : r ≡ true) where
+  is-right : Right (turnsBy p cols) s (record { turn = j; amount = a })
+  is-right = right-is (turnsBy p cols) s (record { turn = j; amount = a }) .0 (sym e ∙ t)
 
-  pub right-inside : j < n
-  right-inside = omega (arith, is-right .inside, count-is n table)
+  pub right-inside : j < p .count
+  right-inside = omega (arith, is-right .inside, count-is p cols)
 
-  pub right-small : Bounded s → a ≤ 60000
+  pub right-small : Residuals (p .count) s → a ≤ mostWorth
   unfolding left
-  right-small b = omega (arith, is-right .owed, part-mag (residual s j), bounded-at s j b)
+  right-small b = omega (arith, is-right .owed, part-mag (residual s j), small-at s j (b .small))
 
 pub step-is : (bytes : List ℕ) (i : ℕ) {j a : ℕ} → j ≡ stepAt bytes i .turn → a ≡ stepAt bytes i .amount → _≡_ {A = Step} (record { turn = j; amount = a }) (stepAt bytes i)
 step-is bytes i p q = λ k. record { turn = p k; amount = q k }
 
-module _ (n : ℕ) (table : List ℕ) (s : List ℤ) (bytes : List ℕ) (i j a : ℕ) (p : j ≡ stepAt bytes i .turn) (q : a ≡ stepAt bytes i .amount) {r : Bool} (e : r ≡ right (turnsIn n table) s (record { turn = j; amount = a })) where
-  one-right : r ≡ right (turnsIn n table) s (stepAt bytes i)
-  one-right = e ∙ ap (right (turnsIn n table) s) (step-is bytes i p q)
+module _ (size : Size) (cols : List ℕ) (s : List ℤ) (bytes : List ℕ) (i j a : ℕ) (p : j ≡ stepAt bytes i .turn) (q : a ≡ stepAt bytes i .amount) {r : Bool} (e : r ≡ right (turnsBy size cols) s (record { turn = j; amount = a })) where
+  one-right : r ≡ right (turnsBy size cols) s (stepAt bytes i)
+  one-right = e ∙ ap (right (turnsBy size cols) s) (step-is bytes i p q)
 
-  pub one-false : r ≡ false → false ≡ right (turnsIn n table) s (stepAt bytes i)
+  pub one-false : r ≡ false → false ≡ right (turnsBy size cols) s (stepAt bytes i)
   one-false f = sym f ∙ one-right
 
-  pub one-true : r ≡ true → true ≡ right (turnsIn n table) s (stepAt bytes i)
+  pub one-true : r ≡ true → true ≡ right (turnsBy size cols) s (stepAt bytes i)
   one-true f = sym f ∙ one-right
 
-pub one-applied : (n : ℕ) (table : List ℕ) (s : List ℤ) (bytes : List ℕ) (i j a : ℕ) {s′ : List ℤ} → j ≡ stepAt bytes i .turn → a ≡ stepAt bytes i .amount
-    → s′ ≡ afterStep (turnsIn n table) s (record { turn = j; amount = a }) → s′ ≡ afterStep (turnsIn n table) s (stepAt bytes i)
-one-applied n table s bytes i j a p q e = e ∙ ap (afterStep (turnsIn n table) s) (step-is bytes i p q)
+pub one-applied : (size : Size) (cols : List ℕ) (s : List ℤ) (bytes : List ℕ) (i j a : ℕ) {s′ : List ℤ} → j ≡ stepAt bytes i .turn → a ≡ stepAt bytes i .amount
+    → s′ ≡ afterStep (turnsBy size cols) s (record { turn = j; amount = a }) → s′ ≡ afterStep (turnsBy size cols) s (stepAt bytes i)
+one-applied size cols s bytes i j a p q e = e ∙ ap (afterStep (turnsBy size cols) s) (step-is bytes i p q)
 
 pub ruleset one-cases = (right-inside, right-small, one-false, one-true, one-applied)
 
@@ -131,27 +134,27 @@ never e = absurd (true≢false (sym e))
 
 -- ---- the faults of steps
 
-none-is : (n : ℕ) (table : List ℕ) (s : List ℤ) → noneOpen (turnsIn n table) s ≡ closedBelow s n
-unfolding noneOpen closedBelow turnsIn
-none-is n table s = refl
+none-is : (p : Size) (cols : List ℕ) (s : List ℤ) → noneOpen (turnsBy p cols) s ≡ closedBelow s (p .count)
+unfolding noneOpen closedBelow turnsBy
+none-is p cols s = refl
 
-module _ (n : ℕ) (table : List ℕ) (xs : List Step) {s : List ℤ} {r : Bool} (i : s ≡ initial (turnsIn n table)) (e : r ≡ allRight (turnsIn n table) s xs) where
-  shown : allRight (turnsIn n table) (initial (turnsIn n table)) xs ≡ r
+module _ (p : Size) (cols : List ℕ) (xs : List Step) {s : List ℤ} {r : Bool} (i : s ≡ initial (turnsBy p cols)) (e : r ≡ allRight (turnsBy p cols) s xs) where
+  shown : allRight (turnsBy p cols) (initial (turnsBy p cols)) xs ≡ r
   shown = sym (rw i at e)
 
-  pub fault-step : r ≡ false → wrongStep ≡ firstOf (stepCauses (turnsIn n table) xs)
+  pub fault-step : r ≡ false → wrongStep ≡ firstOf (stepCauses (turnsBy p cols) xs)
   unfolding stepCauses firstOf
   fault-step f = rw (shown, f)
 
-  module _ {s′ : List ℤ} {o : Bool} (t : r ≡ true) (a : r ≡ true → s′ ≡ afterSteps (turnsIn n table) s xs) (l : length s′ ≡ n) (g : o ≡ closedBelow s′ (length s′)) where
-    closed : noneOpen (turnsIn n table) (afterSteps (turnsIn n table) (initial (turnsIn n table)) xs) ≡ o
-    closed = rw (← i, ← a t) (none-is n table s′ ∙ sym (rw l at g))
+  module _ {s′ : List ℤ} {o : Bool} (t : r ≡ true) (a : r ≡ true → s′ ≡ afterSteps (turnsBy p cols) s xs) (l : length s′ ≡ p .count) (g : o ≡ closedBelow s′ (length s′)) where
+    closed : noneOpen (turnsBy p cols) (afterSteps (turnsBy p cols) (initial (turnsBy p cols)) xs) ≡ o
+    closed = rw (← i, ← a t) (none-is p cols s′ ∙ sym (rw l at g))
 
-    pub fault-open : o ≡ false → turnLeftOpen ≡ firstOf (stepCauses (turnsIn n table) xs)
+    pub fault-open : o ≡ false → turnLeftOpen ≡ firstOf (stepCauses (turnsBy p cols) xs)
     unfolding stepCauses firstOf
     fault-open f = rw (shown, t, closed, f)
 
-    pub fault-none : o ≡ true → 0 ≡ firstOf (stepCauses (turnsIn n table) xs)
+    pub fault-none : o ≡ true → 0 ≡ firstOf (stepCauses (turnsBy p cols) xs)
     unfolding stepCauses firstOf
     fault-none f = rw (shown, t, closed, f)
 

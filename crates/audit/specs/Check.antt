@@ -7,19 +7,16 @@ use mathlib.Core.Logic.{_≢_, _⊎_}
 use lib.Dec.{eqb}
 use Rattle.refusal.specs.Number.{malformedBoard, chosenConflict, notMaximal, wrongStep, turnLeftOpen, wrongSums}
 use Rattle.refusal.specs.Cause.{Cause, _when_, firstOf}
-use Rattle.model.specs.Turns.{Turns, turnsIn, Conflict}
+use Rattle.model.specs.Turns.{Turns, Conflict}
 use Rattle.model.specs.Steps.{Step, isOpen, initial, afterStep, afterSteps, tally}
 use Rattle.model.specs.Choice.{has, chosen}
 use Rattle.model.specs.Rules.{independent, maximal, allRight, noneOpen, sums, Right, Each, KeepsRules}
-use Rattle.sheet.specs.Read.{turnCount, tableOf, sheetCauses}
+use Rattle.sheet.specs.Read.{turnCount, sheetCauses}
 use Rattle.sheet.specs.Accepted.{SheetCause, placeOf, FirstAmong}
+use Rattle.problem.specs.Problem.{sheetTurns}
 use Rattle.audit.specs.declared.judge.CheckAnswer.{CheckAnswer}
 use Rattle.board.specs.Board.{boardTurns, boardSteps, boardTally, boardWorth, boardChoice, writtenSteps}
 use Rattle.board.specs.Open.{malformed, WellFormed}
-
--- a sheet's turns, as the model speaks of them
-abbrev pub sheetTurns : List ℕ → Turns
-sheetTurns s = turnsIn (turnCount s) (tableOf s)
 
 -- what may be wrong with a choice: two chosen turns conflict, or a turn still fits
 unfoldable pub choiceCauses : Turns → List Bool → List Cause

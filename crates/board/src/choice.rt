@@ -39,8 +39,8 @@ pub fn is_chosen(map: &[u8], t: usize) -> bool
     bit(map[t / 8], (t % 8) as u32)
 }
 
-// Chooses turn t too.
-pub fn add_turn(map: &mut [u8], t: usize)
+// Sets bit t: in a choice map, turn t is chosen too.
+pub fn set_bit(map: &mut [u8], t: usize)
     requires { ⌜ t < 8 * length (now map) ⌝ }
     ensures { λ _. ⌜ now (map .exit) ≡ withTurn (now (map .entry)) t ⌝ }
 {

@@ -4,11 +4,13 @@ mod header;
 mod opening;
 mod writing;
 
-pub use choice::add_turn;
 pub use choice::count_chosen;
 pub use choice::is_chosen;
 pub use choice::map_bytes;
 pub use choice::next_chosen;
+pub use choice::set_bit;
+pub use header::HEADER_BYTES;
+pub use header::STEP_SIZE;
 pub use header::board_bytes;
 pub use header::step_count;
 pub use header::steps_place;

@@ -1,4 +1,3 @@
 pub mod Chosen
-pub mod Columns
 pub mod Fitting
-pub mod Selecting
+pub mod Gathering

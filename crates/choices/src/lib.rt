@@ -1,8 +1,8 @@
 // A choice of turns, held in a choice map: choosing by the steps and filling, and what the rules
-// ask of a choice. It knows turns only as rows of a table.
+// ask of a choice. It knows turns only as rows in columns.
 mod choosing;
+mod room;
 mod rules;
-mod selection;
 
 pub use choosing::choose_turns;
 pub use rules::chosen_worth;

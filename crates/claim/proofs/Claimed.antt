@@ -11,7 +11,6 @@ use Rattle.refusal.specs.Written.{wrote}
 use Rattle.refusal.proofs.Order.{clear-append}
 use Rattle.refusal.proofs.Written.{wrote-all}
 use Rattle.wire.specs.Number.{Bytes}
-use Rattle.model.specs.Turns.{Turns, turnsIn}
 use Rattle.model.specs.Steps.{Step, tally}
 use Rattle.model.specs.Pick.{steps}
 use Rattle.model.specs.Choice.{chosen, choice, goBack}
@@ -19,14 +18,18 @@ use Rattle.model.specs.Rules.{KeepsRules}
 use Rattle.model.specs.IntervalSelection.{Selects}
 use Rattle.model.proofs.Promised.{planned-keeps}
 use Rattle.model.proofs.Selection.{selection-exists, selection-unique, selection-filled}
-use Rattle.sheet.specs.Read.{turnCount, tableOf, sheetCauses}
+use Rattle.sheet.specs.Read.{turnCount, sheetCauses}
 use Rattle.sheet.specs.Accepted.{Accepted}
 use Rattle.sheet.proofs.Readings.{sheet-numbered}
+use Rattle.sheet.specs.Kind.{garage}
+use Rattle.sheet.proofs.SoundKinds.{garage-sound}
 use Rattle.sheet.proofs.Accepting.{sheet-reads, accepted-iff}
 use Rattle.board.specs.Board.{boardTurns, boardSteps, boardTally, boardWorth, boardChoice, writtenSteps}
 use Rattle.board.specs.Open.{WellFormed}
-use Rattle.audit.specs.Check.{sheetTurns, Passes, BoardKeeps, checkOf, checked}
-use Rattle.audit.proofs.Passing.{sheet-lengths, formed-board, parts-pass, passes-iff, passes-answer, passes-promises}
+use Rattle.problem.specs.Problem.{sheetTurns}
+use Rattle.problem.proofs.Posed.{sheet-count, sheet-lengths}
+use Rattle.audit.specs.Check.{Passes, BoardKeeps, checkOf, checked}
+use Rattle.audit.proofs.Passing.{formed-board, parts-pass, passes-iff, passes-answer, passes-promises}
 use Rattle.planner.specs.Plan.{planCauses, plannedBoard, planOf}
 use Rattle.planner.proofs.PlanCauses.{plan-number}
 use Rattle.planner.proofs.Answers.{planned-back}
@@ -35,17 +38,13 @@ use Rattle.claim.specs.Claim.{ByMethod, Claim}
 -- ---- the planner's board of a sheet that is not refused
 
 module _ (s : List ℕ) (e : firstOf (sheetCauses s) ≡ 0) where
-  counted : sheetTurns s .count ≡ turnCount s
-  unfolding turnsIn
-  counted = refl
-
   planned-rules : KeepsRules (sheetTurns s) (boardChoice (plannedBoard s)) (writtenSteps (plannedBoard s)) (boardTally (plannedBoard s)) (boardWorth (plannedBoard s))
   planned-rules = let r = planned-back s e in rw (r .chosen-turns, r .step-list, r .tallied, r .worth) (planned-keeps (sheetTurns s) (sheet-lengths s e))
 
   pub planned-passes : Passes s (plannedBoard s)
   planned-passes =
       let r = planned-back s e in
-      parts-pass s (plannedBoard s) e (record { form = rw (r .turns ∙ counted) at (formed-board (plannedBoard s) (r .opens)); rules = planned-rules })
+      parts-pass s (plannedBoard s) e (record { form = rw (r .turns ∙ sheet-count s e) at (formed-board (plannedBoard s) (r .opens)); rules = planned-rules })
 
   -- and the check's answer is the plan's tally and worth
   pub planned-answer : checkOf s (plannedBoard s) ≡ checked 0 (tally (steps (sheetTurns s))) (chosen (sheetTurns s .count) (choice (sheetTurns s)) (sheetTurns s .worth))
@@ -88,7 +87,7 @@ module _ (s : List ℕ) (e : firstOf (sheetCauses s) ≡ 0) where
 pub claim : (s b : List ℕ) → Bytes s → Claim s b
 claim s b y =
     record {
-      reading = λ a. let r = sheet-reads s (a .counts) (a .turns) (a .sheet) in record { counts = r .1; turns = r .2; count = r .3 };
+      reading = λ a. let r = sheet-reads garage garage-sound s (a .counts) (a .turns) (a .sheet) in record { counts = r .1; turns = r .2; count = r .3 };
       exactly = passes-iff s b y;
       answers = passes-answer s b;
       ours = λ a. planned-passes s (accepted-iff y .1 a);

@@ -7,13 +7,15 @@ use lib.IntN.{pos, negsuc}
 use Rattle.refusal.specs.Cause.{firstOf}
 use Rattle.refusal.specs.Written.{writtenUnless}
 use Rattle.wire.specs.Mark.{opensWith}
-use Rattle.turns.specs.Turn.{outsideRange, pastShift, turnCauses}
+use Rattle.turns.specs.Turn.{rows, turnsOfTable, outsideRange, pastShift, turnCauses}
+use Rattle.sheet.specs.Kind.{garage}
 use Rattle.sheet.specs.Record.{field, turnFrom, badMapFor, endAt, turnAt, cursorAfter, recordCauses, firstCursor}
-use Rattle.sheet.specs.Read.{countCauses, headerCauses, recordsCauses, turnsFrom, rows, sheetCauses, turnsOf, tableOf, readCauses, readOf, outcome, refusedWith}
+use Rattle.sheet.specs.Read.{countCauses, headerCauses, recordsCauses, turnsFrom, causesFor, sheetCauses, turnsOf, tableOf, readCausesFor, readFor, readOf, outcome, readRefused}
 use Rattle.sheet.specs.Layout.{recordOf}
-use Rattle.writer.specs.Write.{mapFor, recordsOf, sheetOf, turnsOfTable, turnsCauses, tableCauses, writeCauses, writeOf}
+use Rattle.writer.specs.Write.{mapFor, recordsOf, sheetOf, turnsCauses, tableCauses, writeCauses, writeOf}
 use Rattle.lists.specs.Lists.{every, tab}
-use Rattle.model.specs.Turns.{turnsIn, gap, overlap, bySlope, byGroomer, conflict}
+use Rattle.model.specs.Turns.{overlapping, overlap, bySlope, oneGroomer, byGroomer, conflict}
+use Rattle.problem.specs.Problem.{problemOf, sheetTurns}
 use Rattle.model.specs.Steps.{isOpen, left, initial, reduced, change, afterStep, afterSteps, tally}
 use Rattle.model.specs.Pick.{sooner, better, best, pick, nextStep, plan, steps}
 use Rattle.model.specs.Choice.{chosen, fits, choose, back, fill, goBack, choice}
@@ -31,31 +33,31 @@ use Rattle.claim.specs.Shift.{shift, shiftTable, shiftBoard, shiftSteps,
 use Rattle.claim.specs.Cases.{WorkedCases, lent, shiftTurns, shiftCounts}
 
 shift-read : readOf shift (lent 22) ≡ outcome (record { refusal = 0; groomers = 2; slopes = 3; turns = 4 }) (shiftTable ++ lent 2)
-unfolding firstOf opensWith field turnFrom badMapFor endAt turnAt cursorAfter recordCauses firstCursor countCauses headerCauses recordsCauses turnsFrom rows sheetCauses turnsOf tableOf readCauses readOf outsideRange pastShift turnCauses
+unfolding firstOf opensWith field turnFrom badMapFor endAt turnAt cursorAfter recordCauses firstCursor countCauses headerCauses recordsCauses turnsFrom rows garage causesFor sheetCauses turnsOf tableOf readCausesFor readFor readOf outsideRange pastShift turnCauses
 shift-read = refl
 
 shift-written : writeOf shiftCounts shiftTable (lent 40) ≡ record { refusal = 0; bytes = 39; lent = shift ++ lent 1 }
-unfolding firstOf writtenUnless opensWith field turnFrom badMapFor endAt turnAt cursorAfter recordCauses firstCursor countCauses headerCauses recordsCauses turnsFrom rows sheetCauses turnsOf tableOf readCauses readOf outsideRange pastShift turnCauses recordOf mapFor recordsOf sheetOf turnsOfTable turnsCauses tableCauses writeCauses writeOf
+unfolding firstOf writtenUnless opensWith field turnFrom badMapFor endAt turnAt cursorAfter recordCauses firstCursor countCauses headerCauses recordsCauses turnsFrom rows garage causesFor sheetCauses turnsOf tableOf readCausesFor readFor readOf outsideRange pastShift turnCauses recordOf mapFor recordsOf sheetOf turnsOfTable turnsCauses tableCauses writeCauses writeOf
 shift-written = refl
 
 shift-planned : planOf shift (lent 33) ≡ record { refusal = 0; bytes = 28; lent = shiftBoard ++ lent 5 }
-unfolding firstOf writtenUnless opensWith field turnFrom badMapFor endAt turnAt cursorAfter recordCauses firstCursor countCauses headerCauses recordsCauses turnsFrom rows sheetCauses turnsOf tableOf readCauses readOf outsideRange pastShift turnCauses turnsIn gap overlap bySlope byGroomer conflict every tab isOpen left initial reduced change afterStep afterSteps tally sooner better best pick nextStep plan steps chosen fits choose back fill goBack choice bitOf chosenIn choiceIn clearPast byteOf mapOf boardMap boardChoice stepsIn writtenSteps stepBytes boardOf badSizes malformed openOf stepsPart boardFor plannedBoard planCauses planOf
+unfolding firstOf writtenUnless opensWith field turnFrom badMapFor endAt turnAt cursorAfter recordCauses firstCursor countCauses headerCauses recordsCauses turnsFrom rows garage causesFor sheetCauses turnsOf tableOf readCausesFor readFor readOf outsideRange pastShift turnCauses problemOf sheetTurns overlapping overlap bySlope oneGroomer byGroomer conflict every tab isOpen left initial reduced change afterStep afterSteps tally sooner better best pick nextStep plan steps chosen fits choose back fill goBack choice bitOf chosenIn choiceIn clearPast byteOf mapOf boardMap boardChoice stepsIn writtenSteps stepBytes boardOf badSizes malformed openOf stepsPart boardFor plannedBoard planCauses planOf
 shift-planned = refl
 
 shift-stepped : afterStep shiftTurns (initial shiftTurns) (record { turn = 0; amount = 100 }) ≡ pos 0 ∷ pos 50 ∷ negsuc 19 ∷ pos 90 ∷ []
-unfolding turnsIn gap overlap bySlope byGroomer conflict every tab isOpen left initial reduced change afterStep afterSteps tally sooner better best pick nextStep plan steps chosen fits choose back fill goBack choice
+unfolding field turnFrom endAt turnAt cursorAfter firstCursor turnsFrom turnsOf problemOf sheetTurns overlapping overlap bySlope oneGroomer byGroomer conflict every tab isOpen left initial reduced change afterStep afterSteps tally sooner better best pick nextStep plan steps chosen fits choose back fill goBack choice
 shift-stepped = refl
 
 shift-gone-back : goBack shiftTurns (steps shiftTurns) ≡ false ∷ true ∷ false ∷ true ∷ []
-unfolding turnsIn gap overlap bySlope byGroomer conflict every tab isOpen left initial reduced change afterStep afterSteps tally sooner better best pick nextStep plan steps chosen fits choose back fill goBack choice
+unfolding field turnFrom endAt turnAt cursorAfter firstCursor turnsFrom turnsOf problemOf sheetTurns overlapping overlap bySlope oneGroomer byGroomer conflict every tab isOpen left initial reduced change afterStep afterSteps tally sooner better best pick nextStep plan steps chosen fits choose back fill goBack choice
 shift-gone-back = refl
 
 shift-filled : choice shiftTurns ≡ false ∷ true ∷ true ∷ true ∷ []
-unfolding turnsIn gap overlap bySlope byGroomer conflict every tab isOpen left initial reduced change afterStep afterSteps tally sooner better best pick nextStep plan steps chosen fits choose back fill goBack choice
+unfolding field turnFrom endAt turnAt cursorAfter firstCursor turnsFrom turnsOf problemOf sheetTurns overlapping overlap bySlope oneGroomer byGroomer conflict every tab isOpen left initial reduced change afterStep afterSteps tally sooner better best pick nextStep plan steps chosen fits choose back fill goBack choice
 shift-filled = refl
 
 shift-listed : listOf shift (lent 113) ≡ record { refusal = 0; bytes = 112; lent = shiftListing ++ lent 1 }
-unfolding firstOf writtenUnless opensWith field turnFrom badMapFor endAt turnAt cursorAfter recordCauses firstCursor countCauses headerCauses recordsCauses turnsFrom rows sheetCauses turnsOf tableOf outsideRange pastShift turnCauses turnsIn gap overlap bySlope byGroomer conflict every tab isOpen left initial reduced change afterStep afterSteps tally sooner better best pick nextStep plan steps chosen fits choose back fill goBack choice decimalIn decimal startsAt startsBelow roundFrom roundOf labelled twoLabelled headingOf lineOf linesOf groomerText groomersFrom sumsLine listingOf listingFor sheetListing listCauses listOf
+unfolding firstOf writtenUnless opensWith field turnFrom badMapFor endAt turnAt cursorAfter recordCauses firstCursor countCauses headerCauses recordsCauses turnsFrom rows garage causesFor sheetCauses turnsOf tableOf outsideRange pastShift turnCauses problemOf sheetTurns overlapping overlap bySlope oneGroomer byGroomer conflict every tab isOpen left initial reduced change afterStep afterSteps tally sooner better best pick nextStep plan steps chosen fits choose back fill goBack choice decimalIn decimal startsAt startsBelow roundFrom roundOf labelled twoLabelled headingOf lineOf linesOf groomerText groomersFrom sumsLine listingOf listingFor sheetListing listCauses listOf
 shift-listed = refl
 
 shift-opened : openOf shiftBoard ≡ 0
@@ -67,79 +69,79 @@ unfolding firstOf opensWith every tab bitOf chosenIn choiceIn clearPast byteOf m
 shift-steps = refl
 
 shift-checked : checkOf shift shiftBoard ≡ checked 0 240 320
-unfolding firstOf opensWith field turnFrom badMapFor endAt turnAt cursorAfter recordCauses firstCursor countCauses headerCauses recordsCauses turnsFrom rows sheetCauses turnsOf tableOf readCauses readOf outsideRange pastShift turnCauses turnsIn gap overlap bySlope byGroomer conflict every tab isOpen left initial reduced change afterStep afterSteps tally sooner better best pick nextStep plan steps chosen fits choose back fill goBack choice bitOf chosenIn choiceIn clearPast byteOf mapOf boardMap boardChoice stepsIn writtenSteps stepBytes boardOf badSizes malformed openOf stepsPart independent maximal noEarlier right allRight noneOpen sums choiceCauses stepCauses ruleCauses sumCauses boardCauses checkCauses checkOf
+unfolding firstOf opensWith field turnFrom badMapFor endAt turnAt cursorAfter recordCauses firstCursor countCauses headerCauses recordsCauses turnsFrom rows garage causesFor sheetCauses turnsOf tableOf readCausesFor readFor readOf outsideRange pastShift turnCauses problemOf sheetTurns overlapping overlap bySlope oneGroomer byGroomer conflict every tab isOpen left initial reduced change afterStep afterSteps tally sooner better best pick nextStep plan steps chosen fits choose back fill goBack choice bitOf chosenIn choiceIn clearPast byteOf mapOf boardMap boardChoice stepsIn writtenSteps stepBytes boardOf badSizes malformed openOf stepsPart independent maximal noEarlier right allRight noneOpen sums choiceCauses stepCauses ruleCauses sumCauses boardCauses checkCauses checkOf
 shift-checked = refl
 
-nothing-read : readOf [] (lent 3) ≡ outcome (refusedWith 1) (lent 3)
-unfolding firstOf opensWith field turnFrom badMapFor endAt turnAt cursorAfter recordCauses firstCursor countCauses headerCauses recordsCauses turnsFrom rows sheetCauses turnsOf tableOf readCauses readOf outsideRange pastShift turnCauses
+nothing-read : readOf [] (lent 3) ≡ outcome (readRefused 1) (lent 3)
+unfolding firstOf opensWith field turnFrom badMapFor endAt turnAt cursorAfter recordCauses firstCursor countCauses headerCauses recordsCauses turnsFrom rows garage causesFor sheetCauses turnsOf tableOf readCausesFor readFor readOf outsideRange pastShift turnCauses
 nothing-read = refl
 
 nothing-planned : planOf [] (lent 3) ≡ record { refusal = 1; bytes = 0; lent = lent 3 }
-unfolding firstOf writtenUnless opensWith field turnFrom badMapFor endAt turnAt cursorAfter recordCauses firstCursor countCauses headerCauses recordsCauses turnsFrom rows sheetCauses turnsOf tableOf readCauses readOf outsideRange pastShift turnCauses turnsIn gap overlap bySlope byGroomer conflict every tab isOpen left initial reduced change afterStep afterSteps tally sooner better best pick nextStep plan steps chosen fits choose back fill goBack choice bitOf chosenIn choiceIn clearPast byteOf mapOf boardMap boardChoice stepsIn writtenSteps stepBytes boardOf badSizes malformed openOf stepsPart boardFor plannedBoard planCauses planOf
+unfolding firstOf writtenUnless opensWith field turnFrom badMapFor endAt turnAt cursorAfter recordCauses firstCursor countCauses headerCauses recordsCauses turnsFrom rows garage causesFor sheetCauses turnsOf tableOf readCausesFor readFor readOf outsideRange pastShift turnCauses problemOf sheetTurns overlapping overlap bySlope oneGroomer byGroomer conflict every tab isOpen left initial reduced change afterStep afterSteps tally sooner better best pick nextStep plan steps chosen fits choose back fill goBack choice bitOf chosenIn choiceIn clearPast byteOf mapOf boardMap boardChoice stepsIn writtenSteps stepBytes boardOf badSizes malformed openOf stepsPart boardFor plannedBoard planCauses planOf
 nothing-planned = refl
 
 nothing-checked : checkOf [] shiftBoard ≡ checked 1 0 0
-unfolding firstOf opensWith field turnFrom badMapFor endAt turnAt cursorAfter recordCauses firstCursor countCauses headerCauses recordsCauses turnsFrom rows sheetCauses turnsOf tableOf readCauses readOf outsideRange pastShift turnCauses turnsIn gap overlap bySlope byGroomer conflict every tab isOpen left initial reduced change afterStep afterSteps tally sooner better best pick nextStep plan steps chosen fits choose back fill goBack choice bitOf chosenIn choiceIn clearPast byteOf mapOf boardMap boardChoice stepsIn writtenSteps stepBytes boardOf badSizes malformed openOf stepsPart independent maximal noEarlier right allRight noneOpen sums choiceCauses stepCauses ruleCauses sumCauses boardCauses checkCauses checkOf
+unfolding firstOf opensWith field turnFrom badMapFor endAt turnAt cursorAfter recordCauses firstCursor countCauses headerCauses recordsCauses turnsFrom rows garage causesFor sheetCauses turnsOf tableOf readCausesFor readFor readOf outsideRange pastShift turnCauses problemOf sheetTurns overlapping overlap bySlope oneGroomer byGroomer conflict every tab isOpen left initial reduced change afterStep afterSteps tally sooner better best pick nextStep plan steps chosen fits choose back fill goBack choice bitOf chosenIn choiceIn clearPast byteOf mapOf boardMap boardChoice stepsIn writtenSteps stepBytes boardOf badSizes malformed openOf stepsPart independent maximal noEarlier right allRight noneOpen sums choiceCauses stepCauses ruleCauses sumCauses boardCauses checkCauses checkOf
 nothing-checked = refl
 
 empty-read : readOf (header 0 0) [] ≡ outcome (record { refusal = 0; groomers = 2; slopes = 3; turns = 0 }) []
-unfolding firstOf opensWith field turnFrom badMapFor endAt turnAt cursorAfter recordCauses firstCursor countCauses headerCauses recordsCauses turnsFrom rows sheetCauses turnsOf tableOf readCauses readOf outsideRange pastShift turnCauses
+unfolding firstOf opensWith field turnFrom badMapFor endAt turnAt cursorAfter recordCauses firstCursor countCauses headerCauses recordsCauses turnsFrom rows garage causesFor sheetCauses turnsOf tableOf readCausesFor readFor readOf outsideRange pastShift turnCauses
 empty-read = refl
 
 empty-planned : planOf (header 0 0) (lent 16) ≡ record { refusal = 0; bytes = 15; lent = emptyBoard ++ lent 1 }
-unfolding firstOf writtenUnless opensWith field turnFrom badMapFor endAt turnAt cursorAfter recordCauses firstCursor countCauses headerCauses recordsCauses turnsFrom rows sheetCauses turnsOf tableOf readCauses readOf outsideRange pastShift turnCauses turnsIn gap overlap bySlope byGroomer conflict every tab isOpen left initial reduced change afterStep afterSteps tally sooner better best pick nextStep plan steps chosen fits choose back fill goBack choice bitOf chosenIn choiceIn clearPast byteOf mapOf boardMap boardChoice stepsIn writtenSteps stepBytes boardOf badSizes malformed openOf stepsPart boardFor plannedBoard planCauses planOf
+unfolding firstOf writtenUnless opensWith field turnFrom badMapFor endAt turnAt cursorAfter recordCauses firstCursor countCauses headerCauses recordsCauses turnsFrom rows garage causesFor sheetCauses turnsOf tableOf readCausesFor readFor readOf outsideRange pastShift turnCauses problemOf sheetTurns overlapping overlap bySlope oneGroomer byGroomer conflict every tab isOpen left initial reduced change afterStep afterSteps tally sooner better best pick nextStep plan steps chosen fits choose back fill goBack choice bitOf chosenIn choiceIn clearPast byteOf mapOf boardMap boardChoice stepsIn writtenSteps stepBytes boardOf badSizes malformed openOf stepsPart boardFor plannedBoard planCauses planOf
 empty-planned = refl
 
 empty-checked : checkOf (header 0 0) emptyBoard ≡ checked 0 0 0
-unfolding firstOf opensWith field turnFrom badMapFor endAt turnAt cursorAfter recordCauses firstCursor countCauses headerCauses recordsCauses turnsFrom rows sheetCauses turnsOf tableOf readCauses readOf outsideRange pastShift turnCauses turnsIn gap overlap bySlope byGroomer conflict every tab isOpen left initial reduced change afterStep afterSteps tally sooner better best pick nextStep plan steps chosen fits choose back fill goBack choice bitOf chosenIn choiceIn clearPast byteOf mapOf boardMap boardChoice stepsIn writtenSteps stepBytes boardOf badSizes malformed openOf stepsPart independent maximal noEarlier right allRight noneOpen sums choiceCauses stepCauses ruleCauses sumCauses boardCauses checkCauses checkOf
+unfolding firstOf opensWith field turnFrom badMapFor endAt turnAt cursorAfter recordCauses firstCursor countCauses headerCauses recordsCauses turnsFrom rows garage causesFor sheetCauses turnsOf tableOf readCausesFor readFor readOf outsideRange pastShift turnCauses problemOf sheetTurns overlapping overlap bySlope oneGroomer byGroomer conflict every tab isOpen left initial reduced change afterStep afterSteps tally sooner better best pick nextStep plan steps chosen fits choose back fill goBack choice bitOf chosenIn choiceIn clearPast byteOf mapOf boardMap boardChoice stepsIn writtenSteps stepBytes boardOf badSizes malformed openOf stepsPart independent maximal noEarlier right allRight noneOpen sums choiceCauses stepCauses ruleCauses sumCauses boardCauses checkCauses checkOf
 empty-checked = refl
 
-most-read : readOf (header 1 0x90) [] ≡ outcome (refusedWith 1) []
-unfolding firstOf opensWith field turnFrom badMapFor endAt turnAt cursorAfter recordCauses firstCursor countCauses headerCauses recordsCauses turnsFrom rows sheetCauses turnsOf tableOf readCauses readOf outsideRange pastShift turnCauses
+most-read : readOf (header 1 0x90) [] ≡ outcome (readRefused 1) []
+unfolding firstOf opensWith field turnFrom badMapFor endAt turnAt cursorAfter recordCauses firstCursor countCauses headerCauses recordsCauses turnsFrom rows garage causesFor sheetCauses turnsOf tableOf readCausesFor readFor readOf outsideRange pastShift turnCauses
 most-read = refl
 
 most-planned : planOf (header 1 0x90) [] ≡ record { refusal = 1; bytes = 0; lent = [] }
-unfolding firstOf writtenUnless opensWith field turnFrom badMapFor endAt turnAt cursorAfter recordCauses firstCursor countCauses headerCauses recordsCauses turnsFrom rows sheetCauses turnsOf tableOf readCauses readOf outsideRange pastShift turnCauses turnsIn gap overlap bySlope byGroomer conflict every tab isOpen left initial reduced change afterStep afterSteps tally sooner better best pick nextStep plan steps chosen fits choose back fill goBack choice bitOf chosenIn choiceIn clearPast byteOf mapOf boardMap boardChoice stepsIn writtenSteps stepBytes boardOf badSizes malformed openOf stepsPart boardFor plannedBoard planCauses planOf
+unfolding firstOf writtenUnless opensWith field turnFrom badMapFor endAt turnAt cursorAfter recordCauses firstCursor countCauses headerCauses recordsCauses turnsFrom rows garage causesFor sheetCauses turnsOf tableOf readCausesFor readFor readOf outsideRange pastShift turnCauses problemOf sheetTurns overlapping overlap bySlope oneGroomer byGroomer conflict every tab isOpen left initial reduced change afterStep afterSteps tally sooner better best pick nextStep plan steps chosen fits choose back fill goBack choice bitOf chosenIn choiceIn clearPast byteOf mapOf boardMap boardChoice stepsIn writtenSteps stepBytes boardOf badSizes malformed openOf stepsPart boardFor plannedBoard planCauses planOf
 most-planned = refl
 
 most-checked : checkOf (header 1 0x90) emptyBoard ≡ checked 1 0 0
-unfolding firstOf opensWith field turnFrom badMapFor endAt turnAt cursorAfter recordCauses firstCursor countCauses headerCauses recordsCauses turnsFrom rows sheetCauses turnsOf tableOf readCauses readOf outsideRange pastShift turnCauses turnsIn gap overlap bySlope byGroomer conflict every tab isOpen left initial reduced change afterStep afterSteps tally sooner better best pick nextStep plan steps chosen fits choose back fill goBack choice bitOf chosenIn choiceIn clearPast byteOf mapOf boardMap boardChoice stepsIn writtenSteps stepBytes boardOf badSizes malformed openOf stepsPart independent maximal noEarlier right allRight noneOpen sums choiceCauses stepCauses ruleCauses sumCauses boardCauses checkCauses checkOf
+unfolding firstOf opensWith field turnFrom badMapFor endAt turnAt cursorAfter recordCauses firstCursor countCauses headerCauses recordsCauses turnsFrom rows garage causesFor sheetCauses turnsOf tableOf readCausesFor readFor readOf outsideRange pastShift turnCauses problemOf sheetTurns overlapping overlap bySlope oneGroomer byGroomer conflict every tab isOpen left initial reduced change afterStep afterSteps tally sooner better best pick nextStep plan steps chosen fits choose back fill goBack choice bitOf chosenIn choiceIn clearPast byteOf mapOf boardMap boardChoice stepsIn writtenSteps stepBytes boardOf badSizes malformed openOf stepsPart independent maximal noEarlier right allRight noneOpen sums choiceCauses stepCauses ruleCauses sumCauses boardCauses checkCauses checkOf
 most-checked = refl
 
-many-read : readOf (header 1 0x91) [] ≡ outcome (refusedWith 4) []
-unfolding firstOf opensWith field turnFrom badMapFor endAt turnAt cursorAfter recordCauses firstCursor countCauses headerCauses recordsCauses turnsFrom rows sheetCauses turnsOf tableOf readCauses readOf outsideRange pastShift turnCauses
+many-read : readOf (header 1 0x91) [] ≡ outcome (readRefused 4) []
+unfolding firstOf opensWith field turnFrom badMapFor endAt turnAt cursorAfter recordCauses firstCursor countCauses headerCauses recordsCauses turnsFrom rows garage causesFor sheetCauses turnsOf tableOf readCausesFor readFor readOf outsideRange pastShift turnCauses
 many-read = refl
 
 many-planned : planOf (header 1 0x91) [] ≡ record { refusal = 4; bytes = 0; lent = [] }
-unfolding firstOf writtenUnless opensWith field turnFrom badMapFor endAt turnAt cursorAfter recordCauses firstCursor countCauses headerCauses recordsCauses turnsFrom rows sheetCauses turnsOf tableOf readCauses readOf outsideRange pastShift turnCauses turnsIn gap overlap bySlope byGroomer conflict every tab isOpen left initial reduced change afterStep afterSteps tally sooner better best pick nextStep plan steps chosen fits choose back fill goBack choice bitOf chosenIn choiceIn clearPast byteOf mapOf boardMap boardChoice stepsIn writtenSteps stepBytes boardOf badSizes malformed openOf stepsPart boardFor plannedBoard planCauses planOf
+unfolding firstOf writtenUnless opensWith field turnFrom badMapFor endAt turnAt cursorAfter recordCauses firstCursor countCauses headerCauses recordsCauses turnsFrom rows garage causesFor sheetCauses turnsOf tableOf readCausesFor readFor readOf outsideRange pastShift turnCauses problemOf sheetTurns overlapping overlap bySlope oneGroomer byGroomer conflict every tab isOpen left initial reduced change afterStep afterSteps tally sooner better best pick nextStep plan steps chosen fits choose back fill goBack choice bitOf chosenIn choiceIn clearPast byteOf mapOf boardMap boardChoice stepsIn writtenSteps stepBytes boardOf badSizes malformed openOf stepsPart boardFor plannedBoard planCauses planOf
 many-planned = refl
 
 many-checked : checkOf (header 1 0x91) emptyBoard ≡ checked 4 0 0
-unfolding firstOf opensWith field turnFrom badMapFor endAt turnAt cursorAfter recordCauses firstCursor countCauses headerCauses recordsCauses turnsFrom rows sheetCauses turnsOf tableOf readCauses readOf outsideRange pastShift turnCauses turnsIn gap overlap bySlope byGroomer conflict every tab isOpen left initial reduced change afterStep afterSteps tally sooner better best pick nextStep plan steps chosen fits choose back fill goBack choice bitOf chosenIn choiceIn clearPast byteOf mapOf boardMap boardChoice stepsIn writtenSteps stepBytes boardOf badSizes malformed openOf stepsPart independent maximal noEarlier right allRight noneOpen sums choiceCauses stepCauses ruleCauses sumCauses boardCauses checkCauses checkOf
+unfolding firstOf opensWith field turnFrom badMapFor endAt turnAt cursorAfter recordCauses firstCursor countCauses headerCauses recordsCauses turnsFrom rows garage causesFor sheetCauses turnsOf tableOf readCausesFor readFor readOf outsideRange pastShift turnCauses problemOf sheetTurns overlapping overlap bySlope oneGroomer byGroomer conflict every tab isOpen left initial reduced change afterStep afterSteps tally sooner better best pick nextStep plan steps chosen fits choose back fill goBack choice bitOf chosenIn choiceIn clearPast byteOf mapOf boardMap boardChoice stepsIn writtenSteps stepBytes boardOf badSizes malformed openOf stepsPart independent maximal noEarlier right allRight noneOpen sums choiceCauses stepCauses ruleCauses sumCauses boardCauses checkCauses checkOf
 many-checked = refl
 
 end-read : readOf (lateTurn 60 0 1) (lent 5) ≡ outcome (record { refusal = 0; groomers = 1; slopes = 1; turns = 1 }) (1 ∷ 1 ∷ 900 ∷ 60 ∷ 1 ∷ [])
-unfolding firstOf opensWith field turnFrom badMapFor endAt turnAt cursorAfter recordCauses firstCursor countCauses headerCauses recordsCauses turnsFrom rows sheetCauses turnsOf tableOf readCauses readOf outsideRange pastShift turnCauses
+unfolding firstOf opensWith field turnFrom badMapFor endAt turnAt cursorAfter recordCauses firstCursor countCauses headerCauses recordsCauses turnsFrom rows garage causesFor sheetCauses turnsOf tableOf readCausesFor readFor readOf outsideRange pastShift turnCauses
 end-read = refl
 
-late-read : readOf (lateTurn 61 0 1) (lent 5) ≡ outcome (refusedWith 8) (lent 5)
-unfolding firstOf opensWith field turnFrom badMapFor endAt turnAt cursorAfter recordCauses firstCursor countCauses headerCauses recordsCauses turnsFrom rows sheetCauses turnsOf tableOf readCauses readOf outsideRange pastShift turnCauses
+late-read : readOf (lateTurn 61 0 1) (lent 5) ≡ outcome (readRefused 8) (lent 5)
+unfolding firstOf opensWith field turnFrom badMapFor endAt turnAt cursorAfter recordCauses firstCursor countCauses headerCauses recordsCauses turnsFrom rows garage causesFor sheetCauses turnsOf tableOf readCausesFor readFor readOf outsideRange pastShift turnCauses
 late-read = refl
 
 worth-read : readOf (lateTurn 60 0xEA 0x60) (lent 5) ≡ outcome (record { refusal = 0; groomers = 1; slopes = 1; turns = 1 }) (1 ∷ 1 ∷ 900 ∷ 60 ∷ 60000 ∷ [])
-unfolding firstOf opensWith field turnFrom badMapFor endAt turnAt cursorAfter recordCauses firstCursor countCauses headerCauses recordsCauses turnsFrom rows sheetCauses turnsOf tableOf readCauses readOf outsideRange pastShift turnCauses
+unfolding firstOf opensWith field turnFrom badMapFor endAt turnAt cursorAfter recordCauses firstCursor countCauses headerCauses recordsCauses turnsFrom rows garage causesFor sheetCauses turnsOf tableOf readCausesFor readFor readOf outsideRange pastShift turnCauses
 worth-read = refl
 
-dear-read : readOf (lateTurn 60 0xEA 0x61) (lent 5) ≡ outcome (refusedWith 9) (lent 5)
-unfolding firstOf opensWith field turnFrom badMapFor endAt turnAt cursorAfter recordCauses firstCursor countCauses headerCauses recordsCauses turnsFrom rows sheetCauses turnsOf tableOf readCauses readOf outsideRange pastShift turnCauses
+dear-read : readOf (lateTurn 60 0xEA 0x61) (lent 5) ≡ outcome (readRefused 9) (lent 5)
+unfolding firstOf opensWith field turnFrom badMapFor endAt turnAt cursorAfter recordCauses firstCursor countCauses headerCauses recordsCauses turnsFrom rows garage causesFor sheetCauses turnsOf tableOf readCausesFor readFor readOf outsideRange pastShift turnCauses
 dear-read = refl
 
 wrong-worth : checkOf shift wrongWorth ≡ checked 17 0 0
-unfolding firstOf opensWith field turnFrom badMapFor endAt turnAt cursorAfter recordCauses firstCursor countCauses headerCauses recordsCauses turnsFrom rows sheetCauses turnsOf tableOf readCauses readOf outsideRange pastShift turnCauses turnsIn gap overlap bySlope byGroomer conflict every tab isOpen left initial reduced change afterStep afterSteps tally sooner better best pick nextStep plan steps chosen fits choose back fill goBack choice bitOf chosenIn choiceIn clearPast byteOf mapOf boardMap boardChoice stepsIn writtenSteps stepBytes boardOf badSizes malformed openOf stepsPart independent maximal noEarlier right allRight noneOpen sums choiceCauses stepCauses ruleCauses sumCauses boardCauses checkCauses checkOf
+unfolding firstOf opensWith field turnFrom badMapFor endAt turnAt cursorAfter recordCauses firstCursor countCauses headerCauses recordsCauses turnsFrom rows garage causesFor sheetCauses turnsOf tableOf readCausesFor readFor readOf outsideRange pastShift turnCauses problemOf sheetTurns overlapping overlap bySlope oneGroomer byGroomer conflict every tab isOpen left initial reduced change afterStep afterSteps tally sooner better best pick nextStep plan steps chosen fits choose back fill goBack choice bitOf chosenIn choiceIn clearPast byteOf mapOf boardMap boardChoice stepsIn writtenSteps stepBytes boardOf badSizes malformed openOf stepsPart independent maximal noEarlier right allRight noneOpen sums choiceCauses stepCauses ruleCauses sumCauses boardCauses checkCauses checkOf
 wrong-worth = refl
 
 leaves-room : checkOf shift leavesRoom ≡ checked 14 0 0
-unfolding firstOf opensWith field turnFrom badMapFor endAt turnAt cursorAfter recordCauses firstCursor countCauses headerCauses recordsCauses turnsFrom rows sheetCauses turnsOf tableOf readCauses readOf outsideRange pastShift turnCauses turnsIn gap overlap bySlope byGroomer conflict every tab isOpen left initial reduced change afterStep afterSteps tally sooner better best pick nextStep plan steps chosen fits choose back fill goBack choice bitOf chosenIn choiceIn clearPast byteOf mapOf boardMap boardChoice stepsIn writtenSteps stepBytes boardOf badSizes malformed openOf stepsPart independent maximal noEarlier right allRight noneOpen sums choiceCauses stepCauses ruleCauses sumCauses boardCauses checkCauses checkOf
+unfolding firstOf opensWith field turnFrom badMapFor endAt turnAt cursorAfter recordCauses firstCursor countCauses headerCauses recordsCauses turnsFrom rows garage causesFor sheetCauses turnsOf tableOf readCausesFor readFor readOf outsideRange pastShift turnCauses problemOf sheetTurns overlapping overlap bySlope oneGroomer byGroomer conflict every tab isOpen left initial reduced change afterStep afterSteps tally sooner better best pick nextStep plan steps chosen fits choose back fill goBack choice bitOf chosenIn choiceIn clearPast byteOf mapOf boardMap boardChoice stepsIn writtenSteps stepBytes boardOf badSizes malformed openOf stepsPart independent maximal noEarlier right allRight noneOpen sums choiceCauses stepCauses ruleCauses sumCauses boardCauses checkCauses checkOf
 leaves-room = refl
 
 pub worked-cases : WorkedCases

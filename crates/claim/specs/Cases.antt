@@ -5,12 +5,13 @@ use mathlib.Core.List.{List, [], _∷_, _++_}
 use mathlib.Core.Bool.{true, false}
 use lib.ListN.{replicate}
 use lib.IntN.{pos, negsuc}
-use Rattle.model.specs.Turns.{Turns, turnsIn}
+use Rattle.model.specs.Turns.{Turns}
 use Rattle.model.specs.Steps.{initial, afterStep}
 use Rattle.model.specs.Pick.{steps}
 use Rattle.model.specs.Choice.{goBack, choice}
 use Rattle.turns.specs.declared.Counts.{Counts}
-use Rattle.sheet.specs.Read.{readOf, outcome, refusedWith}
+use Rattle.sheet.specs.Read.{readOf, outcome, readRefused}
+use Rattle.problem.specs.Problem.{sheetTurns}
 use Rattle.writer.specs.Write.{writeOf}
 use Rattle.board.specs.Open.{openOf, stepsPart}
 use Rattle.audit.specs.Check.{checkOf, checked}
@@ -24,7 +25,7 @@ lent n = replicate n 9
 
 -- the shift's four turns
 abbrev pub shiftTurns : Turns
-shiftTurns = turnsIn 4 shiftTable
+shiftTurns = sheetTurns shift
 
 -- the shift's two groomers and three slopes
 abbrev pub shiftCounts : Counts
@@ -45,7 +46,7 @@ pub record WorkedCases : Type 0 where
   pub shift-filled : choice shiftTurns ≡ false ∷ true ∷ true ∷ true ∷ []
   pub shift-listed : listOf shift (lent 113) ≡ record { refusal = 0; bytes = 112; lent = shiftListing ++ lent 1 }
   -- no bytes
-  pub nothing-read : readOf [] (lent 3) ≡ outcome (refusedWith 1) (lent 3)
+  pub nothing-read : readOf [] (lent 3) ≡ outcome (readRefused 1) (lent 3)
   pub nothing-planned : planOf [] (lent 3) ≡ record { refusal = 1; bytes = 0; lent = lent 3 }
   pub nothing-checked : checkOf [] shiftBoard ≡ checked 1 0 0
   -- no turns
@@ -53,17 +54,17 @@ pub record WorkedCases : Type 0 where
   pub empty-planned : planOf (header 0 0) (lent 16) ≡ record { refusal = 0; bytes = 15; lent = emptyBoard ++ lent 1 }
   pub empty-checked : checkOf (header 0 0) emptyBoard ≡ checked 0 0 0
   -- a header of 400 turns and no record, and one of 401
-  pub most-read : readOf (header 1 0x90) [] ≡ outcome (refusedWith 1) []
+  pub most-read : readOf (header 1 0x90) [] ≡ outcome (readRefused 1) []
   pub most-planned : planOf (header 1 0x90) [] ≡ record { refusal = 1; bytes = 0; lent = [] }
   pub most-checked : checkOf (header 1 0x90) emptyBoard ≡ checked 1 0 0
-  pub many-read : readOf (header 1 0x91) [] ≡ outcome (refusedWith 4) []
+  pub many-read : readOf (header 1 0x91) [] ≡ outcome (readRefused 4) []
   pub many-planned : planOf (header 1 0x91) [] ≡ record { refusal = 4; bytes = 0; lent = [] }
   pub many-checked : checkOf (header 1 0x91) emptyBoard ≡ checked 4 0 0
   -- an end at minute 960, and one minute later; worth 60,000, and one more
   pub end-read : readOf (lateTurn 60 0 1) (lent 5) ≡ outcome (record { refusal = 0; groomers = 1; slopes = 1; turns = 1 }) (1 ∷ 1 ∷ 900 ∷ 60 ∷ 1 ∷ [])
-  pub late-read : readOf (lateTurn 61 0 1) (lent 5) ≡ outcome (refusedWith 8) (lent 5)
+  pub late-read : readOf (lateTurn 61 0 1) (lent 5) ≡ outcome (readRefused 8) (lent 5)
   pub worth-read : readOf (lateTurn 60 0xEA 0x60) (lent 5) ≡ outcome (record { refusal = 0; groomers = 1; slopes = 1; turns = 1 }) (1 ∷ 1 ∷ 900 ∷ 60 ∷ 60000 ∷ [])
-  pub dear-read : readOf (lateTurn 60 0xEA 0x61) (lent 5) ≡ outcome (refusedWith 9) (lent 5)
+  pub dear-read : readOf (lateTurn 60 0xEA 0x61) (lent 5) ≡ outcome (readRefused 9) (lent 5)
   -- other choices with the shift's steps
   pub wrong-worth : checkOf shift wrongWorth ≡ checked 17 0 0
   pub leaves-room : checkOf shift leavesRoom ≡ checked 14 0 0

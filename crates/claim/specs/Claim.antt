@@ -12,7 +12,8 @@ use Rattle.model.specs.IntervalSelection.{Selects}
 use Rattle.sheet.specs.Read.{countsIn, turnCount, turnsOf}
 use Rattle.sheet.specs.Accepted.{Accepted}
 use Rattle.board.specs.Board.{boardTally, boardWorth, boardChoice, writtenSteps}
-use Rattle.audit.specs.Check.{sheetTurns, Passes, BoardKeeps, checkOf, checked}
+use Rattle.problem.specs.Problem.{sheetTurns}
+use Rattle.audit.specs.Check.{Passes, BoardKeeps, checkOf, checked}
 use Rattle.planner.specs.Plan.{plannedBoard, planOf}
 
 -- what is read of s, and so what every set of its turns is made of, is what the reading a in words has

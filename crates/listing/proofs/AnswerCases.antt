@@ -15,22 +15,26 @@ use Rattle.wire.specs.Number.{puts}
 use Rattle.wire.proofs.Puts.{puts-front, puts-length}
 use lib.Seq.{take-at}
 use Rattle.text.specs.Place.{lastPlace}
-use Rattle.model.specs.Turns.{Turns, turnsIn, RowsBounded, PositiveLengths}
+use Rattle.model.specs.Turns.{Turns, PositiveLengths}
 use Rattle.model.specs.Choice.{choice}
 use Rattle.model.proofs.Promised.{planned-keeps}
 use Rattle.sheet.specs.declared.reader.ReadAnswer.{ReadAnswer}
-use Rattle.sheet.specs.Read.{countsIn, tableOf, sheetCauses, answerOf}
+use Rattle.sheet.specs.Kind.{mostTurns}
+use Rattle.sheet.specs.Read.{countsIn, turnCount, sheetCauses, answerOf}
 use Rattle.sheet.proofs.Readings.{sheet-numbered}
-use Rattle.sheet.proofs.Whole.{whole-refusal, whole-accepted, whole-answer, whole-few}
+use Rattle.sheet.proofs.Whole.{whole-refusal, whole-accepted, whole-answer, whole-turns}
 use Rattle.board.specs.Choice.{choiceIn, Clean}
 use Rattle.board.specs.Board.{boardHeader, boardTurns, boardTally, boardWorth, boardMap, boardChoice, boardLength}
 use Rattle.board.specs.Open.{malformed}
 use Rattle.board.proofs.Openings.{formed-header}
 use Rattle.board.proofs.OpenCauses.{formed-clean}
-use Rattle.rows.proofs.Turns.{count-is}
+use Rattle.problem.specs.declared.columns.Size.{Size}
+use Rattle.problem.specs.Columns.{turnsBy, Held}
+use Rattle.problem.specs.Problem.{sheetTurns}
+use Rattle.problem.specs.Load.{shiftSize, Posed}
+use Rattle.problem.proofs.Rows.{count-is, lengths-are}
 use Rattle.planner.specs.Plan.{boardFor}
 use Rattle.planner.proofs.Boards.{board-bytes, board-most, ReadsBack, board-back}
-use Rattle.planner.proofs.Answers.{plan-ample, plan-rows, plan-bounded, plan-turns}
 use Rattle.listing.specs.Text.{listingOf}
 use Rattle.listing.specs.Ready.{Ready}
 use Rattle.listing.specs.Limits.{listingBytes}
@@ -85,15 +89,15 @@ pub ruleset text-cases = (text-small, counted, copy-holds, copy-part, copy-fits,
 
 -- ---- the planner's board
 
-module _ (n : ℕ) (table b : List ℕ) (e : b ≡ boardFor (turnsIn n table)) (few : n ≤ 400) (bounded : RowsBounded n table) where
+module _ (size : Size) (cols b : List ℕ) (e : b ≡ boardFor (turnsBy size cols)) (held : Held size cols) where
   abbrev T : Turns
-  T = turnsIn n table
+  T = turnsBy size cols
 
   back : ReadsBack T b
-  back = rw e (board-back T (omega (arith, count-is n table)) (λ t h. bounded .worths t (omega (arith, count-is n table))))
+  back = rw e (board-back T (omega (arith, count-is size cols, held .few)) (λ t h. held .worths t (omega (arith, count-is size cols))))
 
   lengths : PositiveLengths T
-  lengths t h = bounded .starts t (omega (arith, count-is n table))
+  lengths = lengths-are size cols held
 
   pub board-opens : malformed b ≡ false
   board-opens = back .opens
@@ -101,50 +105,54 @@ module _ (n : ℕ) (table b : List ℕ) (e : b ≡ boardFor (turnsIn n table)) (
   pub board-header : boardHeader ≤ length b
   board-header = formed-header b board-opens
 
-  turns-are : boardTurns b ≡ n
-  turns-are = back .turns ∙ count-is n table
+  turns-are : boardTurns b ≡ size .count
+  turns-are = back .turns ∙ count-is size cols
 
   module _ {map : List ℕ} (q : map ≡ boardMap b) where
-    choice-is : choiceIn n map ≡ choice T
+    choice-is : choiceIn (size .count) map ≡ choice T
     unfolding boardChoice
     choice-is = rw q (ap (λ k. choiceIn k (boardMap b)) (sym turns-are) ∙ back .chosen-turns)
 
-    map-clean : Clean n map
+    map-clean : Clean (size .count) map
     map-clean = rw q (rw turns-are at (formed-clean b board-opens (rw e (board-bytes T))))
 
-    pub board-ready : 5 * n ≤ length table → Ready n table map
-    board-ready rows = record { few = few; rows = rows; bounded = bounded; clean = map-clean; apart = rw choice-is (apart-starts T (choice T) (planned-keeps T lengths .apart) lengths) }
+    pub board-ready : Ready size cols map
+    board-ready = record { held = held; clean = map-clean; apart = rw choice-is (apart-starts T (choice T) (planned-keeps T lengths .apart) lengths) }
 
     module _ (groomers : ℕ) {tallied worth : ℕ} (t : tallied ≡ boardTally b) (w : worth ≡ boardWorth b) where
-      listing-is : listingOf groomers T (choiceIn n map) worth tallied ≡ listingFor groomers T
+      listing-is : listingOf groomers T (choiceIn (size .count) map) worth tallied ≡ listingFor groomers T
       unfolding listingFor
       listing-is = rw (choice-is, t, w, back .tallied, back .worth)
 
-      pub listing-fits : length (listingFor groomers T) ≤ listingBytes → length (listingOf groomers T (choiceIn n map) worth tallied) ≤ listingBytes
+      pub listing-fits : length (listingFor groomers T) ≤ listingBytes → length (listingOf groomers T (choiceIn (size .count) map) worth tallied) ≤ listingBytes
       listing-fits g = rw listing-is g
 
-      pub listing-answer : {x : Written} (lent : List ℕ) → x ≡ textAnswer (listingOf groomers T (choiceIn n map) worth tallied) lent → x ≡ textAnswer (listingFor groomers T) lent
+      pub listing-answer : {x : Written} (lent : List ℕ) → x ≡ textAnswer (listingOf groomers T (choiceIn (size .count) map) worth tallied) lent → x ≡ textAnswer (listingFor groomers T) lent
       listing-answer lent g = rw listing-is at g
 
 pub ruleset board-cases = (board-opens, board-header, board-ready, listing-fits, listing-answer)
 
 -- ---- planned into a place of its own
 
-pub space-fits : (n : ℕ) → n ≤ 400 → boardLength n n ≤ 1665
-space-fits n h = omega arith
+-- a board of as many turns and steps as a sheet can have
+abbrev mostBoard : ℕ
+mostBoard = boardLength mostTurns mostTurns
 
-module _ (n : ℕ) (table space : List ℕ) (few : n ≤ 400) (room : 1665 ≤ length space) {bytes : ℕ} {b : List ℕ} (e : bytes ≡ length (boardFor (turnsIn n table))) (f : b ≡ puts space 0 (boardFor (turnsIn n table))) where
-  board-held : length (boardFor (turnsIn n table)) ≤ length space
-  board-held = omega (arith, board-most (turnsIn n table), count-is n table, space-fits n few)
+pub space-fits : (size : Size) (cols : List ℕ) → Held size cols → boardLength (size .count) (size .count) ≤ mostBoard
+space-fits size cols held = omega (arith, held .few)
+
+module _ (size : Size) (cols space : List ℕ) (held : Held size cols) (room : mostBoard ≤ length space) {bytes : ℕ} {b : List ℕ} (e : bytes ≡ length (boardFor (turnsBy size cols))) (f : b ≡ puts space 0 (boardFor (turnsBy size cols))) where
+  board-held : length (boardFor (turnsBy size cols)) ≤ length space
+  board-held = omega (arith, board-most (turnsBy size cols), count-is size cols, space-fits size cols held)
 
   pub space-holds : bytes ≤ length b
-  space-holds = front-holds (boardFor (turnsIn n table)) space board-held e f
+  space-holds = front-holds (boardFor (turnsBy size cols)) space board-held e f
 
-  pub space-front : take bytes b ≡ boardFor (turnsIn n table)
-  space-front = front-is (boardFor (turnsIn n table)) space board-held e f
+  pub space-front : take bytes b ≡ boardFor (turnsBy size cols)
+  space-front = front-is (boardFor (turnsBy size cols)) space board-held e f
 
   pub space-part : bytes ≡ length (take bytes b)
-  space-part = front-part (boardFor (turnsIn n table)) space board-held e f
+  space-part = front-part (boardFor (turnsBy size cols)) space board-held e f
 
 pub ruleset space-cases = (space-fits, space-holds, space-front, space-part)
 
@@ -162,28 +170,24 @@ module _ (s lent : List ℕ) {r : ReadAnswer} (e : r ≡ answerOf s) where
   unfolding listOf listCauses
   list-fault f g = rw g (sym (kept-before (sheetCauses s) _ _ lent (r .refusal) (sym (whole-refusal s e)) f))
 
-  module _ (f : r .refusal ≡ 0) where
-    pub list-few : r .turns ≤ 400
-    list-few = whole-few s e f
-
+  module _ (f : r .refusal ≡ 0) (cols : List ℕ) {p : Size} (w : r .refusal ≡ 0 → Posed s cols) (q : p ≡ shiftSize (r .turns)) where
     groomers-are : r .groomers ≡ countsIn s .groomers
     groomers-are = ap (λ (a : ReadAnswer). a .groomers) (whole-answer s e f)
 
-    module _ {t table : List ℕ} (w : r .refusal ≡ 0 → t ≡ tableOf s ++ drop (length (tableOf s)) table) (z : table ≡ replicate 2000 0) where
-      pub list-rows : 5 * r .turns ≤ length t
-      list-rows = plan-rows s [] e f w z
+    pub list-held : Held p cols
+    list-held = rw (q, whole-turns s e f) (w f .held)
 
-      pub list-bounded : RowsBounded (r .turns) t
-      list-bounded = plan-bounded s [] e f w z
+    posed-turns : turnsBy p cols ≡ sheetTurns s
+    posed-turns = rw (q, whole-turns s e f) (w f .turns)
 
-      listing-same : listingFor (r .groomers) (turnsIn (r .turns) t) ≡ sheetListing s
-      unfolding sheetListing
-      listing-same = rw (plan-turns s [] e f w z, groomers-are)
+    listing-same : listingFor (r .groomers) (turnsBy p cols) ≡ sheetListing s
+    unfolding sheetListing
+    listing-same = rw (posed-turns, groomers-are)
 
-      pub list-short : length (listingFor (r .groomers) (turnsIn (r .turns) t)) ≤ listingBytes
-      list-short = rw listing-same (listing-bytes s (whole-accepted s e f))
+    pub list-short : length (listingFor (r .groomers) (turnsBy p cols)) ≤ listingBytes
+    list-short = rw listing-same (listing-bytes s (whole-accepted s e f))
 
-      pub list-done : {x : Written} → x ≡ textAnswer (listingFor (r .groomers) (turnsIn (r .turns) t)) lent → x ≡ listOf s lent
-      list-done g = (rw listing-same at g) ∙ list-text s lent (whole-accepted s e f)
+    pub list-done : {x : Written} → x ≡ textAnswer (listingFor (r .groomers) (turnsBy p cols)) lent → x ≡ listOf s lent
+    list-done g = (rw listing-same at g) ∙ list-text s lent (whole-accepted s e f)
 
-pub ruleset list-cases = (plan-ample, list-fault, list-few, list-rows, list-bounded, list-short, list-done)
+pub ruleset list-cases = (list-fault, list-held, list-short, list-done)

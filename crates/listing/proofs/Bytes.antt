@@ -9,7 +9,7 @@ use Rattle.text.specs.Decimal.{decimal}
 use Rattle.text.proofs.Width.{decimal-width}
 use Rattle.refusal.specs.Cause.{firstOf}
 use Rattle.lists.specs.Lists.{sum, below}
-use Rattle.model.specs.Turns.{Turns, turnsIn, PositiveLengths}
+use Rattle.model.specs.Turns.{Turns, PositiveLengths}
 use Rattle.model.specs.Steps.{tally}
 use Rattle.model.specs.Pick.{steps}
 use Rattle.model.specs.Choice.{chosen, choice}
@@ -17,8 +17,12 @@ use Rattle.model.specs.Rules.{Independent}
 use Rattle.model.proofs.Planned.{steps-right}
 use Rattle.model.proofs.Limits.{sums-limits}
 use Rattle.model.proofs.Promised.{planned-keeps}
-use Rattle.sheet.specs.Read.{countsIn, turnCount, tableOf, sheetCauses}
-use Rattle.sheet.proofs.Unrefused.{few-groomers, few-slopes, few-turns, row-in-range}
+use Rattle.sheet.specs.Kind.{mostTurns}
+use Rattle.sheet.specs.Read.{countsIn, turnCount, sheetCauses}
+use Rattle.sheet.proofs.Unrefused.{few-groomers, few-slopes, few-turns}
+use Rattle.turns.specs.Turn.{mostWorth}
+use Rattle.problem.specs.Problem.{sheetTurns}
+use Rattle.problem.proofs.Posed.{sheet-count, sheet-lengths, sheet-ends, sheet-worths, sheet-slopes, sheet-groomers}
 use Rattle.listing.specs.Round.{roundOf, shiftMinutes, In, here, later, StartsApart}
 use Rattle.listing.specs.Text.{labelled, twoLabelled, headingOf, lineOf, linesOf, groomerText, groomersFrom, sumsLine, listingOf, groomerWord, slopeWord, worthWord, sumWord, tallyWord, hyphen, lineFeed}
 use Rattle.listing.specs.List.{listingFor, sheetListing}
@@ -98,45 +102,28 @@ module _ (T : Turns) (S : List Bool) (apart : StartsApart T S) (starts : (u : �
 
 module _ (s : List ℕ) (z : firstOf (sheetCauses s) ≡ 0) where
   abbrev T : Turns
-  T = turnsIn (turnCount s) (tableOf s)
+  T = sheetTurns s
 
-  few : T .count ≤ 400
-  unfolding turnsIn
-  few = few-turns s z
+  inside : (u : ℕ) → u < T .count → u < turnCount s
+  inside u l = omega (arith, sheet-count s z)
 
-  slope-least : (u : ℕ) → u < T .count → 1 ≤ T .slope u
-  unfolding turnsIn
-  slope-least u l = row-in-range s z u l .slope-from
-
-  slope-most : (u : ℕ) → u < T .count → T .slope u ≤ countsIn s .slopes
-  unfolding turnsIn
-  slope-most u l = row-in-range s z u l .slope-to
-
-  groomer-least : (u : ℕ) → u < T .count → 1 ≤ T .groomer u
-  unfolding turnsIn
-  groomer-least u l = row-in-range s z u l .groomer-from
-
-  groomer-most : (u : ℕ) → u < T .count → T .groomer u ≤ countsIn s .groomers
-  unfolding turnsIn
-  groomer-most u l = row-in-range s z u l .groomer-to
+  few : T .count ≤ mostTurns
+  few = omega (arith, sheet-count s z, few-turns s z)
 
   lengths : PositiveLengths T
-  unfolding turnsIn
-  lengths u l = omega (arith, row-in-range s z u l .length-from)
+  lengths = sheet-lengths s z
 
-  ends : (u : ℕ) → u < T .count → T .end u ≤ 960
-  unfolding turnsIn
-  ends u l = row-in-range s z u l .end-to
+  ends : (u : ℕ) → u < T .count → T .end u ≤ shiftMinutes
+  ends u l = sheet-ends s z u (inside u l)
 
-  worths : (u : ℕ) → u < T .count → T .worth u ≤ 60000
-  unfolding turnsIn
-  worths u l = row-in-range s z u l .worth-to
+  worths : (u : ℕ) → u < T .count → T .worth u ≤ mostWorth
+  worths u l = sheet-worths s z u (inside u l)
 
   starts : (u : ℕ) → u < T .count → T .start u < shiftMinutes
   starts u l = omega (arith, lengths u l, ends u l)
 
   short : (u : ℕ) → u < T .count → length (lineOf T u) ≤ 30
-  short u l = line-bytes T u (starts u l) (ends u l) (omega (arith, slope-most u l, few-slopes s z)) (worths u l)
+  short u l = line-bytes T u (starts u l) (ends u l) (omega (arith, sheet-slopes s z u (inside u l) .1, few-slopes s z)) (worths u l)
 
   -- 16 headings of 11 bytes, 120 turns of 30, and the last line of 30
   pub listing-bytes : length (sheetListing s) ≤ 3806
@@ -148,8 +135,8 @@ module _ (s : List ℕ) (z : firstOf (sheetCauses s) ≡ 0) where
         arith,
         length-append (groomersFrom T (choice T) (countsIn s .groomers) 1) (sumsLine (chosen (T .count) (choice T) (T .worth)) (tally (steps T))),
         groomers-bytes T (choice T) (apart-starts T (choice T) apart lengths) starts short (countsIn s .groomers) 1 (omega (arith, few-groomers s z)),
-        rounds-count T (choice T) (countsIn s .groomers) groomer-least groomer-most starts,
-        chosen-few T (choice T) apart (countsIn s .slopes) slope-least slope-most,
+        rounds-count T (choice T) (countsIn s .groomers) (λ u l. sheet-groomers s z u (inside u l) .0) (λ u l. sheet-groomers s z u (inside u l) .1) starts,
+        chosen-few T (choice T) apart (countsIn s .slopes) (λ u l. sheet-slopes s z u (inside u l) .0) (λ u l. sheet-slopes s z u (inside u l) .1),
         few-groomers s z,
         few-slopes s z,
         sums-bytes (chosen (T .count) (choice T) (T .worth)) (tally (steps T)) (sums .1) (sums .0),

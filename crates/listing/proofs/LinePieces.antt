@@ -1,5 +1,5 @@
 -- The lines of the listing by their pieces, each premise in the form in which the code's calls leave it. Assumes nothing.
-use Prim.Native.Nat.{ℕ, _+_, _≤_}
+use Prim.Native.Nat.{ℕ, _+_, _≤_, _<_}
 use mathlib.Core.Path.{_≡_, sym}
 use mathlib.Core.List.{List, [], _∷_, _++_}
 use native.Mathlib.Omega.{arith}
@@ -8,6 +8,10 @@ use Rattle.wire.specs.Number.{puts}
 use Rattle.text.specs.Decimal.{decimal}
 use Rattle.text.specs.Place.{lastPlace}
 use Rattle.model.specs.Turns.{Turns}
+use Rattle.problem.specs.declared.ways.Row.{Row}
+use Rattle.problem.specs.declared.columns.Size.{Size}
+use Rattle.problem.specs.Columns.{rowIn, turnsBy}
+use Rattle.problem.proofs.Rows.{slope-at, start-at, end-at, worth-at}
 use Rattle.listing.specs.Text.{labelled, twoLabelled, headingOf, lineOf, sumsLine, groomerWord, slopeWord, worthWord, sumWord, tallyWord, refusedWord, hyphen, lineFeed, refusedLine}
 use Rattle.listing.proofs.Pieces.{first-fits, second-fits, both-place, both-put, middle-fits, third-fits, three-place, three-put}
 
@@ -101,34 +105,30 @@ pub ruleset sums-cases = (sums-fits, sums-place, sums-put)
 
 -- ---- a turn's line
 
-module _ (T : Turns) (u at : ℕ) {start : ℕ} (s : start ≡ T .start u) where
-  pub start-fits : at + length (lineOf T u) ≤ lastPlace → at + length (decimal start) ≤ lastPlace
+module _ (p : Size) (cols : List ℕ) (u at : ℕ) {a : Row} (h : u < p .count) (e : a ≡ rowIn cols u) where
+  abbrev T : Turns
+  T = turnsBy p cols
+
+  line-is : lineOf T u ≡ decimal (a .start) ++ (labelled hyphen (a .end) ++ twoLabelled slopeWord (a .slope) worthWord (a .worth))
   unfolding lineOf
-  start-fits h = rw s (first-fits (decimal (T .start u)) (labelled hyphen (T .end u) ++ twoLabelled slopeWord (T .slope u) worthWord (T .worth u)) at h)
+  line-is = rw (start-at p cols u h e, end-at p cols u h e, slope-at p cols u h e, worth-at p cols u h e)
 
-  module _ {next end : ℕ} (p : next ≡ at + length (decimal start)) (e : end ≡ T .end u) where
-    begun : next ≡ at + length (decimal (T .start u))
-    begun = rw s at p
+  pub start-fits : at + length (lineOf T u) ≤ lastPlace → at + length (decimal (a .start)) ≤ lastPlace
+  start-fits k = first-fits (decimal (a .start)) (labelled hyphen (a .end) ++ twoLabelled slopeWord (a .slope) worthWord (a .worth)) at (rw line-is at k)
 
-    pub end-fits : at + length (lineOf T u) ≤ lastPlace → next + length (labelled hyphen end) ≤ lastPlace
-    unfolding lineOf
-    end-fits h = rw e (middle-fits (decimal (T .start u)) (labelled hyphen (T .end u)) (twoLabelled slopeWord (T .slope u) worthWord (T .worth u)) at begun h)
+  module _ {next : ℕ} (q : next ≡ at + length (decimal (a .start))) where
+    pub end-fits : at + length (lineOf T u) ≤ lastPlace → next + length (labelled hyphen (a .end)) ≤ lastPlace
+    end-fits k = middle-fits (decimal (a .start)) (labelled hyphen (a .end)) (twoLabelled slopeWord (a .slope) worthWord (a .worth)) at q (rw line-is at k)
 
-    module _ {last slope worth : ℕ} (q : last ≡ next + length (labelled hyphen end)) (f : slope ≡ T .slope u) (g : worth ≡ T .worth u) where
-      timed : last ≡ next + length (labelled hyphen (T .end u))
-      timed = rw e at q
+    module _ {last : ℕ} (r : last ≡ next + length (labelled hyphen (a .end))) where
+      pub values-fit : at + length (lineOf T u) ≤ lastPlace → last + length (twoLabelled slopeWord (a .slope) worthWord (a .worth)) ≤ lastPlace
+      values-fit k = third-fits (decimal (a .start)) (labelled hyphen (a .end)) (twoLabelled slopeWord (a .slope) worthWord (a .worth)) at q r (rw line-is at k)
 
-      pub values-fit : at + length (lineOf T u) ≤ lastPlace → last + length (twoLabelled slopeWord slope worthWord worth) ≤ lastPlace
-      unfolding lineOf
-      values-fit h = rw (f, g) (third-fits (decimal (T .start u)) (labelled hyphen (T .end u)) (twoLabelled slopeWord (T .slope u) worthWord (T .worth u)) at begun timed h)
+      pub line-place : {z : ℕ} → z ≡ last + length (twoLabelled slopeWord (a .slope) worthWord (a .worth)) → z ≡ at + length (lineOf T u)
+      line-place f = rw line-is (three-place (decimal (a .start)) (labelled hyphen (a .end)) (twoLabelled slopeWord (a .slope) worthWord (a .worth)) at q r f)
 
-      pub line-place : {r : ℕ} → r ≡ last + length (twoLabelled slopeWord slope worthWord worth) → r ≡ at + length (lineOf T u)
-      unfolding lineOf
-      line-place z = three-place (decimal (T .start u)) (labelled hyphen (T .end u)) (twoLabelled slopeWord (T .slope u) worthWord (T .worth u)) at begun timed (rw (f, g) at z)
-
-      pub line-put : (l : List ℕ) {l₁ l₂ l₃ : List ℕ} → l₁ ≡ puts l at (decimal start) → l₂ ≡ puts l₁ next (labelled hyphen end) → l₃ ≡ puts l₂ last (twoLabelled slopeWord slope worthWord worth) → l₃ ≡ puts l at (lineOf T u)
-      unfolding lineOf
-      line-put l x y z = three-put (decimal (T .start u)) (labelled hyphen (T .end u)) (twoLabelled slopeWord (T .slope u) worthWord (T .worth u)) at begun timed l (rw s at x) (rw e at y) (rw (f, g) at z)
+      pub line-put : (l : List ℕ) {l₁ l₂ l₃ : List ℕ} → l₁ ≡ puts l at (decimal (a .start)) → l₂ ≡ puts l₁ next (labelled hyphen (a .end)) → l₃ ≡ puts l₂ last (twoLabelled slopeWord (a .slope) worthWord (a .worth)) → l₃ ≡ puts l at (lineOf T u)
+      line-put l x y z = rw line-is (three-put (decimal (a .start)) (labelled hyphen (a .end)) (twoLabelled slopeWord (a .slope) worthWord (a .worth)) at q r l x y z)
 
 pub ruleset line-cases = (start-fits, end-fits, values-fit, line-place, line-put)
 

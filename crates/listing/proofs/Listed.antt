@@ -9,21 +9,22 @@ use Rattle.refusal.specs.Cause.{There, firstOf}
 use Rattle.refusal.proofs.Written.{number-first, enough-iff}
 use Rattle.wire.specs.Number.{Bytes}
 use Rattle.lists.specs.Lists.{sum, below}
-use Rattle.model.specs.Turns.{Turns, turnsIn, PositiveLengths}
+use Rattle.model.specs.Turns.{Turns, PositiveLengths}
 use Rattle.model.specs.Choice.{choice}
 use Rattle.model.specs.Pick.{steps}
 use Rattle.model.proofs.Promised.{planned-keeps}
-use Rattle.sheet.specs.Read.{countsIn, turnCount, tableOf, sheetCauses}
+use Rattle.sheet.specs.Read.{countsIn, turnCount, sheetCauses}
 use Rattle.sheet.specs.Accepted.{Accepted}
 use Rattle.sheet.proofs.Readings.{sheet-numbered}
 use Rattle.sheet.proofs.Accepting.{accepted-iff}
 use Rattle.sheet.proofs.Causes.{first-same}
 use Rattle.sheet.proofs.ReadCauses.{lent-causes-iff}
-use Rattle.sheet.proofs.Unrefused.{few-turns, row-in-range, rows-bounded}
+use Rattle.sheet.proofs.Unrefused.{few-turns}
 use Rattle.board.specs.Choice.{mapOf, onesIn}
 use Rattle.board.specs.Board.{boardMap}
 use Rattle.board.proofs.Written.{map-read}
-use Rattle.rows.proofs.Turns.{count-is}
+use Rattle.problem.specs.Problem.{sheetTurns}
+use Rattle.problem.proofs.Posed.{sheet-count, sheet-starts, sheet-lengths, sheet-ends, sheet-groomers}
 use Rattle.planner.specs.Plan.{boardFor, plannedBoard}
 use Rattle.planner.proofs.Boards.{choice-count}
 use Rattle.listing.specs.Round.{roundOf, Round, StartsApart, shiftMinutes}
@@ -32,16 +33,16 @@ use Rattle.listing.proofs.Rounds.{apart-starts, round-is, rounds-ones}
 
 module _ (s : List ℕ) (z : firstOf (sheetCauses s) ≡ 0) where
   abbrev T : Turns
-  T = turnsIn (turnCount s) (tableOf s)
+  T = sheetTurns s
 
   below-count : (u : ℕ) → u < T .count → u < turnCount s
-  below-count u h = omega (arith, count-is (turnCount s) (tableOf s))
+  below-count u h = omega (arith, sheet-count s z)
 
   lengths : PositiveLengths T
-  lengths u h = rows-bounded s z .starts u (below-count u h)
+  lengths = sheet-lengths s z
 
   starts : (u : ℕ) → u < T .count → T .start u < shiftMinutes
-  starts u h = omega (arith, rows-bounded s z .starts u (below-count u h), rows-bounded s z .ends u (below-count u h))
+  starts u h = omega (arith, sheet-starts s z u (below-count u h), sheet-ends s z u (below-count u h))
 
   apart : StartsApart T (choice T)
   apart = apart-starts T (choice T) (planned-keeps T lengths .apart) lengths
@@ -51,16 +52,14 @@ module _ (s : List ℕ) (z : firstOf (sheetCauses s) ≡ 0) where
   sheet-rounds h = round-is T (choice T) h apart starts
 
   from-1 : (u : ℕ) → u < T .count → 1 ≤ T .groomer u
-  unfolding turnsIn
-  from-1 u h = row-in-range s z u h .groomer-from
+  from-1 u h = sheet-groomers s z u (below-count u h) .0
 
   to-most : (u : ℕ) → u < T .count → T .groomer u ≤ countsIn s .groomers
-  unfolding turnsIn
-  to-most u h = row-in-range s z u h .groomer-to
+  to-most u h = sheet-groomers s z u (below-count u h) .1
 
   map-is : boardMap (plannedBoard s) ≡ mapOf (choice T)
   unfolding plannedBoard boardFor
-  map-is = map-read (choice T) (steps T) _ _ (omega (arith, choice-count T, count-is (turnCount s) (tableOf s), few-turns s z))
+  map-is = map-read (choice T) (steps T) _ _ (omega (arith, choice-count T, sheet-count s z, few-turns s z))
 
   -- there are as many turn lines as ones in the map of the planner's board
   pub sheet-lines : sum (λ k. length (roundOf T (choice T) (k + 1))) (below (countsIn s .groomers)) ≡ onesIn (boardMap (plannedBoard s))

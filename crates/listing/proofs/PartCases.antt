@@ -11,15 +11,17 @@ use borrow.Author.Tests.{eqb-true}
 use Rattle.wire.specs.Number.{puts}
 use Rattle.text.specs.Place.{lastPlace}
 use Rattle.lists.specs.Lists.{tab}
-use Rattle.model.specs.Turns.{Turns, turnsIn}
+use Rattle.model.specs.Turns.{Turns}
 use Rattle.model.specs.Choice.{has}
 use Rattle.lists.proofs.Sums.{tab-length, tab-at, tab-same}
 use Rattle.board.specs.Choice.{choiceIn}
 use Rattle.board.proofs.Clean.{zeros-at, zeros-clean}
-use Rattle.rows.proofs.Turns.{count-is}
 use Rattle.listing.specs.Round.{startsAt, startsBelow, roundFrom, roundOf, shiftMinutes, StartsApart}
 use Rattle.listing.specs.Text.{lineOf, linesOf, headingOf, groomerText, groomersFrom, sumsLine, listingOf}
 use Rattle.listing.specs.Notes.{noteOf, notesOf, noteText, notesText, NotesBelow, Marked}
+use Rattle.problem.specs.declared.columns.Size.{Size}
+use Rattle.problem.specs.Columns.{turnsBy}
+use Rattle.problem.proofs.Rows.{count-is}
 use Rattle.listing.specs.Ready.{Ready}
 use Rattle.listing.proofs.Pieces.{first-fits, second-fits, both-place, both-put, piece-fits, rest-place, rest-put}
 use Rattle.listing.proofs.NoteCases.{false-not-true}
@@ -141,33 +143,33 @@ module _ (T : Turns) (S : List Bool) (h : ℕ) where
 pub marked-none : Marked (replicate 120 0) (replicate 960 0)
 marked-none = record { clean = zeros-clean 960 120 refl; size = length-replicate {A = ℕ} 960 0; others = λ k l e. zeros-at 960 k }
 
-module _ (n : ℕ) (table map : List ℕ) (h : ℕ) where
-  pub notes-start : replicate 960 0 ≡ notesOf (turnsIn n table) (choiceIn n map) h 0
-  notes-start = notes-zero (turnsIn n table) (choiceIn n map) h
+module _ (size : Size) (cols map : List ℕ) (h : ℕ) where
+  pub notes-start : replicate 960 0 ≡ notesOf (turnsBy size cols) (choiceIn (size .count) map) h 0
+  notes-start = notes-zero (turnsBy size cols) (choiceIn (size .count) map) h
 
-  pub notes-inside : {notes : List ℕ} → notes ≡ notesOf (turnsIn n table) (choiceIn n map) h n → NotesBelow n notes
-  notes-inside e = rw e (notes-within (turnsIn n table) (choiceIn n map) h n)
+  pub notes-inside : {notes : List ℕ} → notes ≡ notesOf (turnsBy size cols) (choiceIn (size .count) map) h (size .count) → NotesBelow (size .count) notes
+  notes-inside e = rw e (notes-within (turnsBy size cols) (choiceIn (size .count) map) h (size .count))
 
-  pub head-fits : (at : ℕ) → at + length (groomerText (turnsIn n table) (choiceIn n map) h) ≤ lastPlace → at + length (headingOf h) ≤ lastPlace
+  pub head-fits : (at : ℕ) → at + length (groomerText (turnsBy size cols) (choiceIn (size .count) map) h) ≤ lastPlace → at + length (headingOf h) ≤ lastPlace
   unfolding groomerText
-  head-fits at m = first-fits (headingOf h) (linesOf (turnsIn n table) (roundOf (turnsIn n table) (choiceIn n map) h)) at m
+  head-fits at m = first-fits (headingOf h) (linesOf (turnsBy size cols) (roundOf (turnsBy size cols) (choiceIn (size .count) map) h)) at m
 
-  module _ (r : Ready n table map) {notes : List ℕ} (e : notes ≡ notesOf (turnsIn n table) (choiceIn n map) h n) where
-    lines-are : notesText (turnsIn n table) notes ≡ linesOf (turnsIn n table) (roundOf (turnsIn n table) (choiceIn n map) h)
-    lines-are = rw e (ap (λ i. notesText (turnsIn n table) (notesOf (turnsIn n table) (choiceIn n map) h i)) (sym (count-is n table)) ∙ round-lines (turnsIn n table) (choiceIn n map) h (r .apart))
+  module _ (r : Ready size cols map) {notes : List ℕ} (e : notes ≡ notesOf (turnsBy size cols) (choiceIn (size .count) map) h (size .count)) where
+    lines-are : notesText (turnsBy size cols) notes ≡ linesOf (turnsBy size cols) (roundOf (turnsBy size cols) (choiceIn (size .count) map) h)
+    lines-are = rw e (ap (λ i. notesText (turnsBy size cols) (notesOf (turnsBy size cols) (choiceIn (size .count) map) h i)) (sym (count-is size cols)) ∙ round-lines (turnsBy size cols) (choiceIn (size .count) map) h (r .apart))
 
     module _ (at : ℕ) {next : ℕ} (f : next ≡ at + length (headingOf h)) where
-      pub round-fits : at + length (groomerText (turnsIn n table) (choiceIn n map) h) ≤ lastPlace → next + length (notesText (turnsIn n table) notes) ≤ lastPlace
+      pub round-fits : at + length (groomerText (turnsBy size cols) (choiceIn (size .count) map) h) ≤ lastPlace → next + length (notesText (turnsBy size cols) notes) ≤ lastPlace
       unfolding groomerText
-      round-fits m = rw lines-are (second-fits (headingOf h) (linesOf (turnsIn n table) (roundOf (turnsIn n table) (choiceIn n map) h)) at f m)
+      round-fits m = rw lines-are (second-fits (headingOf h) (linesOf (turnsBy size cols) (roundOf (turnsBy size cols) (choiceIn (size .count) map) h)) at f m)
 
-      pub groomer-place : {r : ℕ} → r ≡ next + length (notesText (turnsIn n table) notes) → r ≡ at + length (groomerText (turnsIn n table) (choiceIn n map) h)
+      pub groomer-place : {r : ℕ} → r ≡ next + length (notesText (turnsBy size cols) notes) → r ≡ at + length (groomerText (turnsBy size cols) (choiceIn (size .count) map) h)
       unfolding groomerText
-      groomer-place g = both-place (headingOf h) (linesOf (turnsIn n table) (roundOf (turnsIn n table) (choiceIn n map) h)) at f (rw lines-are at g)
+      groomer-place g = both-place (headingOf h) (linesOf (turnsBy size cols) (roundOf (turnsBy size cols) (choiceIn (size .count) map) h)) at f (rw lines-are at g)
 
-      pub groomer-put : (l : List ℕ) {l₁ l₂ : List ℕ} → l₁ ≡ puts l at (headingOf h) → l₂ ≡ puts l₁ next (notesText (turnsIn n table) notes) → l₂ ≡ puts l at (groomerText (turnsIn n table) (choiceIn n map) h)
+      pub groomer-put : (l : List ℕ) {l₁ l₂ : List ℕ} → l₁ ≡ puts l at (headingOf h) → l₂ ≡ puts l₁ next (notesText (turnsBy size cols) notes) → l₂ ≡ puts l at (groomerText (turnsBy size cols) (choiceIn (size .count) map) h)
       unfolding groomerText
-      groomer-put l p q = both-put (headingOf h) (linesOf (turnsIn n table) (roundOf (turnsIn n table) (choiceIn n map) h)) at f l p (rw lines-are at q)
+      groomer-put l p q = both-put (headingOf h) (linesOf (turnsBy size cols) (roundOf (turnsBy size cols) (choiceIn (size .count) map) h)) at f l p (rw lines-are at q)
 
 pub ruleset groomer-cases = (marked-none, notes-start, notes-inside, head-fits, round-fits, groomer-place, groomer-put)
 

@@ -29,7 +29,7 @@ apart-starts T S apart lengths u v l m p q g s =
     not-apart u v
     (λ e.
     apart u v l m e p q
-    (same-groomer g (T .start u) (record { begun = omega arith; not-over = lengths u l }) (record { begun = omega arith; not-over = omega (arith, lengths v m) })))
+    (same-groomer g (T .start u) (record { begun = omega arith; not-over = omega (arith, lengths u l) }) (record { begun = omega arith; not-over = omega (arith, lengths v m) })))
 
 -- ---- which turns stand in two lists, one behind the other
 

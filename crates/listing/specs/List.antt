@@ -6,12 +6,13 @@ use lib.Dec.{ltb}
 use Rattle.refusal.specs.Number.{bufferTooSmall}
 use Rattle.refusal.specs.Cause.{Cause, _when_}
 use Rattle.refusal.specs.Written.{Written, writtenUnless}
-use Rattle.model.specs.Turns.{Turns, turnsIn}
+use Rattle.model.specs.Turns.{Turns}
 use Rattle.model.specs.Steps.{tally}
 use Rattle.model.specs.Pick.{steps}
 use Rattle.model.specs.Choice.{chosen, choice}
-use Rattle.sheet.specs.Read.{countsIn, turnCount, tableOf, sheetCauses}
+use Rattle.sheet.specs.Read.{countsIn, sheetCauses}
 use Rattle.sheet.specs.Accepted.{LentCause, FirstAmong}
+use Rattle.problem.specs.Problem.{sheetTurns}
 use Rattle.listing.specs.Text.{listingOf}
 
 -- the listing of some turns: the planner's choice, what it is worth, and the tally of the planner's steps
@@ -20,7 +21,7 @@ listingFor groomers T = listingOf groomers T (choice T) (chosen (T .count) (choi
 
 -- the listing of a sheet
 unfoldable pub sheetListing : List ℕ → List ℕ
-sheetListing s = listingFor (countsIn s .groomers) (turnsIn (turnCount s) (tableOf s))
+sheetListing s = listingFor (countsIn s .groomers) (sheetTurns s)
 
 -- after the sheet's causes: the lent bytes must hold this very listing
 unfoldable pub listCauses : List ℕ → ℕ → List Cause

@@ -5,8 +5,17 @@ ghost use Prim.Native.Nat.{_+_, _*_, _≤_, _<_};
 ghost use lib.ListN.{length};
 ghost use Rattle.wire.specs.Number.{puts};
 ghost use Rattle.text.specs.Place.{lastPlace};
-ghost use Rattle.model.specs.Turns.{turnsIn};
+ghost use Rattle.problem.specs.Columns.{turnsBy, Held};
 ghost use Rattle.listing.specs.Text.{labelled, twoLabelled, headingOf, lineOf, sumsLine, refusedLine};
+use problem::PLACES;
+use problem::Size;
+use problem::row_at;
+
+// What the last line says.
+pub struct Sums {
+    pub worth: u32,
+    pub tally: u32,
+}
 
 const GROOMER: [u8; 8] = *b"groomer ";
 
@@ -54,33 +63,36 @@ pub fn put_heading(out: &mut [u8], at: usize, groomer: u32) -> usize
 }
 
 // The line of turn u.
-pub fn put_line(out: &mut [u8], at: usize, table: &[u16], n: usize, u: usize) -> usize
-    requires { ⌜ (u < n) × (5 * n ≤ length (now table)) × (at + length (lineOf (turnsIn n (now table)) u) ≤ lastPlace) ⌝ }
-    ensures { λ r. ⌜ (r ≡ at + length (lineOf (turnsIn n (now (table .entry))) u)) × (now (out .exit) ≡ puts (now (out .entry)) at (lineOf (turnsIn n (now (table .entry))) u)) ⌝ }
+pub fn put_line(out: &mut [u8], at: usize, p: Size, cols: &[u16; PLACES], u: usize) -> usize
+    requires { ⌜ (u < p .count) × Held p (now cols) × (at + length (lineOf (turnsBy p (now cols)) u) ≤ lastPlace) ⌝ }
+    ensures { λ r. ⌜ (r ≡ at + length (lineOf (turnsBy p (now (cols .entry))) u))
+        × (now (out .exit) ≡ puts (now (out .entry)) at (lineOf (turnsBy p (now (cols .entry))) u)) ⌝ }
 {
     let hyphen = HYPHEN;
     let slope = SLOPE;
     let worth = WORTH;
-    let next = text::put_number(&mut *out, at, rows::start_of(table, n, u));
-    let last = put_labelled(&mut *out, next, &hyphen, rows::end_of(table, n, u));
+    let row = row_at(cols, u);
+    let next = text::put_number(&mut *out, at, row.start as u32);
+    let last = put_labelled(&mut *out, next, &hyphen, row.end as u32);
     put_two(
         &mut *out,
         last,
         &slope,
-        rows::slope_of(table, n, u),
+        row.slope as u32,
         &worth,
-        rows::worth_of(table, n, u),
+        row.worth as u32,
     )
 }
 
 // The last line.
-pub fn put_sums(out: &mut [u8], at: usize, worth: u32, tally: u32) -> usize
-    requires { ⌜ at + length (sumsLine worth tally) ≤ lastPlace ⌝ }
-    ensures { λ r. ⌜ (r ≡ at + length (sumsLine worth tally)) × (now (out .exit) ≡ puts (now (out .entry)) at (sumsLine worth tally)) ⌝ }
+pub fn put_sums(out: &mut [u8], at: usize, sums: Sums) -> usize
+    requires { ⌜ at + length (sumsLine (sums .worth) (sums .tally)) ≤ lastPlace ⌝ }
+    ensures { λ r. ⌜ (r ≡ at + length (sumsLine (sums .worth) (sums .tally)))
+        × (now (out .exit) ≡ puts (now (out .entry)) at (sumsLine (sums .worth) (sums .tally))) ⌝ }
 {
     let first = SUM;
     let second = TALLY;
-    put_two(&mut *out, at, &first, worth, &second, tally)
+    put_two(&mut *out, at, &first, sums.worth, &second, sums.tally)
 }
 
 // The line of a refusal.

@@ -4,43 +4,51 @@ ghost use Prim.Native.Nat.{_+_, _*_, _≤_, _<_};
 ghost use lib.ListN.{length};
 ghost use Rattle.wire.specs.Number.{puts};
 ghost use Rattle.text.specs.Place.{lastPlace};
-ghost use Rattle.model.specs.Turns.{turnsIn};
+ghost use Rattle.problem.specs.Columns.{turnsBy, Held};
 ghost use Rattle.board.specs.Choice.{choiceIn};
 ghost use Rattle.listing.specs.Ready.{Ready};
 ghost use Rattle.listing.specs.Text.{groomerText, groomersFrom, listingOf};
+use super::lines::Sums;
 use super::lines::put_heading;
 use super::lines::put_sums;
 use super::notes::note_round;
 use super::notes::put_notes;
+use problem::PLACES;
+use problem::Size;
+
+// A note for each minute of the shift; a bit for each in a map of them.
+const NOTES: usize = turns::SHIFT_MINUTES as usize;
 
 // A groomer's heading and its round.
 fn put_groomer(
     out: &mut [u8],
     at: usize,
-    table: &[u16],
-    n: usize,
+    p: Size,
+    cols: &[u16; PLACES],
     map: &[u8],
     groomer: u32,
 ) -> usize
-    requires { ⌜ Ready n (now table) (now map) × (at + length (groomerText (turnsIn n (now table)) (choiceIn n (now map)) groomer) ≤ lastPlace) ⌝ }
-    ensures { λ r. ⌜ (r ≡ at + length (groomerText (turnsIn n (now (table .entry))) (choiceIn n (now (map .entry))) groomer)) × (now (out .exit) ≡ puts (now (out .entry)) at (groomerText (turnsIn n (now (table .entry))) (choiceIn n (now (map .entry))) groomer)) ⌝ }
+    requires { ⌜ Ready p (now cols) (now map) × (at + length (groomerText (turnsBy p (now cols)) (choiceIn (p .count) (now map)) groomer) ≤ lastPlace) ⌝ }
+    ensures { λ r. ⌜ r ≡ at + length (groomerText (turnsBy p (now (cols .entry))) (choiceIn (p .count) (now (map .entry))) groomer) ⌝ }
+    ensures { λ _. ⌜ now (out .exit) ≡ puts (now (out .entry)) at (groomerText (turnsBy p (now (cols .entry))) (choiceIn (p .count) (now (map .entry))) groomer) ⌝ }
 {
     let next = put_heading(&mut *out, at, groomer);
-    let mut minutes = [0u8; 120];
-    let mut notes = [0u16; 960];
-    note_round(table, n, map, groomer, &mut minutes, &mut notes);
-    put_notes(&mut *out, next, table, n, &minutes, &notes)
+    let mut minutes = [0u8; NOTES / 8];
+    let mut notes = [0u16; NOTES];
+    note_round(p, cols, map, groomer, &mut minutes, &mut notes);
+    put_notes(&mut *out, next, p, cols, &minutes, &notes)
 }
 
 // All groomers, by number.
-fn put_groomers(out: &mut [u8], table: &[u16], n: usize, map: &[u8], groomers: u16) -> usize
-    requires { ⌜ Ready n (now table) (now map) × (length (groomersFrom (turnsIn n (now table)) (choiceIn n (now map)) groomers 1) ≤ lastPlace) ⌝ }
-    ensures { λ r. ⌜ (r ≡ length (groomersFrom (turnsIn n (now (table .entry))) (choiceIn n (now (map .entry))) groomers 1)) × (now (out .exit) ≡ puts (now (out .entry)) 0 (groomersFrom (turnsIn n (now (table .entry))) (choiceIn n (now (map .entry))) groomers 1)) ⌝ }
+fn put_groomers(out: &mut [u8], p: Size, cols: &[u16; PLACES], map: &[u8], groomers: u16) -> usize
+    requires { ⌜ Ready p (now cols) (now map) × (length (groomersFrom (turnsBy p (now cols)) (choiceIn (p .count) (now map)) groomers 1) ≤ lastPlace) ⌝ }
+    ensures { λ r. ⌜ r ≡ length (groomersFrom (turnsBy p (now (cols .entry))) (choiceIn (p .count) (now (map .entry))) groomers 1) ⌝ }
+    ensures { λ _. ⌜ now (out .exit) ≡ puts (now (out .entry)) 0 (groomersFrom (turnsBy p (now (cols .entry))) (choiceIn (p .count) (now (map .entry))) groomers 1) ⌝ }
 {
     let mut to = 0;
     let mut passed: u16 = 0;
     while passed < groomers {
-        to = put_groomer(&mut *out, to, table, n, map, passed as u32 + 1);
+        to = put_groomer(&mut *out, to, p, cols, map, passed as u32 + 1);
         passed += 1;
     }
     to
@@ -49,16 +57,18 @@ fn put_groomers(out: &mut [u8], table: &[u16], n: usize, map: &[u8], groomers: u
 // The whole listing; returns its bytes, of which those that find a place are written.
 pub fn put_listing(
     out: &mut [u8],
-    table: &[u16],
-    n: usize,
+    p: Size,
+    cols: &[u16; PLACES],
     map: &[u8],
     groomers: u16,
-    worth: u32,
-    tally: u32,
+    sums: Sums,
 ) -> usize
-    requires { ⌜ Ready n (now table) (now map) × (length (listingOf groomers (turnsIn n (now table)) (choiceIn n (now map)) worth tally) ≤ lastPlace) ⌝ }
-    ensures { λ r. ⌜ (r ≡ length (listingOf groomers (turnsIn n (now (table .entry))) (choiceIn n (now (map .entry))) worth tally)) × (now (out .exit) ≡ puts (now (out .entry)) 0 (listingOf groomers (turnsIn n (now (table .entry))) (choiceIn n (now (map .entry))) worth tally)) ⌝ }
+    requires { ⌜ Ready p (now cols) (now map)
+        × (length (listingOf groomers (turnsBy p (now cols)) (choiceIn (p .count) (now map)) (sums .worth) (sums .tally)) ≤ lastPlace) ⌝ }
+    ensures { λ r. ⌜ r ≡ length (listingOf groomers (turnsBy p (now (cols .entry))) (choiceIn (p .count) (now (map .entry))) (sums .worth) (sums .tally)) ⌝ }
+    ensures { λ _. ⌜ now (out .exit) ≡ puts (now (out .entry)) 0
+        (listingOf groomers (turnsBy p (now (cols .entry))) (choiceIn (p .count) (now (map .entry))) (sums .worth) (sums .tally)) ⌝ }
 {
-    let last = put_groomers(&mut *out, table, n, map, groomers);
-    put_sums(&mut *out, last, worth, tally)
+    let last = put_groomers(&mut *out, p, cols, map, groomers);
+    put_sums(&mut *out, last, sums)
 }

@@ -2,8 +2,9 @@
 use mathlib.Core.Path.{_≡_, refl, sym, ap, _∙_}
 use mathlib.Core.Logic.{_≢_, _⊎_, inl, inr}
 use mathlib.Core.Bool.{Bool, true, false, not, _&&_, _||_, true≢false}
-use Prim.Native.Nat.{ℕ, zero, suc, _<_}
+use Prim.Native.Nat.{ℕ, zero, suc, _+_, _≤_, _<_}
 use native.Mathlib.Omega.{arith}
+use native.Mathlib.Numerals.{add-one}
 use native.Mathlib.Decide.{ℕ-discrete}
 use Rattle.lists.specs.Lists.{every}
 
@@ -114,3 +115,13 @@ up-to P i h p t l = go (ℕ-discrete t i)
     go : Dec (t ≡ i) → P t
     go (yes q) = rw q p
     go (no q) = h t (omega arith)
+
+-- ---- a test of every number, as far as a loop has come
+
+module _ (p : ℕ → Bool) (t : ℕ) where
+  pub every-more : p t ≡ true → every p t ≡ true → every p (t + 1) ≡ true
+  unfolding every
+  every-more e h = rw (add-one, e) h
+
+  pub every-done : {n : ℕ} → n ≤ t → t ≤ n → every p t ≡ true → true ≡ every p n
+  every-done {n} h l i = let q : t ≡ n = omega arith in sym (rw q at i)

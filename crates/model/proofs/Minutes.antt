@@ -1,23 +1,21 @@
--- Where the gap is 0: two turns of a minute or more overlap just if some minute is held by both, and the test of conflict is the reading of it. The source's intervals are half open likewise (5.2). Assumes nothing.
+-- For every gap: two turns of a minute or more overlap just if some minute is held by both, each lengthened by the gap; and the test of conflict is the reading of it. The source's intervals are half open likewise, with a gap of 0 (5.2). Assumes nothing.
 use mathlib.Core.Path.{_≡_}
 use mathlib.Core.Logic.{_↔_}
 use mathlib.Core.Bool.{true, false}
 use Prim.Native.Nat.{ℕ, _<_, max}
 use native.Mathlib.Omega.{arith}
-use Rattle.model.specs.Turns.{Turns, PositiveLengths, gap, overlap, conflict, Holds, Conflict, same-slope, same-groomer}
+use Rattle.model.specs.Turns.{Turns, PositiveLengths, overlap, conflict, Holds, Conflict, same-slope, same-groomer}
 use Rattle.lists.proofs.Bools.{not-both, fails}
 use Rattle.model.proofs.Conflicts
 
 module _ (T : Turns) where
   -- a shared minute: the later of the two starts
   pub overlap-minute : (x y : ℕ) → T .start x < T .end x → T .start y < T .end y → overlap T x y ≡ true → (minute : ℕ) × Holds T x minute × Holds T y minute
-  unfolding gap
   overlap-minute x y hx hy e =
       let h = Conflicts.overlap-lt T x y e in
       (max (T .start x) (T .start y), omega arith, omega arith)
 
   pub minute-overlap : (x y minute : ℕ) → Holds T x minute → Holds T y minute → overlap T x y ≡ true
-  unfolding gap
   minute-overlap x y minute p q = Conflicts.lt-overlap T x y (omega arith)
 
   pub share-a-minute : (x y : ℕ) → T .start x < T .end x → T .start y < T .end y → overlap T x y ≡ true ↔ ((minute : ℕ) × Holds T x minute × Holds T y minute)

@@ -1,4 +1,3 @@
-pub mod Padded
 pub mod Boards
 pub mod Parts
 pub mod Answers

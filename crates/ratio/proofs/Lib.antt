@@ -1,6 +1,5 @@
 pub mod Signed
-pub mod ByColumn
 pub mod Steps
 pub mod Order
-pub mod Linking
+pub mod Picks
 pub mod Planning

@@ -1,4 +1,3 @@
 pub mod Bounds
 pub mod Below
-pub mod Columns
-pub mod Links
+pub mod Ends

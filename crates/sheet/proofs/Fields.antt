@@ -16,8 +16,9 @@ use Rattle.wire.specs.Number.{Bytes}
 use Rattle.wire.proofs.Numbers.{length-bytes, byte-front, value-front, bytes-rest}
 use Rattle.turns.specs.declared.Turn.{Turn}
 use Rattle.turns.specs.declared.Counts.{Counts}
-use Rattle.turns.specs.Turn.{InRange}
-use Rattle.turns.proofs.Ranges.{fine-iff}
+use Rattle.turns.specs.Turn.{InRange, Numbered}
+use Rattle.turns.proofs.Ranges.{in-range-fine, fine-in-range}
+use Rattle.sheet.specs.declared.kind.Kind.{Kind}
 use Rattle.sheet.specs.declared.record.Cursor.{Cursor}
 use Rattle.sheet.specs.Record.{widthOf, field, turnFrom, badMapFor, mapAt, endAt, turnAt, recordCauses}
 use Rattle.sheet.specs.Layout.{fieldBytes, recordOf}
@@ -76,13 +77,13 @@ record-append m t rest =
     (five (fieldBytes (m % 2) 1 (t .slope)) (fieldBytes (m / 2 % 2) 1 (t .groomer)) (fieldBytes (m / 4 % 2) 2 (t .start)) (fieldBytes (m / 8 % 2) 2 (t .length)) (fieldBytes (m / 16 % 2) 2 (t .worth)) rest)
 
 -- the record of a turn stands at a cursor: nothing is wrong with it, the turn is what is read, and the cursor behind it stands at the rest
-pub record RecordRead (s : List ℕ) (limits : Counts) (c : Cursor) (t : Turn) (rest : List ℕ) : Type 0 where
-  pub faultless : firstOf (recordCauses s limits c) ≡ 0
+pub record RecordRead (K : Kind) (s : List ℕ) (limits : Counts) (c : Cursor) (t : Turn) (rest : List ℕ) : Type 0 where
+  pub record-fine : firstOf (recordCauses K s limits c) ≡ 0
   pub turn-is : turnAt s c ≡ t
   pub behind : drop (endAt s c) s ≡ rest
 
-module _ (s : List ℕ) (limits : Counts) (c : Cursor) (m : ℕ) (t : Turn) (rest : List ℕ) (few : limits .groomers ≤ 255) (low : limits .slopes ≤ 255)
-    (map : GoodMap (c .first) m) (kept : Carried m (c .prev) t) (fits : InRange limits t) (stands : drop (c .at) s ≡ recordOf m t ++ rest) where
+module _ (K : Kind) (s : List ℕ) (limits : Counts) (c : Cursor) (m : ℕ) (t : Turn) (rest : List ℕ) (few : limits .groomers ≤ 255) (low : limits .slopes ≤ 255)
+    (map : GoodMap (K .maps) (c .first) m) (kept : Carried m (c .prev) t) (fits : InRange limits t) (stands : drop (c .at) s ≡ recordOf m t ++ rest) where
   map-is : mapAt s c ≡ m
   map-is = byte-front s (c .at) m _ (stands ∙ record-append m t rest)
 
@@ -103,13 +104,15 @@ module _ (s : List ℕ) (limits : Counts) (c : Cursor) (m : ℕ) (t : Turn) (res
       let end : c .at + 1 + widthOf m ≡ at-4 + 2 * (m / 16 % 2) = omega arith in
       (λ i. record { slope = slope .0 i; groomer = groomer .0 i; start = start .0 i; length = len .0 i; worth = worth .0 i }, rw end (worth .1))
 
-  pub record-reads : RecordRead s limits c t rest
+  pub record-reads : RecordRead K s limits c t rest
   unfolding endAt turnAt recordCauses firstOf
   record-reads =
       let long : c .at + 1 + widthOf m ≤ length s = omega (arith, length-drop (c .at) s, simp length-append at (ap length stands), record-length m t) in
       let inside : c .at < length s = omega arith in
       record {
-        faultless = rw (lt-leb (length s) (c .at) inside, map-is, good-map-iff (c .first) m .1 map, le-ltb (length s) (c .at + 1 + widthOf m) long, turn-read .0) (fine-iff limits t .1 fits);
+        record-fine =
+            rw (lt-leb (length s) (c .at) inside, map-is, good-map-iff (K .maps) m (c .first) .1 map, le-ltb (length s) (c .at + 1 + widthOf m) long, turn-read .0)
+            (in-range-fine (K .refusals) limits t fits);
         turn-is = rw map-is (turn-read .0);
         behind = rw map-is (turn-read .1);
       }
@@ -124,13 +127,13 @@ field-stands (suc zero) width old size b at h z l = let e : size ≡ width = ome
 field-stands (suc (suc bit)) width old size b at h z l = absurd (omega arith)
 
 -- nothing is wrong with the record at a cursor: it is the record of the turn that is read, and the rest stands behind it
-pub record RecordStands (s : List ℕ) (limits : Counts) (c : Cursor) : Type 0 where
-  pub map : GoodMap (c .first) (mapAt s c)
+pub record RecordStands (K : Kind) (s : List ℕ) (limits : Counts) (c : Cursor) : Type 0 where
+  pub map : GoodMap (K .maps) (c .first) (mapAt s c)
   pub kept : Carried (mapAt s c) (c .prev) (turnAt s c)
   pub fits : InRange limits (turnAt s c)
   pub bytes : drop (c .at) s ≡ recordOf (mapAt s c) (turnAt s c) ++ drop (endAt s c) s
 
-module _ {s : List ℕ} (b : Bytes s) (limits : Counts) (c : Cursor) where
+module _ {s : List ℕ} (b : Bytes s) (c : Cursor) where
   turn-stands : endAt s c ≤ length s → drop (c .at) s ≡ recordOf (mapAt s c) (turnAt s c) ++ drop (endAt s c) s
   unfolding endAt turnAt turnFrom
   turn-stands l =
@@ -161,15 +164,15 @@ module _ {s : List ℕ} (b : Bytes s) (limits : Counts) (c : Cursor) where
         worth = field-carried 2 s _ (m / 16 % 2) (c .prev .worth);
       }
 
-  pub record-stands : firstOf (recordCauses s limits c) ≡ 0 → RecordStands s limits c
+  pub record-stands : (K : Kind) → Numbered (K .refusals) → (limits : Counts) → firstOf (recordCauses K s limits c) ≡ 0 → RecordStands K s limits c
   unfolding recordCauses
-  record-stands e =
+  record-stands K numbers limits e =
       let p = clear-cons (truncated when leb (length s) (c .at)) _ (omega arith) e in
-      let q = clear-cons (badMap when badMapFor (c .first) (mapAt s c)) _ (omega arith) (p .1) in
+      let q = clear-cons (badMap when badMapFor (K .maps) (c .first) (mapAt s c)) _ (omega arith) (p .1) in
       let r = clear-cons (truncated when ltb (length s) (endAt s c)) _ (omega arith) (q .1) in
       record {
-        map = good-map-iff (c .first) (mapAt s c) .0 (q .0);
+        map = good-map-iff (K .maps) (mapAt s c) (c .first) .0 (q .0);
         kept = turn-kept;
-        fits = fine-iff limits (turnAt s c) .0 (r .1);
+        fits = fine-in-range (K .refusals) limits (turnAt s c) numbers (r .1);
         bytes = turn-stands (ltb-false (length s) (endAt s c) (r .0));
       }

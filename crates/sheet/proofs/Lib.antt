@@ -1,8 +1,9 @@
+pub mod SoundKinds
+pub mod Maps
 pub mod Records
 pub mod Headers
 pub mod Scans
 pub mod Readings
-pub mod Maps
 pub mod Fields
 pub mod Accepting
 pub mod Causes
@@ -11,3 +12,4 @@ pub mod Tables
 pub mod Unrefused
 pub mod Whole
 pub mod Prefix
+pub mod Alike

@@ -1,31 +1,61 @@
 -- What the test of a map says. Assumes nothing.
-use Prim.Native.Nat.{ℕ, zero, suc, _<_}
+use Prim.Native.Nat.{ℕ, zero, suc}
 use mathlib.Core.Path.{_≡_, refl, sym}
-use mathlib.Core.Bool.{Bool, true, false, not, cond, true≢false}
+use mathlib.Core.Bool.{Bool, true, false, not, _&&_, cond, true≢false}
 use mathlib.Core.List.{List}
 use mathlib.Core.Logic.{_⊎_, inl, inr, _↔_, _≢_}
 use native.Mathlib.Omega.{arith}
 use lib.Dec.{ltb, eqb}
 use borrow.Author.Tests.{ltb-true, ltb-false, lt-ltb, le-ltb, eqb-true, eqb-false, eq-eqb, ne-eqb, not-true, not-false}
-use Rattle.sheet.specs.Record.{fullMap, badMapFor, cursorAfter, firstCursor}
-use Rattle.sheet.specs.Accepted.{GoodMap, cursorOf}
+use Rattle.lists.proofs.Bools.{and-1, and-2}
+use Rattle.sheet.specs.declared.kind.Maps.{Maps}
+use Rattle.sheet.specs.Record.{badMapFor, cursorAfter, firstCursor}
+use Rattle.sheet.specs.Accepted.{GoodMap, WrongMap, cursorOf}
 
-map-good : (first : Bool) (m : ℕ) → GoodMap first m → badMapFor first m ≡ false
-unfolding badMapFor
-map-good true m g = rw (le-ltb fullMap m (g .below), eq-eqb m fullMap (g .full refl))
-map-good false m g = rw (le-ltb fullMap m (g .below))
+-- ---- a number is neither of two
 
-good-map : (first : Bool) (m : ℕ) → badMapFor first m ≡ false → GoodMap first m
-unfolding badMapFor
-good-map first m e = go (ltb fullMap m) refl first e
-  where
-    go : (b : Bool) → ltb fullMap m ≡ b → (f : Bool) → cond b true (cond f (not (eqb m fullMap)) false) ≡ false → GoodMap f m
-    go true q f h = absurd (true≢false h)
-    go false q true h = record { below = ltb-false fullMap m q; full = λ k. eqb-true m fullMap (not-false (eqb m fullMap) h) }
-    go false q false h = record { below = ltb-false fullMap m q; full = λ k. absurd (true≢false (sym k)) }
+module _ (m a b : ℕ) where
+  one-test : (m ≡ a) ⊎ (m ≡ b) → (not (eqb m a) && not (eqb m b)) ≡ false
+  one-test (inl e) = rw (eq-eqb m a e)
+  one-test (inr e) = rw (eq-eqb m b e) (fails (not (eqb m a)))
+    where
+      fails : (t : Bool) → (t && false) ≡ false
+      fails true = refl
+      fails false = refl
 
-pub good-map-iff : (first : Bool) (m : ℕ) → (badMapFor first m ≡ false) ↔ GoodMap first m
-good-map-iff first m = (good-map first m, map-good first m)
+  test-one : (not (eqb m a) && not (eqb m b)) ≡ false → (m ≡ a) ⊎ (m ≡ b)
+  test-one h = go (eqb m a) refl h
+    where
+      go : (t : Bool) → eqb m a ≡ t → (not t && not (eqb m b)) ≡ false → (m ≡ a) ⊎ (m ≡ b)
+      go true q e = inl (eqb-true m a q)
+      go false q e = inr (eqb-true m b (not-false (eqb m b) e))
+
+  neither-test : m ≢ a → m ≢ b → (not (eqb m a) && not (eqb m b)) ≡ true
+  neither-test p q = rw (ne-eqb m a p, ne-eqb m b q)
+
+  test-neither : (not (eqb m a) && not (eqb m b)) ≡ true → (m ≢ a) × (m ≢ b)
+  test-neither h =
+      (eqb-false m a (not-true (eqb m a) (and-1 (not (eqb m a)) (not (eqb m b)) h)), eqb-false m b (not-true (eqb m b) (and-2 (not (eqb m a)) (not (eqb m b)) h)))
+
+-- ---- a map
+
+module _ (maps : Maps) (m : ℕ) where
+  map-good : (first : Bool) → GoodMap maps first m → badMapFor maps first m ≡ false
+  unfolding badMapFor
+  map-good true g = rw (le-ltb (maps .full) m (g .below), one-test m (maps .first) (maps .full) (g .full refl))
+  map-good false g = rw (le-ltb (maps .full) m (g .below))
+
+  good-map : (first : Bool) → badMapFor maps first m ≡ false → GoodMap maps first m
+  unfolding badMapFor
+  good-map first e = go (ltb (maps .full) m) refl first e
+    where
+      go : (b : Bool) → ltb (maps .full) m ≡ b → (f : Bool) → cond b true (cond f (not (eqb m (maps .first)) && not (eqb m (maps .full))) false) ≡ false → GoodMap maps f m
+      go true q f h = absurd (true≢false h)
+      go false q true h = record { below = ltb-false (maps .full) m q; full = λ k. test-one m (maps .first) (maps .full) h }
+      go false q false h = record { below = ltb-false (maps .full) m q; full = λ k. absurd (true≢false (sym k)) }
+
+  pub good-map-iff : (first : Bool) → (badMapFor maps first m ≡ false) ↔ GoodMap maps first m
+  good-map-iff first = (good-map first, map-good first)
 
 -- ---- the map of record i
 
@@ -35,30 +65,24 @@ unfolding cursorOf firstCursor cursorAfter
 first-zero s zero = (λ e. refl, λ e. refl)
 first-zero s (suc i) = (λ e. absurd (true≢false (sym e)), λ e. absurd (omega arith))
 
-map-bad : (first : Bool) (m : ℕ) → (badMapFor first m ≡ true) ↔ ((fullMap < m) ⊎ ((first ≡ true) × (m ≢ fullMap)))
-unfolding badMapFor
-map-bad first m = (go (ltb fullMap m) refl first, back first)
-  where
-    go : (b : Bool) → ltb fullMap m ≡ b → (f : Bool) → cond b true (cond f (not (eqb m fullMap)) false) ≡ true → (fullMap < m) ⊎ ((f ≡ true) × (m ≢ fullMap))
-    go true q f h = inl (ltb-true fullMap m q)
-    go false q true h = inr (refl, eqb-false m fullMap (not-true (eqb m fullMap) h))
-    go false q false h = absurd (true≢false (sym h))
+module _ (maps : Maps) (s : List ℕ) (i m : ℕ) where
+  bad-map : badMapFor maps (cursorOf s i .first) m ≡ true → WrongMap maps i m
+  unfolding badMapFor
+  bad-map e = go (ltb (maps .full) m) refl (cursorOf s i .first) refl e
+    where
+      go : (b : Bool) → ltb (maps .full) m ≡ b → (f : Bool) → cursorOf s i .first ≡ f → cond b true (cond f (not (eqb m (maps .first)) && not (eqb m (maps .full))) false) ≡ true → WrongMap maps i m
+      go true q f c h = inl (ltb-true (maps .full) m q)
+      go false q true c h = let n = test-neither m (maps .first) (maps .full) h in inr (first-zero s i .0 c, n .0, n .1)
+      go false q false c h = absurd (true≢false (sym h))
 
-    always : (b : Bool) → cond b true true ≡ true
-    always true = refl
-    always false = refl
+  map-bad : WrongMap maps i m → badMapFor maps (cursorOf s i .first) m ≡ true
+  unfolding badMapFor
+  map-bad (inl h) = rw (lt-ltb (maps .full) m h)
+  map-bad (inr h) = rw (first-zero s i .1 (h .0), neither-test m (maps .first) (maps .full) (h .1) (h .2)) (always (ltb (maps .full) m))
+    where
+      always : (b : Bool) → cond b true true ≡ true
+      always true = refl
+      always false = refl
 
-    back : (f : Bool) → (fullMap < m) ⊎ ((f ≡ true) × (m ≢ fullMap)) → cond (ltb fullMap m) true (cond f (not (eqb m fullMap)) false) ≡ true
-    back f (inl h) = rw (lt-ltb fullMap m h)
-    back f (inr h) = rw (h .0, ne-eqb m fullMap (h .1)) (always (ltb fullMap m))
-
-pub bad-map-iff : (s : List ℕ) (i m : ℕ) → (badMapFor (cursorOf s i .first) m ≡ true) ↔ ((fullMap < m) ⊎ ((i ≡ 0) × (m ≢ fullMap)))
-bad-map-iff s i m = (λ e. to (map-bad (cursorOf s i .first) m .0 e), λ h. map-bad (cursorOf s i .first) m .1 (from h))
-  where
-    to : (fullMap < m) ⊎ ((cursorOf s i .first ≡ true) × (m ≢ fullMap)) → (fullMap < m) ⊎ ((i ≡ 0) × (m ≢ fullMap))
-    to (inl h) = inl h
-    to (inr h) = inr (first-zero s i .0 (h .0), h .1)
-
-    from : (fullMap < m) ⊎ ((i ≡ 0) × (m ≢ fullMap)) → (fullMap < m) ⊎ ((cursorOf s i .first ≡ true) × (m ≢ fullMap))
-    from (inl h) = inl h
-    from (inr h) = inr (first-zero s i .1 (h .0), h .1)
+  pub bad-map-iff : (badMapFor maps (cursorOf s i .first) m ≡ true) ↔ WrongMap maps i m
+  bad-map-iff = (bad-map, map-bad)

@@ -6,70 +6,88 @@ use mathlib.Core.List.{List, [], _∷_, _++_}
 use mathlib.Core.Logic.{⊎-elim, _↔_}
 use native.Mathlib.Omega.{arith}
 use lib.Dec.{ltb, eqb}
-use lib.ListN.{length, drop}
+use lib.ListN.{length}
 use borrow.Author.Tests.{ltb-true, lt-ltb, eqb-true}
 use Rattle.refusal.specs.Number.{bufferTooSmall}
 use Rattle.refusal.specs.Cause.{Cause, _when_, There, firstOf}
 use Rattle.refusal.proofs.Places.{there-at, at-there, there-left, there-right, there-split}
 use Rattle.turns.specs.declared.Counts.{Counts}
-use Rattle.turns.specs.Turn.{turnCauses}
+use Rattle.turns.specs.Turn.{rowNumbers, turnCauses}
+use Rattle.sheet.specs.declared.kind.Kind.{Kind}
 use Rattle.sheet.specs.declared.record.Cursor.{Cursor}
+use Rattle.sheet.specs.Kind.{garage, ThreeBytes}
 use Rattle.sheet.specs.Record.{cursorAfter, firstCursor, recordCauses}
-use Rattle.sheet.specs.Read.{countsIn, turnCount, countCauses, headerCauses, recordsCauses, sheetCauses, readCauses, tableOf, outcome, refusedWith, readAnswer, readOf}
-use Rattle.sheet.specs.Accepted.{placeOf, LentCause, of-sheet, too-small, ReadCause, FirstReadCause}
-use Rattle.sheet.proofs.Causes.{there-cause, cause-there, first-same}
+use Rattle.sheet.specs.Read.{countsIn, turnCount, countCauses, headerCauses, recordsCauses, causesFor, readCausesFor, tableOf, outcome, atFront, readRefused, readAnswer, readFor, sheetCauses, readCauses, readOf}
+use Rattle.sheet.specs.Accepted.{placeOf, LentCauseFor, of-sheet, too-small, ReadCauseFor, LentCause, FirstReadCause, FirstAmong}
+use Rattle.sheet.proofs.SoundKinds.{garage-sound}
+use Rattle.sheet.proofs.Causes.{there-cause-for, cause-there-for, first-same}
 
 -- the reader's number is that of the first cause
-pub read-number : (s lent : List ℕ) → readOf s lent .answer .refusal ≡ firstOf (readCauses s (length lent))
-unfolding readOf
-read-number s lent = go (eqb (firstOf (readCauses s (length lent))) 0) refl
+pub read-number-for : (K : Kind) (s lent : List ℕ) → readFor K s lent .answer .refusal ≡ firstOf (readCausesFor K s (length lent))
+unfolding readFor
+read-number-for K s lent = go (eqb (firstOf (readCausesFor K s (length lent))) 0) refl
   where
-    go : (b : Bool) → eqb (firstOf (readCauses s (length lent))) 0 ≡ b
-        → cond b (outcome (readAnswer s) (tableOf s ++ drop (length (tableOf s)) lent)) (outcome (refusedWith (firstOf (readCauses s (length lent)))) lent) .answer .refusal ≡ firstOf (readCauses s (length lent))
-    go true q = sym (eqb-true (firstOf (readCauses s (length lent))) 0 q)
+    go : (b : Bool) → eqb (firstOf (readCausesFor K s (length lent))) 0 ≡ b
+        → cond b (outcome (readAnswer s) (atFront (tableOf s) lent)) (outcome (readRefused (firstOf (readCausesFor K s (length lent)))) lent) .answer .refusal ≡ firstOf (readCausesFor K s (length lent))
+    go true q = sym (eqb-true (firstOf (readCausesFor K s (length lent))) 0 q)
     go false q = refl
 
-records-places : (n : ℕ) (s : List ℕ) (limits : Counts) (c : Cursor) → length (recordsCauses n s limits c) ≡ 7 * n + 1
+records-places : (K : Kind) (n : ℕ) (s : List ℕ) (limits : Counts) (c : Cursor) → length (recordsCauses K n s limits c) ≡ 7 * n + 1
 unfolding recordsCauses recordCauses turnCauses
-records-places zero s limits c = refl
-records-places (suc n) s limits c = omega (arith, records-places n s limits (cursorAfter s c))
+records-places K zero s limits c = refl
+records-places K (suc n) s limits c = omega (arith, records-places K n s limits (cursorAfter s c))
 
 -- the place behind the sheet's causes
-sheet-places : (s : List ℕ) → length (sheetCauses s) ≡ placeOf (turnCount s) 1
-unfolding sheetCauses headerCauses countCauses
-sheet-places s = omega (arith, records-places (turnCount s) s (countsIn s) firstCursor)
+sheet-places : (K : Kind) (s : List ℕ) → length (causesFor K s) ≡ placeOf (turnCount s) 1
+unfolding causesFor headerCauses countCauses
+sheet-places K s = omega (arith, records-places K (turnCount s) s (countsIn s) firstCursor)
 
 -- ---- a buffer of so many places, behind the sheet's causes: once for every need
 
 abbrev small : ℕ → ℕ → List Cause
 small need places = bufferTooSmall when ltb places need ∷ []
 
-module _ (s : List ℕ) (need places : ℕ) where
-  lent-cause : {k r : ℕ} → There (sheetCauses s ++ small need places) k r → LentCause s need places k r
-  lent-cause {k} {r} h = ⊎-elim (λ t. of-sheet (there-cause s t)) right (there-split (sheetCauses s) h)
+module _ (K : Kind) (mark : ThreeBytes (K .mark)) (s : List ℕ) (need places : ℕ) where
+  lent-cause : {k r : ℕ} → There (causesFor K s ++ small need places) k r → LentCauseFor K s need places k r
+  lent-cause {k} {r} h = ⊎-elim (λ t. of-sheet (there-cause-for K mark s t)) right (there-split (causesFor K s) h)
     where
-      last : (q : ℕ) → There (small need places) k q → LentCause s need places k (length (sheetCauses s) + q)
-      last zero t = let e : length (sheetCauses s) + 0 ≡ placeOf (turnCount s) 1 = omega (arith, sheet-places s) in rw (e, at-there t .1) (too-small (ltb-true places need (at-there t .0)))
+      last : (q : ℕ) → There (small need places) k q → LentCauseFor K s need places k (length (causesFor K s) + q)
+      last zero t = let e : length (causesFor K s) + 0 ≡ placeOf (turnCount s) 1 = omega (arith, sheet-places K s) in rw (e, at-there t .1) (too-small (ltb-true places need (at-there t .0)))
       last (suc q) t = absurd (true≢false (sym (at-there t .0)))
 
-      right : (q : ℕ) × (r ≡ length (sheetCauses s) + q) × There (small need places) k q → LentCause s need places k r
+      right : (q : ℕ) × (r ≡ length (causesFor K s) + q) × There (small need places) k q → LentCauseFor K s need places k r
       right x = rw (x .1) (last (x .0) (x .2))
 
-  cause-lent : {k r : ℕ} → LentCause s need places k r → There (sheetCauses s ++ small need places) k r
-  cause-lent (of-sheet h) = there-left _ (cause-there s h)
+  cause-lent : {k r : ℕ} → LentCauseFor K s need places k r → There (causesFor K s ++ small need places) k r
+  cause-lent (of-sheet h) = there-left _ (cause-there-for K mark s h)
   cause-lent (too-small h) =
-      let e : placeOf (turnCount s) 1 ≡ length (sheetCauses s) + 0 = omega (arith, sheet-places s) in
-      rw e (there-right (sheetCauses s) (there-at (small need places) 0 (lt-ltb places need h)))
+      let e : placeOf (turnCount s) 1 ≡ length (causesFor K s) + 0 = omega (arith, sheet-places K s) in
+      rw e (there-right (causesFor K s) (there-at (small need places) 0 (lt-ltb places need h)))
 
-  pub lent-causes-iff : (k r : ℕ) → LentCause s need places k r ↔ There (sheetCauses s ++ small need places) k r
-  lent-causes-iff k r = (cause-lent, lent-cause)
+  pub lent-causes-iff-for : (k r : ℕ) → LentCauseFor K s need places k r ↔ There (causesFor K s ++ small need places) k r
+  lent-causes-iff-for k r = (cause-lent, lent-cause)
 
-pub read-causes-iff : (s : List ℕ) (places k r : ℕ) → ReadCause s places k r ↔ There (readCauses s places) k r
-unfolding readCauses
-read-causes-iff s places = lent-causes-iff s (5 * turnCount s) places
+module _ (K : Kind) (mark : ThreeBytes (K .mark)) (s : List ℕ) where
+  pub read-causes-iff-for : (places k r : ℕ) → ReadCauseFor K s places k r ↔ There (readCausesFor K s places) k r
+  unfolding readCausesFor
+  read-causes-iff-for places = lent-causes-iff-for K mark s (rowNumbers * turnCount s) places
 
--- the reader gives k exactly where the first cause has number k
+  -- the reader gives k exactly where the first cause has number k
+  pub read-refused-iff-for : (lent : List ℕ) (k : ℕ) → (k ≡ 0 → ⊥) → (readFor K s lent .answer .refusal ≡ k) ↔ FirstAmong (ReadCauseFor K s (length lent)) k
+  read-refused-iff-for lent k z =
+      let same = first-same (readCausesFor K s (length lent)) (ReadCauseFor K s (length lent)) (read-causes-iff-for (length lent)) k z in
+      (λ e. same .0 (sym (read-number-for K s lent) ∙ e), λ f. read-number-for K s lent ∙ same .1 f)
+
+-- ---- the garage's sheet
+
+pub lent-causes-iff : (s : List ℕ) (need places k r : ℕ) → LentCause s need places k r ↔ There (sheetCauses s ++ small need places) k r
+unfolding sheetCauses
+lent-causes-iff = lent-causes-iff-for garage (garage-sound .mark)
+
+pub read-number : (s lent : List ℕ) → readOf s lent .answer .refusal ≡ firstOf (readCauses s (length lent))
+unfolding readOf readCauses
+read-number = read-number-for garage
+
 pub read-refused-iff : (s lent : List ℕ) (k : ℕ) → (k ≡ 0 → ⊥) → (readOf s lent .answer .refusal ≡ k) ↔ FirstReadCause s (length lent) k
-read-refused-iff s lent k z =
-    let same = first-same (readCauses s (length lent)) (ReadCause s (length lent)) (read-causes-iff s (length lent)) k z in
-    (λ e. same .0 (sym (read-number s lent) ∙ e), λ f. read-number s lent ∙ same .1 f)
+unfolding readOf
+read-refused-iff = read-refused-iff-for garage (garage-sound .mark)

@@ -1,19 +1,21 @@
 -- What holds of every sheet that is not refused, for all lists of numbers. Assumes nothing.
-use Prim.Native.Nat.{ℕ, _+_, _*_, _<_, _≤_}
+use Prim.Native.Nat.{ℕ, _+_, _<_, _≤_}
 use mathlib.Core.Path.{_≡_}
-use mathlib.Core.Logic.{_⊎_, inl, inr}
+use mathlib.Core.Logic.{inl, inr}
 use mathlib.Core.List.{List}
 use native.Mathlib.Omega.{arith}
 use native.Mathlib.Decide.{decLt, ℕ-discrete}
 use Rattle.refusal.specs.Cause.{firstOf}
 use Rattle.refusal.proofs.Order.{none-given, clear-append}
-use Rattle.model.specs.Turns.{turnsIn, RowsBounded}
-use Rattle.turns.specs.declared.Turn.{Turn}
-use Rattle.turns.specs.Turn.{InRange, shiftMinutes, mostWorth}
-use Rattle.sheet.specs.Read.{mostGroomers, mostSlopes, mostTurns, countsIn, turnCount, headerCauses, turnIn, sheetCauses, tableOf}
-use Rattle.sheet.specs.Accepted.{SheetCause, groomer-count, slope-count, slope, groomer, time, worth, turnOf, Outside}
-use Rattle.sheet.proofs.Causes.{cause-there}
-use Rattle.sheet.proofs.Readings.{header-numbered, header-few, sheet-numbered}
+use Rattle.turns.specs.Turn.{turnIn, InRange, shiftMinutes, mostWorth}
+use Rattle.sheet.specs.declared.kind.Kind.{Kind}
+use Rattle.sheet.specs.Kind.{mostGroomers, mostSlopes, mostTurns, garage, Sound}
+use Rattle.sheet.specs.Read.{countsIn, turnCount, headerCauses, causesFor, sheetCauses, tableOf}
+use Rattle.sheet.specs.Accepted.{Legal, CauseFor, slope, groomer, time, worth, turnOf, Outside}
+use Rattle.sheet.proofs.SoundKinds.{garage-sound}
+use Rattle.sheet.proofs.Headers.{header-numbered, header-fine}
+use Rattle.sheet.proofs.Causes.{cause-there-for}
+use Rattle.sheet.proofs.Readings.{causes-numbered}
 use Rattle.sheet.proofs.Tables.{table-row}
 
 inside : (x top : ℕ) → (Outside x top → ⊥) → (1 ≤ x) × (x ≤ top)
@@ -24,19 +26,13 @@ inside x top n = go (ℕ-discrete x 0) (decLt top x)
     go (no e) (yes l) = absurd (n (inr l))
     go (no e) (no l) = (omega arith, omega arith)
 
-module _ (s : List ℕ) (e : firstOf (sheetCauses s) ≡ 0) where
-  no-cause : {k r : ℕ} → SheetCause s k r → ⊥
-  no-cause {k} {r} c = none-given (sheetCauses s) e (sheet-numbered s) k r (cause-there s c)
+module _ (K : Kind) (sound : Sound K) (s : List ℕ) (e : firstOf (causesFor K s) ≡ 0) where
+  pub legal-header : Legal K (countsIn s) (turnCount s)
+  unfolding causesFor
+  legal-header = header-fine K (sound .numbers) s (clear-append (headerCauses K s) _ (header-numbered K (sound .numbers) s) e .0) .legal
 
-  pub few-groomers : countsIn s .groomers ≤ mostGroomers
-  few-groomers = inside (countsIn s .groomers) mostGroomers (λ o. no-cause (groomer-count o)) .1
-
-  pub few-slopes : countsIn s .slopes ≤ mostSlopes
-  few-slopes = inside (countsIn s .slopes) mostSlopes (λ o. no-cause (slope-count o)) .1
-
-  pub few-turns : turnCount s ≤ mostTurns
-  unfolding sheetCauses
-  few-turns = header-few s (clear-append (headerCauses s) _ (header-numbered s) e .0)
+  no-cause : {k r : ℕ} → CauseFor K s k r → ⊥
+  no-cause {k} {r} c = none-given (causesFor K s) e (causes-numbered K (sound .numbers) s) k r (cause-there-for K (sound .mark) s c)
 
   pub turn-in-range : (i : ℕ) → i < turnCount s → InRange (countsIn s) (turnOf s i)
   turn-in-range i h =
@@ -51,15 +47,24 @@ module _ (s : List ℕ) (e : firstOf (sheetCauses s) ≡ 0) where
       timely (no z) (yes l) = absurd (no-cause (time i h (inr l)))
       timely (no z) (no l) = (omega arith, omega arith)
 
-  pub row-in-range : (i : ℕ) → i < turnCount s → InRange (countsIn s) (turnIn (tableOf s) i)
-  row-in-range i h = rw (table-row s i h) (turn-in-range i h)
+  pub row-in-range-for : (i : ℕ) → i < turnCount s → InRange (countsIn s) (turnIn (tableOf s) i)
+  row-in-range-for i h = rw (table-row s i h) (turn-in-range i h)
 
-  pub rows-bounded : RowsBounded (turnCount s) (tableOf s)
-  unfolding turnsIn
-  rows-bounded =
-      record {
-        slopes = λ i h. omega (arith, row-in-range i h .slope-to, few-slopes);
-        starts = λ i h. omega (arith, row-in-range i h .length-from);
-        ends = λ i h. row-in-range i h .end-to;
-        worths = λ i h. row-in-range i h .worth-to;
-      }
+-- ---- the garage's sheet
+
+module _ (s : List ℕ) (e : firstOf (sheetCauses s) ≡ 0) where
+  pub few-groomers : countsIn s .groomers ≤ mostGroomers
+  unfolding sheetCauses garage
+  few-groomers = legal-header garage garage-sound s e .groomers-to
+
+  pub few-slopes : countsIn s .slopes ≤ mostSlopes
+  unfolding sheetCauses garage
+  few-slopes = legal-header garage garage-sound s e .slopes-to
+
+  pub few-turns : turnCount s ≤ mostTurns
+  unfolding sheetCauses garage
+  few-turns = legal-header garage garage-sound s e .turns-to
+
+  pub row-in-range : (i : ℕ) → i < turnCount s → InRange (countsIn s) (turnIn (tableOf s) i)
+  unfolding sheetCauses
+  row-in-range = row-in-range-for garage garage-sound s e

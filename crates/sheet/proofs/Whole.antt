@@ -2,7 +2,7 @@
 use Prim.Native.Nat.{ℕ, _+_, _*_, _<_, _≤_}
 use mathlib.Core.Path.{_≡_, refl, sym, _∙_, ap}
 use mathlib.Core.Bool.{Bool, true, false, cond}
-use mathlib.Core.List.{List, [], _∷_, _++_}
+use mathlib.Core.List.{List, [], _∷_}
 use native.Mathlib.Omega.{arith}
 use native.Mathlib.Numerals.{add-one}
 use lib.ListN.{length, getD, set, take, drop, length-append}
@@ -14,48 +14,52 @@ use Rattle.refusal.specs.Cause.{_when_, firstOf}
 use Rattle.refusal.proofs.Order.{first-stops, first-goes}
 use Rattle.wire.specs.Number.{puts}
 use Rattle.wire.proofs.Puts.{puts-front}
+use Rattle.turns.specs.Turn.{rowNumbers}
+use Rattle.sheet.specs.declared.kind.Kind.{Kind}
 use Rattle.sheet.specs.declared.reader.ReadAnswer.{ReadAnswer}
-use Rattle.sheet.specs.Read.{turnCount, tableOf, sheetCauses, readCauses, outcome, refusedWith, readAnswer, answerOf, readOf}
-use Rattle.sheet.proofs.Readings.{sheet-numbered}
+use Rattle.sheet.specs.Kind.{mostTurns, garage, Sound}
+use Rattle.sheet.specs.Read.{turnCount, tableOf, causesFor, readCausesFor, Outcome, outcome, atFront, readRefused, readAnswer, answerFor, readFor, sheetCauses, answerOf, readOf}
+use Rattle.sheet.proofs.SoundKinds.{garage-sound, garage-given}
+use Rattle.sheet.proofs.Readings.{causes-numbered}
 use Rattle.sheet.proofs.Tables.{table-length}
-use Rattle.sheet.proofs.Unrefused.{few-turns}
+use Rattle.sheet.proofs.Unrefused.{legal-header}
 
 -- ---- the answer
 
-module _ (s : List ℕ) {a : ReadAnswer} (e : a ≡ answerOf s) where
-  pub whole-refusal : a .refusal ≡ firstOf (sheetCauses s)
-  unfolding answerOf
-  whole-refusal = ap (λ (x : ReadAnswer). x .refusal) e ∙ go (eqb (firstOf (sheetCauses s)) 0) refl
+module _ (K : Kind) (s : List ℕ) {a : ReadAnswer} (e : a ≡ answerFor K s) where
+  pub whole-refusal-for : a .refusal ≡ firstOf (causesFor K s)
+  unfolding answerFor
+  whole-refusal-for = ap (λ (x : ReadAnswer). x .refusal) e ∙ go (eqb (firstOf (causesFor K s)) 0) refl
     where
-      go : (b : Bool) → eqb (firstOf (sheetCauses s)) 0 ≡ b → cond b (readAnswer s) (refusedWith (firstOf (sheetCauses s))) .refusal ≡ firstOf (sheetCauses s)
-      go true q = sym (eqb-true (firstOf (sheetCauses s)) 0 q)
+      go : (b : Bool) → eqb (firstOf (causesFor K s)) 0 ≡ b → cond b (readAnswer s) (readRefused (firstOf (causesFor K s))) .refusal ≡ firstOf (causesFor K s)
+      go true q = sym (eqb-true (firstOf (causesFor K s)) 0 q)
       go false q = refl
 
   module _ (z : a .refusal ≡ 0) where
-    pub whole-accepted : firstOf (sheetCauses s) ≡ 0
-    whole-accepted = sym whole-refusal ∙ z
+    pub whole-accepted-for : firstOf (causesFor K s) ≡ 0
+    whole-accepted-for = sym whole-refusal-for ∙ z
 
-    pub whole-answer : a ≡ readAnswer s
-    unfolding answerOf
-    whole-answer = e ∙ rw (eq-eqb (firstOf (sheetCauses s)) 0 whole-accepted)
+    pub whole-answer-for : a ≡ readAnswer s
+    unfolding answerFor
+    whole-answer-for = e ∙ rw (eq-eqb (firstOf (causesFor K s)) 0 whole-accepted-for)
 
-    pub whole-turns : a .turns ≡ turnCount s
-    whole-turns = ap (λ (x : ReadAnswer). x .turns) whole-answer
+    pub whole-turns-for : a .turns ≡ turnCount s
+    whole-turns-for = ap (λ (x : ReadAnswer). x .turns) whole-answer-for
 
-    pub whole-few : a .turns ≤ 400
-    whole-few = omega (arith, whole-turns, few-turns s whole-accepted)
+    pub whole-few-for : Sound K → a .turns ≤ K .most .turns
+    whole-few-for sound = rw whole-turns-for (legal-header K sound s whole-accepted-for .turns-to)
 
     -- ---- the table
 
-    module _ (lent : List ℕ) {t : List ℕ} (w : a .refusal ≡ 0 → t ≡ tableOf s ++ drop (length (tableOf s)) lent) where
-      pub whole-room : 5 * a .turns ≤ length t
-      whole-room = rw (w z) (omega (arith, length-append (tableOf s) (drop (length (tableOf s)) lent), table-length s, whole-turns))
+    module _ (lent : List ℕ) {t : List ℕ} (w : a .refusal ≡ 0 → t ≡ atFront (tableOf s) lent) where
+      pub whole-room-for : rowNumbers * a .turns ≤ length t
+      whole-room-for = rw (w z) (omega (arith, length-append (tableOf s) (drop (length (tableOf s)) lent), table-length s, whole-turns-for))
 
-      pub whole-table : take (5 * a .turns) t ≡ tableOf s
-      whole-table = rw (w z) (take-at (tableOf s) (drop (length (tableOf s)) lent) (5 * a .turns) (omega (arith, table-length s, whole-turns)))
+      pub whole-table-for : take (rowNumbers * a .turns) t ≡ tableOf s
+      whole-table-for = rw (w z) (take-at (tableOf s) (drop (length (tableOf s)) lent) (rowNumbers * a .turns) (omega (arith, table-length s, whole-turns-for)))
 
-      pub whole-rows : length (take (5 * a .turns) t) ≡ 5 * a .turns
-      whole-rows = rw whole-table (omega (arith, table-length s, whole-turns))
+      pub whole-rows-for : length (take (rowNumbers * a .turns) t) ≡ rowNumbers * a .turns
+      whole-rows-for = rw whole-table-for (omega (arith, table-length s, whole-turns-for))
 
 -- ---- the reader: from its own table to the lent one
 
@@ -68,26 +72,77 @@ module _ (l numbers : List ℕ) (i : ℕ) where
 
 pub ruleset front-cases = (front-more, front-done)
 
-module _ (s lent : List ℕ) {a : ReadAnswer} (e : a ≡ answerOf s) where
-  pub read-fault : (a .refusal ≡ 0 → ⊥) → outcome a lent ≡ readOf s lent
-  unfolding readOf readCauses answerOf
+module _ (K : Kind) (s lent : List ℕ) {a : ReadAnswer} (e : a ≡ answerFor K s) where
+  pub read-fault : (a .refusal ≡ 0 → ⊥) → outcome a lent ≡ readFor K s lent
+  unfolding readFor readCausesFor answerFor
   read-fault z =
-      let f : firstOf (sheetCauses s) ≡ a .refusal = sym (whole-refusal s e) in
-      let g : a ≡ refusedWith (a .refusal) = e ∙ rw (f, ne-eqb (a .refusal) 0 z) in
-      ap (λ (x : ReadAnswer). outcome x lent) g ∙ rw (first-stops (sheetCauses s) (bufferTooSmall when _ ∷ []) (a .refusal) f z, ne-eqb (a .refusal) 0 z)
+      let f : firstOf (causesFor K s) ≡ a .refusal = sym (whole-refusal-for K s e) in
+      let g : a ≡ readRefused (a .refusal) = e ∙ rw (f, ne-eqb (a .refusal) 0 z) in
+      ap (λ (x : ReadAnswer). outcome x lent) g ∙ rw (first-stops (causesFor K s) (bufferTooSmall when _ ∷ []) (a .refusal) f z, ne-eqb (a .refusal) 0 z)
 
-  module _ (z : a .refusal ≡ 0) where
-    pub read-small : {x : ReadAnswer} → length lent < 5 * a .turns → x ≡ refusedWith bufferTooSmall → outcome x lent ≡ readOf s lent
-    unfolding readOf readCauses firstOf
+  module _ (sound : Sound K) (z : a .refusal ≡ 0) where
+    pub read-small : {x : ReadAnswer} → length lent < rowNumbers * a .turns → x ≡ readRefused bufferTooSmall → outcome x lent ≡ readFor K s lent
+    unfolding readFor readCausesFor firstOf
     read-small l x =
-        rw (x, first-goes (sheetCauses s) (bufferTooSmall when _ ∷ []) (sheet-numbered s) (whole-accepted s e z), ← whole-turns s e z, lt-ltb (length lent) (5 * a .turns) l)
+        let n = causes-numbered K (sound .numbers) s in
+        rw (x, first-goes (causesFor K s) (bufferTooSmall when _ ∷ []) n (whole-accepted-for K s e z), ← whole-turns-for K s e z, lt-ltb (length lent) (rowNumbers * a .turns) l)
 
-    pub read-done : (zeros : List ℕ) {t u : List ℕ} → 5 * a .turns ≤ length lent → (a .refusal ≡ 0 → t ≡ tableOf s ++ drop (length (tableOf s)) zeros) → u ≡ puts lent 0 (take (5 * a .turns) t) → outcome a u ≡ readOf s lent
-    unfolding readOf readCauses firstOf
+    pub read-done : (zeros : List ℕ) {t u : List ℕ} → rowNumbers * a .turns ≤ length lent → (a .refusal ≡ 0 → t ≡ atFront (tableOf s) zeros) → u ≡ puts lent 0 (take (rowNumbers * a .turns) t)
+        → outcome a u ≡ readFor K s lent
+    unfolding readFor readCausesFor firstOf
     read-done zeros {t} {u} l w p =
-        let room : length (tableOf s) ≤ length lent = omega (arith, table-length s, whole-turns s e z) in
-        let q : u ≡ tableOf s ++ drop (length (tableOf s)) lent = p ∙ rw (whole-table s e z zeros w) (puts-front (tableOf s) lent room) in
-        let c : firstOf (readCauses s (length lent)) ≡ 0 = first-goes (sheetCauses s) (bufferTooSmall when _ ∷ []) (sheet-numbered s) (whole-accepted s e z) ∙ rw (← whole-turns s e z, le-ltb (length lent) (5 * a .turns) l) in
-        ap (λ (x : ReadAnswer). outcome x u) (whole-answer s e z) ∙ rw (q, c)
+        let room : length (tableOf s) ≤ length lent = omega (arith, table-length s, whole-turns-for K s e z) in
+        let q : u ≡ atFront (tableOf s) lent = p ∙ rw (whole-table-for K s e z zeros w) (puts-front (tableOf s) lent room) in
+        let n = causes-numbered K (sound .numbers) s in
+        let c : firstOf (readCausesFor K s (length lent)) ≡ 0 =
+        first-goes (causesFor K s) (bufferTooSmall when _ ∷ []) n (whole-accepted-for K s e z) ∙ rw (← whole-turns-for K s e z, le-ltb (length lent) (rowNumbers * a .turns) l) in
+        ap (λ (x : ReadAnswer). outcome x u) (whole-answer-for K s e z) ∙ rw (q, c)
 
 pub ruleset read-cases = (read-fault, read-small)
+
+-- ---- the garage's sheet
+
+module _ (s : List ℕ) {a : ReadAnswer} (e : a ≡ answerOf s) where
+  pub whole-refusal : a .refusal ≡ firstOf (sheetCauses s)
+  unfolding answerOf sheetCauses
+  whole-refusal = whole-refusal-for garage s e
+
+  module _ (z : a .refusal ≡ 0) where
+    pub whole-accepted : firstOf (sheetCauses s) ≡ 0
+    whole-accepted = sym whole-refusal ∙ z
+
+    pub whole-answer : a ≡ readAnswer s
+    unfolding answerOf
+    whole-answer = whole-answer-for garage s e z
+
+    pub whole-turns : a .turns ≡ turnCount s
+    whole-turns = ap (λ (x : ReadAnswer). x .turns) whole-answer
+
+    pub whole-few : a .turns ≤ mostTurns
+    unfolding answerOf garage
+    whole-few = whole-few-for garage s e z garage-sound
+
+    module _ (lent : List ℕ) {t : List ℕ} (w : a .refusal ≡ 0 → t ≡ atFront (tableOf s) lent) where
+      pub whole-room : rowNumbers * a .turns ≤ length t
+      unfolding answerOf
+      whole-room = whole-room-for garage s e z lent w
+
+      pub whole-table : take (rowNumbers * a .turns) t ≡ tableOf s
+      unfolding answerOf
+      whole-table = whole-table-for garage s e z lent w
+
+      pub whole-rows : length (take (rowNumbers * a .turns) t) ≡ rowNumbers * a .turns
+      unfolding answerOf
+      whole-rows = whole-rows-for garage s e z lent w
+
+-- its reader is that of its kind
+module _ (s : List ℕ) {K : Kind} (k : K ≡ garage) where
+  pub answer-garage : {a : ReadAnswer} → a ≡ answerFor K s → a ≡ answerOf s
+  unfolding answerOf
+  answer-garage e = e ∙ rw k
+
+  pub read-garage : (lent : List ℕ) {x : Outcome} → x ≡ readFor K s lent → x ≡ readOf s lent
+  unfolding readOf
+  read-garage lent e = e ∙ rw k
+
+pub ruleset garage-cases = (garage-given, answer-garage, read-garage)

@@ -4,7 +4,6 @@ use mathlib.Core.List.{List, [], _∷_, _++_}
 use mathlib.Core.Bool.{cond}
 use lib.Dec.{eqb}
 use Rattle.wire.specs.Number.{bytesOf}
-use Rattle.wire.specs.Mark.{sheetMark}
 use Rattle.turns.specs.declared.Turn.{Turn}
 use Rattle.turns.specs.declared.Counts.{Counts}
 
@@ -25,6 +24,6 @@ fieldsOf m t =
 unfoldable pub recordOf : ℕ → Turn → List ℕ
 recordOf m t = m ∷ fieldsOf m t
 
--- the mark, groomers, slopes, and the number of turns in two bytes
-abbrev pub headerFor : Counts → ℕ → List ℕ
-headerFor counts n = sheetMark ++ (counts .groomers ∷ counts .slopes ∷ bytesOf 2 n)
+-- a mark, groomers, slopes, and the number of turns in two bytes
+abbrev pub headerFor : List ℕ → Counts → ℕ → List ℕ
+headerFor mark counts n = mark ++ (counts .groomers ∷ counts .slopes ∷ bytesOf 2 n)

@@ -1,37 +1,27 @@
 -- A whole sheet, read. Assumes nothing.
-use Prim.Native.Nat.{ℕ, zero, suc, _+_, _*_}
+use Prim.Native.Nat.{ℕ, zero, suc, _*_}
 use mathlib.Core.List.{List, [], _∷_, _++_}
 use mathlib.Core.Bool.{not, cond}
-use lib.ListN.{length, getD, drop}
+use lib.ListN.{length, drop}
 use lib.Dec.{ltb, eqb}
-use Rattle.refusal.specs.Number.{truncated, badMagic, badCounts, tooManyTurns, trailingBytes, bufferTooSmall}
+use Rattle.refusal.specs.Number.{truncated, badMagic, trailingBytes, bufferTooSmall}
 use Rattle.refusal.specs.Cause.{Cause, _when_, firstOf}
 use Rattle.wire.specs.Number.{valueAt}
-use Rattle.wire.specs.Mark.{sheetMark, opensWith}
+use Rattle.wire.specs.Mark.{opensWith}
 use Rattle.turns.specs.declared.Turn.{Turn}
 use Rattle.turns.specs.declared.Counts.{Counts}
-use Rattle.turns.specs.Turn.{rowOf, outsideRange}
+use Rattle.turns.specs.Turn.{rowNumbers, rows, outsideRange}
+use Rattle.sheet.specs.declared.kind.Kind.{Kind}
 use Rattle.sheet.specs.declared.record.Cursor.{Cursor}
-use Rattle.sheet.specs.declared.reader.Header.{Header}
-use Rattle.sheet.specs.declared.reader.Header.the-variants.{Found, Refused}
+use Rattle.sheet.specs.declared.header.Header.{Header}
+use Rattle.sheet.specs.declared.header.Header.the-variants.{Found, Refused}
 use Rattle.sheet.specs.declared.reader.ReadAnswer.{ReadAnswer}
+use Rattle.sheet.specs.Kind.{garage}
 use Rattle.sheet.specs.Record.{recordCauses, turnAt, cursorAfter, firstCursor}
 
 -- the bytes before the first record
 abbrev pub headerBytes : ℕ
 headerBytes = 7
-
--- the most groomers, of which there is at least one
-abbrev pub mostGroomers : ℕ
-mostGroomers = 16
-
--- the most slopes, likewise
-abbrev pub mostSlopes : ℕ
-mostSlopes = 120
-
--- the most turns, of which there may be none
-abbrev pub mostTurns : ℕ
-mostTurns = 400
 
 -- a header's counts: groomers in byte 3, slopes in byte 4
 abbrev pub countsIn : List ℕ → Counts
@@ -42,63 +32,43 @@ abbrev pub turnCount : List ℕ → ℕ
 turnCount s = valueAt s 5 2
 
 -- what may be wrong with the counts of a header, in the order of refusal
-unfoldable pub countCauses : Counts → ℕ → List Cause
-countCauses counts turns =
-    badCounts when outsideRange (counts .groomers) mostGroomers
-    ∷ badCounts when outsideRange (counts .slopes) mostSlopes
-    ∷ tooManyTurns when ltb mostTurns turns
+unfoldable pub countCauses : Kind → Counts → ℕ → List Cause
+countCauses K counts turns =
+    K .refusals .counts when outsideRange (counts .groomers) (K .most .groomers)
+    ∷ K .refusals .counts when outsideRange (counts .slopes) (K .most .slopes)
+    ∷ K .refusals .turns when ltb (K .most .turns) turns
     ∷ []
 
 -- what may be wrong with a header: too few bytes, another mark, then its counts
-unfoldable pub headerCauses : List ℕ → List Cause
-headerCauses s =
+unfoldable pub headerCauses : Kind → List ℕ → List Cause
+headerCauses K s =
     truncated when ltb (length s) headerBytes
-    ∷ badMagic when not (opensWith sheetMark s)
-    ∷ countCauses (countsIn s) (turnCount s)
+    ∷ badMagic when not (opensWith (K .mark) s)
+    ∷ countCauses K (countsIn s) (turnCount s)
 
 -- a header's answer, by its case: the counts, or the number of the first cause
 abbrev pub headerAnswer : List Cause → List ℕ → Header
 headerAnswer causes s = let f = firstOf causes in cond (eqb f 0) (Found (countsIn s) (turnCount s)) (Refused f)
 
 -- reading the header: its counts and turns, or the first cause
-unfoldable pub headerOf : List ℕ → Header
-headerOf s = headerAnswer (headerCauses s) s
+unfoldable pub headerOf : Kind → List ℕ → Header
+headerOf K s = headerAnswer (headerCauses K s) s
 
 -- the same once the mark is right
-unfoldable pub countsHeader : List ℕ → Header
-countsHeader s = headerAnswer (countCauses (countsIn s) (turnCount s)) s
+unfoldable pub countsHeader : Kind → List ℕ → Header
+countsHeader K s = headerAnswer (countCauses K (countsIn s) (turnCount s)) s
 
 -- what may be wrong with the next k records, one after another, and then behind the last
-unfoldable pub recordsCauses : ℕ → List ℕ → Counts → Cursor → List Cause
-recordsCauses zero s limits c = trailingBytes when ltb (c .at) (length s) ∷ []
-recordsCauses (suc k) s limits c = recordCauses s limits c ++ recordsCauses k s limits (cursorAfter s c)
+unfoldable pub recordsCauses : Kind → ℕ → List ℕ → Counts → Cursor → List Cause
+recordsCauses K zero s limits c = trailingBytes when ltb (c .at) (length s) ∷ []
+recordsCauses K (suc k) s limits c = recordCauses K s limits c ++ recordsCauses K k s limits (cursorAfter s c)
 
 -- the turns of the next k records
 unfoldable pub turnsFrom : ℕ → List ℕ → Cursor → List Turn
 turnsFrom zero s c = []
 turnsFrom (suc k) s c = turnAt s c ∷ turnsFrom k s (cursorAfter s c)
 
--- turns in memory, five numbers each
-unfoldable pub rows : List Turn → List ℕ
-rows [] = []
-rows (t ∷ ts) = rowOf t ++ rows ts
-
--- turn i of a table: its five numbers
-abbrev pub turnIn : List ℕ → ℕ → Turn
-turnIn table i =
-    record {
-      slope = getD table (i * 5) 0;
-      groomer = getD table (i * 5 + 1) 0;
-      start = getD table (i * 5 + 2) 0;
-      length = getD table (i * 5 + 3) 0;
-      worth = getD table (i * 5 + 4) 0;
-    }
-
--- ---- a sheet: what may be wrong with it, its turns, its table
-
--- all causes of a sheet, in the order of its bytes
-unfoldable pub sheetCauses : List ℕ → List Cause
-sheetCauses s = headerCauses s ++ recordsCauses (turnCount s) s (countsIn s) firstCursor
+-- ---- a sheet: its turns and its table, and what may be wrong with it as a sheet of a kind
 
 -- the turns of a sheet
 unfoldable pub turnsOf : List ℕ → List Turn
@@ -108,11 +78,15 @@ turnsOf s = turnsFrom (turnCount s) s firstCursor
 unfoldable pub tableOf : List ℕ → List ℕ
 tableOf s = rows (turnsOf s)
 
--- ---- the reader: it wants five places a turn
+-- all causes, in the order of its bytes
+unfoldable pub causesFor : Kind → List ℕ → List Cause
+causesFor K s = headerCauses K s ++ recordsCauses K (turnCount s) s (countsIn s) firstCursor
+
+-- ---- the reader: it wants a row of places a turn
 
 -- and last the lent table
-unfoldable pub readCauses : List ℕ → ℕ → List Cause
-readCauses s places = sheetCauses s ++ bufferTooSmall when ltb places (5 * turnCount s) ∷ []
+unfoldable pub readCausesFor : Kind → List ℕ → ℕ → List Cause
+readCausesFor K s places = causesFor K s ++ bufferTooSmall when ltb places (rowNumbers * turnCount s) ∷ []
 
 -- what is returned, and what the lent table holds then
 pub record Outcome : Type 0 where
@@ -123,21 +97,43 @@ pub record Outcome : Type 0 where
 abbrev pub outcome : ReadAnswer → List ℕ → Outcome
 outcome answer table = record { answer = answer; table = table }
 
+-- numbers at the front of a lent table, then what was there
+abbrev pub atFront : List ℕ → List ℕ → List ℕ
+atFront numbers lent = numbers ++ drop (length numbers) lent
+
 -- a refusal returns its number and no counts
-abbrev pub refusedWith : ℕ → ReadAnswer
-refusedWith k = record { refusal = k; groomers = 0; slopes = 0; turns = 0 }
+abbrev pub readRefused : ℕ → ReadAnswer
+readRefused k = record { refusal = k; groomers = 0; slopes = 0; turns = 0 }
 
 -- the answer of a sheet that is not refused: its header's counts
 abbrev pub readAnswer : List ℕ → ReadAnswer
 readAnswer s = record { refusal = 0; groomers = countsIn s .groomers; slopes = countsIn s .slopes; turns = turnCount s }
 
 -- the answer where the table has places for every sheet: no cause but the sheet's own
-unfoldable pub answerOf : List ℕ → ReadAnswer
-answerOf s = let f = firstOf (sheetCauses s) in cond (eqb f 0) (readAnswer s) (refusedWith f)
+unfoldable pub answerFor : Kind → List ℕ → ReadAnswer
+answerFor K s = let f = firstOf (causesFor K s) in cond (eqb f 0) (readAnswer s) (readRefused f)
 
 -- on success the table, then what was there; on a refusal all as before
-unfoldable pub readOf : List ℕ → List ℕ → Outcome
-readOf s lent =
-    let f = firstOf (readCauses s (length lent)) in
+unfoldable pub readFor : Kind → List ℕ → List ℕ → Outcome
+readFor K s lent =
+    let f = firstOf (readCausesFor K s (length lent)) in
     let table = tableOf s in
-    cond (eqb f 0) (outcome (readAnswer s) (table ++ drop (length table) lent)) (outcome (refusedWith f) lent)
+    cond (eqb f 0) (outcome (readAnswer s) (atFront table lent)) (outcome (readRefused f) lent)
+
+-- ---- the garage's sheet
+
+-- its causes
+unfoldable pub sheetCauses : List ℕ → List Cause
+sheetCauses = causesFor garage
+
+-- with the lent table's
+unfoldable pub readCauses : List ℕ → ℕ → List Cause
+readCauses = readCausesFor garage
+
+-- its answer
+unfoldable pub answerOf : List ℕ → ReadAnswer
+answerOf = answerFor garage
+
+-- reading it
+unfoldable pub readOf : List ℕ → List ℕ → Outcome
+readOf = readFor garage

@@ -1,7 +1,7 @@
 -- One record of a sheet, read after the turn before it. Assumes nothing.
 use Prim.Native.Nat.{ℕ, _+_, _*_, _/_, _%_}
-use mathlib.Core.List.{List, [], _∷_}
-use mathlib.Core.Bool.{Bool, true, false, not, cond}
+use mathlib.Core.List.{List, _∷_}
+use mathlib.Core.Bool.{Bool, true, false, not, _&&_, cond}
 use lib.ListN.{length, getD}
 use lib.Dec.{ltb, leb, eqb}
 use Rattle.refusal.specs.Number.{truncated, badMap}
@@ -10,17 +10,19 @@ use Rattle.wire.specs.Number.{valueAt}
 use Rattle.turns.specs.declared.Turn.{Turn}
 use Rattle.turns.specs.declared.Counts.{Counts}
 use Rattle.turns.specs.Turn.{turnCauses}
+use Rattle.sheet.specs.declared.kind.Maps.{Maps}
+use Rattle.sheet.specs.declared.kind.Kind.{Kind}
 use Rattle.sheet.specs.declared.record.Cursor.{Cursor}
 use Rattle.sheet.specs.declared.record.Next.{Next}
 use Rattle.sheet.specs.declared.record.Next.the-variants.{Read, Refused}
 
--- a map with every field
-abbrev pub fullMap : ℕ
-fullMap = 31
-
 -- the bytes of the fields that a map names: slope 1, groomer 1, start 2, length 2, worth 2
 abbrev pub widthOf : ℕ → ℕ
 widthOf m = m % 2 + m / 2 % 2 + 2 * (m / 4 % 2) + 2 * (m / 8 % 2) + 2 * (m / 16 % 2)
+
+-- the most bytes of a record: its map and every field
+abbrev pub recordBytes : ℕ
+recordBytes = 9
 
 -- a field of so many bytes where its bit stands, else the value of the turn before
 unfoldable pub field : ℕ → List ℕ → ℕ → ℕ → ℕ → ℕ
@@ -37,9 +39,9 @@ turnFrom s at m old =
       worth = field 2 s (at + m % 2 + m / 2 % 2 + 2 * (m / 4 % 2) + 2 * (m / 8 % 2)) (m / 16 % 2) (old .worth);
     }
 
--- a map that a record may not have: one above the full map, and in the first record any other than the full map
-unfoldable pub badMapFor : Bool → ℕ → Bool
-badMapFor first m = cond (ltb fullMap m) true (cond first (not (eqb m fullMap)) false)
+-- a map that a record may not have: one above the full map; in the first record also any but the least that it may have there and the full map
+unfoldable pub badMapFor : Maps → Bool → ℕ → Bool
+badMapFor maps first m = cond (ltb (maps .full) m) true (cond first (not (eqb m (maps .first)) && not (eqb m (maps .full))) false)
 
 -- the map of the record at a cursor
 abbrev pub mapAt : List ℕ → Cursor → ℕ
@@ -58,16 +60,16 @@ unfoldable pub cursorAfter : List ℕ → Cursor → Cursor
 cursorAfter s c = record { at = endAt s c; first = false; prev = turnAt s c }
 
 -- what may be wrong with the record at a cursor, in the order of refusal: no map, a bad map, fields cut short, then the values
-unfoldable pub recordCauses : List ℕ → Counts → Cursor → List Cause
-recordCauses s limits c =
+unfoldable pub recordCauses : Kind → List ℕ → Counts → Cursor → List Cause
+recordCauses K s limits c =
     truncated when leb (length s) (c .at)
-    ∷ badMap when badMapFor (c .first) (mapAt s c)
+    ∷ badMap when badMapFor (K .maps) (c .first) (mapAt s c)
     ∷ truncated when ltb (length s) (endAt s c)
-    ∷ turnCauses limits (turnAt s c)
+    ∷ turnCauses (K .refusals) limits (turnAt s c)
 
 -- the reader's next answer, by its case: the turn and the cursor behind it, or the number of the first cause
-unfoldable pub nextOf : List ℕ → Counts → Cursor → Next
-nextOf s limits c = let f = firstOf (recordCauses s limits c) in cond (eqb f 0) (Read (turnAt s c) (cursorAfter s c)) (Refused f)
+unfoldable pub nextOf : Kind → List ℕ → Counts → Cursor → Next
+nextOf K s limits c = let f = firstOf (recordCauses K s limits c) in cond (eqb f 0) (Read (turnAt s c) (cursorAfter s c)) (Refused f)
 
 -- before the first record: the seven bytes of the header are read, and there is no turn to carry
 unfoldable pub firstCursor : Cursor

@@ -1,30 +1,24 @@
 // Reading a whole sheet.
 ghost use mathlib.Core.Path.{_≡_};
 ghost use Prim.Native.Nat.{_+_, _*_, _≤_, _<_};
-ghost use mathlib.Core.List.{_++_};
-ghost use lib.ListN.{length, drop};
+ghost use lib.ListN.{length};
 ghost use Rattle.refusal.specs.Cause.{firstOf};
-ghost use Rattle.sheet.specs.Record.{firstCursor};
-ghost use Rattle.sheet.specs.Read.{headerBytes, countsHeader, headerOf, recordsCauses, turnsFrom, rows, tableOf, refusedWith, answerOf, readOf, outcome};
 ghost use Rattle.wire.specs.Number.{puts};
-ghost use Rattle.turns.specs.Turn.{rowOf};
+ghost use Rattle.turns.specs.Turn.{rowNumbers, rowOf, rows, Numbered};
+ghost use Rattle.sheet.specs.Kind.{tablePlaces, Sound};
+ghost use Rattle.sheet.specs.Record.{firstCursor};
+ghost use Rattle.sheet.specs.Read.{recordsCauses, turnsFrom, tableOf, atFront, readRefused, answerFor, answerOf, readFor, readOf, outcome};
+use super::header::HEADER_BYTES;
+use super::header::Header;
+use super::header::read_header;
+use super::kind::Kind;
+use super::kind::TABLE_PLACES;
+use super::kind::garage;
 use super::record::Cursor;
 use super::record::Next;
 use turns::Counts;
+use turns::ROW_NUMBERS;
 use turns::Turn;
-
-const HEADER_BYTES: usize = 7;
-
-pub const MOST_GROOMERS: u16 = 16;
-
-pub const MOST_SLOPES: u16 = 120;
-
-pub const MOST_TURNS: u16 = 400;
-
-pub enum Header {
-    Found(Counts, u16),
-    Refused(u8),
-}
 
 // What the reader returns: a refusal, 0 if none, and the header's counts, all 0 on a refusal.
 #[repr(C)]
@@ -33,45 +27,6 @@ pub struct ReadAnswer {
     pub groomers: u16,
     pub slopes: u16,
     pub turns: u16,
-}
-
-fn read_header(s: &[u8]) -> Header
-    ensures { λ r. ⌜ r ≡ headerOf (now (s .entry)) ⌝ }
-{
-    if s.len() < HEADER_BYTES {
-        return Header::Refused(refusal::TRUNCATED);
-    }
-    if wire::opens_with(s, wire::GRM) {
-        read_counts(s)
-    } else {
-        Header::Refused(refusal::BAD_MAGIC)
-    }
-}
-
-// The counts in the header of a sheet whose mark is right.
-fn read_counts(s: &[u8]) -> Header
-    requires { ⌜ headerBytes ≤ length (now s) ⌝ }
-    ensures { λ r. ⌜ r ≡ countsHeader (now (s .entry)) ⌝ }
-{
-    let groomers = wire::byte_at(s, 3);
-    if turns::outside_range(groomers, MOST_GROOMERS) {
-        return Header::Refused(refusal::BAD_COUNTS);
-    }
-    let slopes = wire::byte_at(s, 4);
-    if turns::outside_range(slopes, MOST_SLOPES) {
-        return Header::Refused(refusal::BAD_COUNTS);
-    }
-    let n = wire::word_at(s, 5);
-    if MOST_TURNS < n {
-        return Header::Refused(refusal::TOO_MANY_TURNS);
-    }
-    Header::Found(
-        Counts {
-            groomers: groomers,
-            slopes: slopes,
-        },
-        n,
-    )
 }
 
 // The cursor before the first record.
@@ -92,10 +47,10 @@ pub fn first_cursor() -> Cursor
     }
 }
 
-// A turn's five numbers from a place on.
-fn put_row(table: &mut [u16], at: usize, t: Turn)
-    requires { ⌜ at + 5 ≤ length (now table) ⌝ }
-    ensures { λ _. ⌜ now (table .exit) ≡ puts (now (table .entry)) at (rowOf t) ⌝ }
+// A turn's row from a place on; the place behind it.
+fn put_turn(table: &mut [u16], at: usize, t: Turn) -> usize
+    requires { ⌜ at + rowNumbers ≤ length (now table) ⌝ }
+    ensures { λ r. ⌜ (r ≡ at + rowNumbers) × (now (table .exit) ≡ puts (now (table .entry)) at (rowOf t)) ⌝ }
 {
     let a1 = at + 1;
     let a2 = a1 + 1;
@@ -106,24 +61,25 @@ fn put_row(table: &mut [u16], at: usize, t: Turn)
     table[a2] = t.start;
     table[a3] = t.length;
     table[a4] = t.worth;
+    at + ROW_NUMBERS
 }
 
-// Goes through the next n records and puts each turn's numbers into the table as it is read. The
-// first cause to refuse a record or what follows them, 0 if none.
-fn read_records(s: &[u8], n: u16, limits: Counts, from: Cursor, table: &mut [u16]) -> u8
-    requires { ⌜ 5 * n ≤ length (now table) ⌝ }
-    ensures { λ r. ⌜ (r ≡ firstOf (recordsCauses n (now (s .entry)) limits from)) × (r ≡ 0 → now (table .exit) ≡ puts (now (table .entry)) 0 (rows (turnsFrom n (now (s .entry)) from))) ⌝ }
+// Goes through the next n records and puts each turn's row into the table as it is read. The first
+// cause to refuse a record or what follows them, 0 if none.
+fn read_records(kind: Kind, s: &[u8], n: u16, limits: Counts, from: Cursor, table: &mut [u16]) -> u8
+    requires { ⌜ Numbered (kind .refusals) × (rowNumbers * n ≤ length (now table)) ⌝ }
+    ensures { λ r. ⌜ r ≡ firstOf (recordsCauses kind n (now (s .entry)) limits from) ⌝ }
+    ensures { λ r. ⌜ (r ≡ 0 → now (table .exit) ≡ puts (now (table .entry)) 0 (rows (turnsFrom n (now (s .entry)) from))) ⌝ }
 {
     let mut c = from;
     let mut left = n;
     let mut at: usize = 0;
     while 0 < left {
-        match c.next(s, limits) {
+        match c.next(kind, s, limits) {
             Next::Read(t, next) => {
-                put_row(&mut *table, at, t);
+                at = put_turn(&mut *table, at, t);
                 c = next;
                 left -= 1;
-                at += 5;
             }
             Next::Refused(fault) => {
                 return fault;
@@ -139,7 +95,7 @@ fn read_records(s: &[u8], n: u16, limits: Counts, from: Cursor, table: &mut [u16
 }
 
 fn refused(k: u8) -> ReadAnswer
-    ensures { λ r. ⌜ r ≡ refusedWith k ⌝ }
+    ensures { λ r. ⌜ r ≡ readRefused k ⌝ }
 {
     ReadAnswer {
         refusal: k,
@@ -149,18 +105,19 @@ fn refused(k: u8) -> ReadAnswer
     }
 }
 
-// Reads any bytes as a sheet into a table with places for every sheet. It is written as the records
-// are read: after a refusal nothing is said of what it holds.
-pub fn read_table(s: &[u8], table: &mut [u16]) -> ReadAnswer
-    requires { ⌜ 2000 ≤ length (now table) ⌝ }
-    ensures { λ r. ⌜ (r ≡ answerOf (now (s .entry))) × (r .refusal ≡ 0 → now (table .exit) ≡ tableOf (now (s .entry)) ++ drop (length (tableOf (now (s .entry)))) (now (table .entry))) ⌝ }
+// Reads any bytes as a sheet of a kind into a table with places for every sheet. No entry: the table
+// is written as the records are read, and after a refusal nothing is said of what it holds. It is for
+// those who own their table and look at it only where nothing is refused.
+pub fn read_table_of(kind: Kind, s: &[u8], table: &mut [u16]) -> ReadAnswer
+    requires { ⌜ Sound kind × (tablePlaces ≤ length (now table)) ⌝ }
+    ensures { λ r. ⌜ (r ≡ answerFor kind (now (s .entry))) × (r .refusal ≡ 0 → now (table .exit) ≡ atFront (tableOf (now (s .entry))) (now (table .entry))) ⌝ }
 {
-    let h = read_header(s);
+    let h = read_header(kind, s);
     match h {
         Header::Refused(fault) => refused(fault),
         Header::Found(limits, n) => {
             let c = first_cursor();
-            let fault = read_records(s, n, limits, c, &mut *table);
+            let fault = read_records(kind, s, n, limits, c, &mut *table);
             if fault != 0 {
                 return refused(fault);
             }
@@ -174,8 +131,16 @@ pub fn read_table(s: &[u8], table: &mut [u16]) -> ReadAnswer
     }
 }
 
+// The garage's sheet, likewise, and likewise no entry.
+pub fn read_table(s: &[u8], table: &mut [u16]) -> ReadAnswer
+    requires { ⌜ tablePlaces ≤ length (now table) ⌝ }
+    ensures { λ r. ⌜ (r ≡ answerOf (now (s .entry))) × (r .refusal ≡ 0 → now (table .exit) ≡ atFront (tableOf (now (s .entry))) (now (table .entry))) ⌝ }
+{
+    read_table_of(garage(), s, &mut *table)
+}
+
 // Numbers copied to the front of a table.
-fn put_front(table: &mut [u16], numbers: &[u16])
+fn put_numbers(table: &mut [u16], numbers: &[u16])
     requires { ⌜ length (now numbers) ≤ length (now table) ⌝ }
     ensures { λ _. ⌜ now (table .exit) ≡ puts (now (table .entry)) 0 (now (numbers .entry)) ⌝ }
 {
@@ -186,20 +151,29 @@ fn put_front(table: &mut [u16], numbers: &[u16])
     }
 }
 
-// Reads any bytes as a sheet into any lent table. Whether the last record is right is known only at
-// the end, so the turns go into a table of its own first: the lent one is not touched on a refusal.
-pub fn read(s: &[u8], table: &mut [u16]) -> ReadAnswer
-    ensures { λ r. ⌜ outcome r (now (table .exit)) ≡ readOf (now (s .entry)) (now (table .entry)) ⌝ }
+// Reads any bytes as a sheet of a kind into any lent table. Whether the last record is right is known
+// only at the end, so the turns go into a table of its own first: the lent one is not touched on a
+// refusal.
+pub fn read_as(kind: Kind, s: &[u8], table: &mut [u16]) -> ReadAnswer
+    requires { ⌜ Sound kind ⌝ }
+    ensures { λ r. ⌜ outcome r (now (table .exit)) ≡ readFor kind (now (s .entry)) (now (table .entry)) ⌝ }
 {
-    let mut own = [0u16; 2000];
-    let r = read_table(s, &mut own);
+    let mut own = [0u16; TABLE_PLACES];
+    let r = read_table_of(kind, s, &mut own);
     if r.refusal != 0 {
         return r;
     }
-    let end = 5 * (r.turns as usize);
+    let end = ROW_NUMBERS * (r.turns as usize);
     if table.len() < end {
         return refused(refusal::BUFFER_TOO_SMALL);
     }
-    put_front(&mut *table, &own[..end]);
+    put_numbers(&mut *table, &own[..end]);
     r
+}
+
+// Reads any bytes as the garage's sheet, likewise.
+pub fn read(s: &[u8], table: &mut [u16]) -> ReadAnswer
+    ensures { λ r. ⌜ outcome r (now (table .exit)) ≡ readOf (now (s .entry)) (now (table .entry)) ⌝ }
+{
+    read_as(garage(), s, &mut *table)
 }

@@ -3,11 +3,10 @@ ghost use mathlib.Core.Path.{_≡_};
 ghost use Prim.Native.Nat.{_+_, _*_, _≤_, _<_};
 ghost use lib.ListN.{length};
 ghost use Rattle.sheet.specs.Record.{widthOf, field, turnFrom, badMapFor, nextOf};
+use super::kind::Kind;
+use super::kind::Maps;
 use turns::Counts;
 use turns::Turn;
-
-// A map with every field, as the first record has it.
-pub const FULL_MAP: u8 = 31;
 
 // Where the next record starts, and the turn before it.
 pub struct Cursor {
@@ -65,24 +64,36 @@ fn turn_from(s: &[u8], at: usize, m: u8, old: Turn) -> Turn
 }
 
 // Whether a record may not have this map.
-fn bad_map_for(first: bool, m: u8) -> bool
-    ensures { λ r. ⌜ r ≡ badMapFor first m ⌝ }
+fn bad_map_for(maps: Maps, first: bool, m: u8) -> bool
+    ensures { λ r. ⌜ r ≡ badMapFor maps first m ⌝ }
 {
-    FULL_MAP < m || first && m != FULL_MAP
+    if maps.full < m {
+        return true;
+    }
+    if first {
+        if m == maps.first {
+            false
+        } else {
+            m != maps.full
+        }
+    } else {
+        false
+    }
 }
 
 impl Cursor {
     // The next turn and where the record after it starts, or the first cause to refuse this record.
-    pub fn next(self, s: &[u8], limits: Counts) -> Next
-        ensures { λ r. ⌜ r ≡ nextOf (now (s .entry)) limits self ⌝ }
+    pub fn next(self, kind: Kind, s: &[u8], limits: Counts) -> Next
+        ensures { λ r. ⌜ r ≡ nextOf kind (now (s .entry)) limits self ⌝ }
     {
         let at = self.at;
         if s.len() <= at {
             return Next::Refused(refusal::TRUNCATED);
         }
         let m = s[at];
+        let maps = kind.maps;
         let first = self.first;
-        if bad_map_for(first, m) {
+        if bad_map_for(maps, first, m) {
             return Next::Refused(refusal::BAD_MAP);
         }
         let fields = at + 1;
@@ -91,7 +102,8 @@ impl Cursor {
             return Next::Refused(refusal::TRUNCATED);
         }
         let t = turn_from(s, fields, m, self.prev);
-        let fault = turns::turn_fault(t, limits);
+        let refusals = kind.refusals;
+        let fault = turns::turn_fault(t, limits, refusals);
         if fault != 0 {
             return Next::Refused(fault);
         }

@@ -1,34 +1,34 @@
 -- A turn's first fault by its cases, each premise in the form in which the code's calls and tests leave it. Assumes nothing.
 use mathlib.Core.Path.{_≡_}
 use mathlib.Core.Bool.{Bool, true, false}
-use Prim.Native.Nat.{ℕ}
-use Rattle.refusal.specs.Number.{badSlope, badGroomer, badTime, badWorth}
+use Rattle.refusal.specs.Number.{badTime, badWorth}
 use Rattle.refusal.specs.Cause.{firstOf}
 use Rattle.turns.specs.declared.Turn.{Turn}
 use Rattle.turns.specs.declared.Counts.{Counts}
+use Rattle.turns.specs.declared.Refusals.{Refusals}
 use Rattle.turns.specs.Turn.{outsideRange, pastShift, turnCauses, mostWorth}
 
-module _ (limits : Counts) (t : Turn) {a : Bool} (p : a ≡ outsideRange (t .slope) (limits .slopes)) where
-  pub fault-slope : a ≡ true → badSlope ≡ firstOf (turnCauses limits t)
+module _ (refusals : Refusals) (limits : Counts) (t : Turn) {a : Bool} (p : a ≡ outsideRange (t .slope) (limits .slopes)) where
+  pub fault-slope : a ≡ true → refusals .slope ≡ firstOf (turnCauses refusals limits t)
   unfolding firstOf turnCauses
   fault-slope h = rw (← p, h)
 
   module _ {b : Bool} (f : a ≡ false) (q : b ≡ outsideRange (t .groomer) (limits .groomers)) where
-    pub fault-groomer : b ≡ true → badGroomer ≡ firstOf (turnCauses limits t)
+    pub fault-groomer : b ≡ true → refusals .groomer ≡ firstOf (turnCauses refusals limits t)
     unfolding firstOf turnCauses
     fault-groomer h = rw (← p, f, ← q, h)
 
     module _ {c : Bool} (g : b ≡ false) (r : c ≡ pastShift (t .start) (t .length)) where
-      pub fault-time : c ≡ true → badTime ≡ firstOf (turnCauses limits t)
+      pub fault-time : c ≡ true → badTime ≡ firstOf (turnCauses refusals limits t)
       unfolding firstOf turnCauses
       fault-time h = rw (← p, f, ← q, g, ← r, h)
 
       module _ {d : Bool} (i : c ≡ false) (s : d ≡ outsideRange (t .worth) mostWorth) where
-        pub fault-worth : d ≡ true → badWorth ≡ firstOf (turnCauses limits t)
+        pub fault-worth : d ≡ true → badWorth ≡ firstOf (turnCauses refusals limits t)
         unfolding firstOf turnCauses
         fault-worth h = rw (← p, f, ← q, g, ← r, i, ← s, h)
 
-        pub fault-none : d ≡ false → 0 ≡ firstOf (turnCauses limits t)
+        pub fault-none : d ≡ false → 0 ≡ firstOf (turnCauses refusals limits t)
         unfolding firstOf turnCauses
         fault-none h = rw (← p, f, ← q, g, ← r, i, ← s, h)
 

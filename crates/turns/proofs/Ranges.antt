@@ -6,12 +6,13 @@ use mathlib.Core.Logic.{_⊎_, inl, inr, _↔_}
 use native.Mathlib.Omega.{arith}
 use lib.Dec.{ltb, eqb}
 use borrow.Author.Tests.{eqb-true, eqb-false, ltb-true, ltb-false, eq-eqb, ne-eqb, lt-ltb, le-ltb}
-use Rattle.refusal.specs.Number.{badSlope, badGroomer, badTime, badWorth}
+use Rattle.refusal.specs.Number.{badTime, badWorth}
 use Rattle.refusal.specs.Cause.{firstOf, _when_}
-use Rattle.refusal.proofs.Order.{clear-cons}
+use Rattle.refusal.proofs.Order.{numbered, clear-cons}
 use Rattle.turns.specs.declared.Turn.{Turn}
 use Rattle.turns.specs.declared.Counts.{Counts}
-use Rattle.turns.specs.Turn.{outsideRange, pastShift, turnCauses, shiftMinutes, mostWorth, InRange}
+use Rattle.turns.specs.declared.Refusals.{Refusals}
+use Rattle.turns.specs.Turn.{outsideRange, pastShift, turnCauses, shiftMinutes, mostWorth, Numbered, InRange}
 
 -- ---- each test: a number is 0, or another is above its bound
 
@@ -61,37 +62,44 @@ within-iff start len = (either-false len (start + len) shiftMinutes, λ h. false
 
 -- ---- a turn
 
-pub in-range-fine : (limits : Counts) (t : Turn) → InRange limits t → firstOf (turnCauses limits t) ≡ 0
-unfolding firstOf turnCauses
-in-range-fine limits t r =
-    rw (
-      inside-iff (t .slope) (limits .slopes) .1 (r .slope-from, r .slope-to),
-      inside-iff (t .groomer) (limits .groomers) .1 (r .groomer-from, r .groomer-to),
-      within-iff (t .start) (t .length) .1 (r .length-from, r .end-to),
-      inside-iff (t .worth) mostWorth .1 (r .worth-from, r .worth-to),
-    )
+module _ (refusals : Refusals) (limits : Counts) (t : Turn) where
+  pub in-range-fine : InRange limits t → firstOf (turnCauses refusals limits t) ≡ 0
+  unfolding firstOf turnCauses
+  in-range-fine r =
+      rw (
+        inside-iff (t .slope) (limits .slopes) .1 (r .slope-from, r .slope-to),
+        inside-iff (t .groomer) (limits .groomers) .1 (r .groomer-from, r .groomer-to),
+        within-iff (t .start) (t .length) .1 (r .length-from, r .end-to),
+        inside-iff (t .worth) mostWorth .1 (r .worth-from, r .worth-to),
+      )
 
-pub fine-in-range : (limits : Counts) (t : Turn) → firstOf (turnCauses limits t) ≡ 0 → InRange limits t
-unfolding turnCauses
-fine-in-range limits t e =
-    let a = clear-cons (badSlope when outsideRange (t .slope) (limits .slopes)) _ (omega arith) e in
-    let b = clear-cons (badGroomer when outsideRange (t .groomer) (limits .groomers)) _ (omega arith) (a .1) in
-    let c = clear-cons (badTime when pastShift (t .start) (t .length)) _ (omega arith) (b .1) in
-    let d = clear-cons (badWorth when outsideRange (t .worth) mostWorth) _ (omega arith) (c .1) in
-    let slope = inside-iff (t .slope) (limits .slopes) .0 (a .0) in
-    let groomer = inside-iff (t .groomer) (limits .groomers) .0 (b .0) in
-    let time = within-iff (t .start) (t .length) .0 (c .0) in
-    let worth = inside-iff (t .worth) mostWorth .0 (d .0) in
-    record {
-      slope-from = slope .0;
-      slope-to = slope .1;
-      groomer-from = groomer .0;
-      groomer-to = groomer .1;
-      length-from = time .0;
-      end-to = time .1;
-      worth-from = worth .0;
-      worth-to = worth .1;
-    }
+  -- the other way if no refusal is 0
+  module _ (n : Numbered refusals) where
+    pub turn-numbered : numbered (turnCauses refusals limits t) ≡ true
+    unfolding turnCauses
+    turn-numbered = rw (lt-ltb 0 (refusals .slope) (n .slope), lt-ltb 0 (refusals .groomer) (n .groomer))
 
-pub fine-iff : (limits : Counts) (t : Turn) → (firstOf (turnCauses limits t) ≡ 0) ↔ InRange limits t
-fine-iff limits t = (fine-in-range limits t, in-range-fine limits t)
+    pub fine-in-range : firstOf (turnCauses refusals limits t) ≡ 0 → InRange limits t
+    unfolding turnCauses
+    fine-in-range e =
+        let a = clear-cons (refusals .slope when outsideRange (t .slope) (limits .slopes)) _ (omega (arith, n .slope)) e in
+        let b = clear-cons (refusals .groomer when outsideRange (t .groomer) (limits .groomers)) _ (omega (arith, n .groomer)) (a .1) in
+        let c = clear-cons (badTime when pastShift (t .start) (t .length)) _ (omega arith) (b .1) in
+        let d = clear-cons (badWorth when outsideRange (t .worth) mostWorth) _ (omega arith) (c .1) in
+        let slope = inside-iff (t .slope) (limits .slopes) .0 (a .0) in
+        let groomer = inside-iff (t .groomer) (limits .groomers) .0 (b .0) in
+        let time = within-iff (t .start) (t .length) .0 (c .0) in
+        let worth = inside-iff (t .worth) mostWorth .0 (d .0) in
+        record {
+          slope-from = slope .0;
+          slope-to = slope .1;
+          groomer-from = groomer .0;
+          groomer-to = groomer .1;
+          length-from = time .0;
+          end-to = time .1;
+          worth-from = worth .0;
+          worth-to = worth .1;
+        }
+
+    pub fine-iff : (firstOf (turnCauses refusals limits t) ≡ 0) ↔ InRange limits t
+    fine-iff = (fine-in-range, in-range-fine)

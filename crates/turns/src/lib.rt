@@ -1,12 +1,17 @@
 // A turn: one groomer on one slope for some minutes, and what that is worth.
 ghost use mathlib.Core.Path.{_≡_};
+ghost use Prim.Native.Nat.{_+_, _*_, _≤_};
+ghost use lib.ListN.{length};
 ghost use Rattle.refusal.specs.Cause.{firstOf};
-ghost use Rattle.turns.specs.Turn.{outsideRange, pastShift, turnCauses};
+ghost use Rattle.turns.specs.Turn.{rowNumbers, turnIn, outsideRange, pastShift, turnCauses};
 
 // A shift's last minute, as an end, and the greatest worth of a turn.
-const SHIFT_MINUTES: u32 = 960;
+pub const SHIFT_MINUTES: u32 = 960;
 
 const MOST_WORTH: u16 = 60000;
+
+// Numbers a turn in a table.
+pub const ROW_NUMBERS: usize = 5;
 
 pub struct Turn {
     pub slope: u16,
@@ -22,11 +27,35 @@ pub struct Counts {
     pub slopes: u16,
 }
 
-// Whether x is outside 1 to top.
-pub fn outside_range(x: u16, top: u16) -> bool
+// The refusals that go by the kind of sheet: of its counts, of too many turns, of a turn's slope and
+// of its groomer.
+pub struct Refusals {
+    pub counts: u8,
+    pub turns: u8,
+    pub slope: u8,
+    pub groomer: u8,
+}
+
+// Turn i of a table.
+pub fn turn_at(table: &[u16], i: usize) -> Turn
+    requires { ⌜ rowNumbers * i + rowNumbers ≤ length (now table) ⌝ }
+    ensures { λ r. ⌜ r ≡ turnIn (now (table .entry)) i ⌝ }
+{
+    let at = i * ROW_NUMBERS;
+    Turn {
+        slope: table[at],
+        groomer: table[at + 1],
+        start: table[at + 2],
+        length: table[at + 3],
+        worth: table[at + 4],
+    }
+}
+
+// Whether x, however wide, is outside 1 to top.
+pub fn outside_range(x: u32, top: u16) -> bool
     ensures { λ r. ⌜ r ≡ outsideRange x top ⌝ }
 {
-    x == 0 || top < x
+    x == 0 || (top as u32) < x
 }
 
 // Whether a turn has no length or ends after the shift.
@@ -37,19 +66,19 @@ fn past_shift(start: u16, length: u16) -> bool
 }
 
 // The first thing wrong with a turn's values, or 0.
-pub fn turn_fault(t: Turn, limits: Counts) -> u8
-    ensures { λ r. ⌜ r ≡ firstOf (turnCauses limits t) ⌝ }
+pub fn turn_fault(t: Turn, limits: Counts, refusals: Refusals) -> u8
+    ensures { λ r. ⌜ r ≡ firstOf (turnCauses refusals limits t) ⌝ }
 {
-    if outside_range(t.slope, limits.slopes) {
-        return refusal::BAD_SLOPE;
+    if outside_range(t.slope as u32, limits.slopes) {
+        return refusals.slope;
     }
-    if outside_range(t.groomer, limits.groomers) {
-        return refusal::BAD_GROOMER;
+    if outside_range(t.groomer as u32, limits.groomers) {
+        return refusals.groomer;
     }
     if past_shift(t.start, t.length) {
         return refusal::BAD_TIME;
     }
-    if outside_range(t.worth, MOST_WORTH) {
+    if outside_range(t.worth as u32, MOST_WORTH) {
         return refusal::BAD_WORTH;
     }
     0

@@ -2,11 +2,13 @@
 use Prim.Native.Nat.{ℕ, _+_, _*_, _/_, _%_, _≤_}
 use mathlib.Core.Path.{_≡_, refl, sym, _∙_}
 use mathlib.Core.Bool.{Bool, true, false, cond, true≢false}
+use mathlib.Core.Logic.{inl, ⊎-elim}
 use native.Mathlib.Omega.{arith}
 use lib.Dec.{eqb}
 use borrow.Author.Tests.{eq-eqb, eqb-true, eqb-false}
 use Rattle.turns.specs.declared.Turn.{Turn}
-use Rattle.sheet.specs.Record.{fullMap, widthOf}
+use Rattle.sheet.specs.Kind.{fullMap, garage}
+use Rattle.sheet.specs.Record.{widthOf}
 use Rattle.writer.specs.Write.{differs, mapFor}
 use Rattle.sheet.specs.Accepted.{GoodMap, Carried}
 
@@ -73,9 +75,9 @@ module _ (p t : Turn) where
       omega (arith, differs-bit (p .slope) (t .slope), differs-bit (p .groomer) (t .groomer), differs-bit (p .start) (t .start), differs-bit (p .length) (t .length), differs-bit (p .worth) (t .worth))
 
 -- it is a map that the record may have
-pub map-good : (first : Bool) (p t : Turn) → GoodMap first (mapFor first p t)
-unfolding mapFor
-map-good true p t = record { below = omega arith; full = λ e. refl }
+pub map-good : (first : Bool) (p t : Turn) → GoodMap (garage .maps) first (mapFor first p t)
+unfolding mapFor garage
+map-good true p t = record { below = omega arith; full = λ e. inl refl }
 map-good false p t = record { below = later-below p t; full = λ e. absurd (true≢false (sym e)) }
 
 -- a field that it leaves out has the value of the turn before
@@ -92,7 +94,8 @@ map-carries false p t =
       worth = λ e. differs-none (p .worth) (t .worth) (sym (b .worth) ∙ e);
     }
 
--- no map for the same turn lacks a bit of it
+-- ---- no map for the same turn lacks a bit of it
+
 record Within (m₀ m : ℕ) : Type 0 where
   slope : m₀ % 2 ≤ m % 2
   groomer : m₀ / 2 % 2 ≤ m / 2 % 2
@@ -100,9 +103,18 @@ record Within (m₀ m : ℕ) : Type 0 where
   length : m₀ / 8 % 2 ≤ m / 8 % 2
   worth : m₀ / 16 % 2 ≤ m / 16 % 2
 
-map-within : (first : Bool) (p t : Turn) (m : ℕ) → GoodMap first m → Carried m p t → Within (mapFor first p t) m
+-- the garage's first map is full
+first-full : (m : ℕ) → GoodMap (garage .maps) true m → m ≡ fullMap
+unfolding garage
+first-full m g = ⊎-elim (λ e. e) (λ e. e) (g .full refl)
+
+pub map-below : (first : Bool) (m : ℕ) → GoodMap (garage .maps) first m → m ≤ fullMap
+unfolding garage
+map-below first m g = g .below
+
+map-within : (first : Bool) (p t : Turn) (m : ℕ) → GoodMap (garage .maps) first m → Carried m p t → Within (mapFor first p t) m
 unfolding mapFor
-map-within true p t m g c = rw (g .full refl) (record { slope = omega arith; groomer = omega arith; start = omega arith; length = omega arith; worth = omega arith })
+map-within true p t m g c = rw (first-full m g) (record { slope = omega arith; groomer = omega arith; start = omega arith; length = omega arith; worth = omega arith })
 map-within false p t m g c =
     let b = later-bits p t in
     record {
@@ -121,11 +133,11 @@ within-same : {a0 a1 a2 a3 a4 b0 b1 b2 b3 b4 : ℕ} → a0 ≤ b0 → a1 ≤ b1 
     → b0 + 2 * b1 + 4 * b2 + 8 * b3 + 16 * b4 ≡ a0 + 2 * a1 + 4 * a2 + 8 * a3 + 16 * a4
 within-same h0 h1 h2 h3 h4 l = omega arith
 
-module _ (first : Bool) (p t : Turn) (m : ℕ) (g : GoodMap first m) (c : Carried m p t) where
+module _ (first : Bool) (p t : Turn) (m : ℕ) (g : GoodMap (garage .maps) first m) (c : Carried m p t) where
   pub map-least : widthOf (mapFor first p t) ≤ widthOf m
   map-least = let w = map-within first p t m g c in within-width (w .slope) (w .groomer) (w .start) (w .length) (w .worth)
 
   pub map-only : widthOf m ≤ widthOf (mapFor first p t) → m ≡ mapFor first p t
   map-only h =
       let w = map-within first p t m g c in
-      map-sum m (g .below) ∙ within-same (w .slope) (w .groomer) (w .start) (w .length) (w .worth) h ∙ sym (map-sum (mapFor first p t) (map-good first p t .below))
+      map-sum m (map-below first m g) ∙ within-same (w .slope) (w .groomer) (w .start) (w .length) (w .worth) h ∙ sym (map-sum (mapFor first p t) (map-below first (mapFor first p t) (map-good first p t)))

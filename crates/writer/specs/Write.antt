@@ -1,5 +1,5 @@
 -- Writing a sheet: the shortest one that has the table's turns, in the table's order. Assumes nothing.
-use Prim.Native.Nat.{ℕ, zero, suc, _+_, _*_, _/_, _%_}
+use Prim.Native.Nat.{ℕ, _+_, _*_, _%_}
 use mathlib.Core.List.{List, [], _∷_, _++_}
 use mathlib.Core.Bool.{Bool, true, false, not, cond}
 use lib.ListN.{length}
@@ -9,9 +9,13 @@ use Rattle.refusal.specs.Cause.{Cause, _when_}
 use Rattle.refusal.specs.Written.{Written, writtenUnless}
 use Rattle.turns.specs.declared.Turn.{Turn}
 use Rattle.turns.specs.declared.Counts.{Counts}
-use Rattle.turns.specs.Turn.{turnCauses}
-use Rattle.sheet.specs.Record.{fullMap, firstCursor}
-use Rattle.sheet.specs.Read.{countCauses, turnIn}
+use Rattle.wire.specs.Mark.{sheetMark}
+use Rattle.turns.specs.declared.Refusals.{Refusals}
+pub use Rattle.turns.specs.Turn.{countsOf}
+use Rattle.turns.specs.Turn.{rowNumbers, tableRows, tableTurns, turnCauses}
+use Rattle.sheet.specs.Kind.{fullMap, garage}
+use Rattle.sheet.specs.Record.{firstCursor}
+use Rattle.sheet.specs.Read.{countCauses}
 use Rattle.sheet.specs.Layout.{recordOf, headerFor}
 use Rattle.writer.specs.declared.WriteAnswer.{WriteAnswer}
 
@@ -36,41 +40,30 @@ unfoldable pub recordsOf : Bool → Turn → List Turn → List ℕ
 recordsOf first p [] = []
 recordsOf first p (t ∷ ts) = recordOf (mapFor first p t) t ++ recordsOf false t ts
 
+-- all records of a sheet
+abbrev pub allRecords : List Turn → List ℕ
+allRecords ts = recordsOf true (firstCursor .prev) ts
+
 -- a whole sheet: the header, then the records
 unfoldable pub sheetOf : Counts → List Turn → List ℕ
-sheetOf counts ts = headerFor counts (length ts) ++ recordsOf true (firstCursor .prev) ts
+sheetOf counts ts = headerFor sheetMark counts (length ts) ++ allRecords ts
 
--- ---- the table that is written: five numbers a turn
-
--- the turns i, i + 1, .. of a table, k in all
-unfoldable pub turnsOfTable : ℕ → List ℕ → ℕ → List Turn
-turnsOfTable zero table i = []
-turnsOfTable (suc k) table i = turnIn table i ∷ turnsOfTable k table (i + 1)
-
--- all turns of a table
-abbrev pub tableTurns : List ℕ → List Turn
-tableTurns table = turnsOfTable (length table / 5) table 0
-
--- ---- what may be wrong, in the order of refusal: a length that is no multiple of five, the counts, the turns one by one, the lent bytes
+-- ---- what may be wrong, in the order of refusal: a length that makes no whole rows, the counts, the turns one by one, the lent bytes
 
 -- turn by turn, each with the causes of a turn
-unfoldable pub turnsCauses : Counts → List Turn → List Cause
-turnsCauses counts [] = []
-turnsCauses counts (t ∷ ts) = turnCauses counts t ++ turnsCauses counts ts
+unfoldable pub turnsCauses : Refusals → Counts → List Turn → List Cause
+turnsCauses refusals counts [] = []
+turnsCauses refusals counts (t ∷ ts) = turnCauses refusals counts t ++ turnsCauses refusals counts ts
 
 -- everything but the lent bytes
 unfoldable pub tableCauses : Counts → List ℕ → List Cause
 tableCauses counts table =
-    partialTurn when not (eqb (length table % 5) 0)
-    ∷ (countCauses counts (length table / 5) ++ turnsCauses counts (tableTurns table))
+    partialTurn when not (eqb (length table % rowNumbers) 0)
+    ∷ (countCauses garage counts (tableRows table) ++ turnsCauses (garage .refusals) counts (tableTurns table))
 
 -- and last the lent bytes
 unfoldable pub writeCauses : Counts → List ℕ → ℕ → List Cause
 writeCauses counts table places = tableCauses counts table ++ bufferTooSmall when ltb places (length (sheetOf counts (tableTurns table))) ∷ []
-
--- the numbers that the writer is handed, as counts
-abbrev pub countsOf : ℕ → ℕ → Counts
-countsOf groomers slopes = record { groomers = groomers; slopes = slopes }
 
 -- what is returned, with what the lent bytes hold then
 abbrev pub written : WriteAnswer → List ℕ → Written

@@ -1,15 +1,14 @@
 -- Where each cause to refuse writing a table stands, as statements. Assumes nothing.
-use Prim.Native.Nat.{ℕ, _+_, _*_, _/_, _%_, _<_}
-use mathlib.Core.Path.{_≡_}
-use mathlib.Core.Logic.{_≢_, _⊎_}
+use Prim.Native.Nat.{ℕ, _+_, _*_, _%_, _<_}
+use mathlib.Core.Logic.{_≢_}
 use mathlib.Core.List.{List}
 use lib.ListN.{length}
 use Rattle.refusal.specs.Number.{badCounts, tooManyTurns, badSlope, badGroomer, badTime, badWorth, bufferTooSmall, partialTurn}
 use Rattle.turns.specs.declared.Counts.{Counts}
-use Rattle.turns.specs.Turn.{shiftMinutes, mostWorth}
-use Rattle.sheet.specs.Read.{mostGroomers, mostSlopes, mostTurns, turnIn}
-use Rattle.writer.specs.Write.{sheetOf, tableTurns}
-use Rattle.sheet.specs.Accepted.{Outside, FirstAmong}
+use Rattle.turns.specs.Turn.{rowNumbers, turnIn, tableRows, tableTurns, mostWorth}
+use Rattle.sheet.specs.Kind.{mostGroomers, mostSlopes, mostTurns}
+use Rattle.sheet.specs.Accepted.{Outside, WrongTime, FirstAmong}
+use Rattle.writer.specs.Write.{sheetOf}
 
 -- place 0: the table's length; 1 to 3: the counts; then four places a turn; then the lent bytes
 abbrev pub rowPlace : ℕ → ℕ → ℕ
@@ -17,15 +16,15 @@ rowPlace i k = 4 + (4 * i + k)
 
 -- a cause to refuse writing a table with these counts into so many bytes is there: its number, and its place in the order
 pub data WriteCause (counts : Counts) (table : List ℕ) (places : ℕ) : ℕ → ℕ → Type 0 where
-  partial-turn : length table % 5 ≢ 0 → WriteCause counts table places partialTurn 0
+  partial-turn : length table % rowNumbers ≢ 0 → WriteCause counts table places partialTurn 0
   groomer-count : Outside (counts .groomers) mostGroomers → WriteCause counts table places badCounts 1
   slope-count : Outside (counts .slopes) mostSlopes → WriteCause counts table places badCounts 2
-  turn-count : mostTurns < length table / 5 → WriteCause counts table places tooManyTurns 3
-  slope : (i : ℕ) → i < length table / 5 → Outside (turnIn table i .slope) (counts .slopes) → WriteCause counts table places badSlope (rowPlace i 0)
-  groomer : (i : ℕ) → i < length table / 5 → Outside (turnIn table i .groomer) (counts .groomers) → WriteCause counts table places badGroomer (rowPlace i 1)
-  time : (i : ℕ) → i < length table / 5 → (turnIn table i .length ≡ 0) ⊎ (shiftMinutes < turnIn table i .start + turnIn table i .length) → WriteCause counts table places badTime (rowPlace i 2)
-  worth : (i : ℕ) → i < length table / 5 → Outside (turnIn table i .worth) mostWorth → WriteCause counts table places badWorth (rowPlace i 3)
-  small-buffer : places < length (sheetOf counts (tableTurns table)) → WriteCause counts table places bufferTooSmall (rowPlace (length table / 5) 0)
+  turn-count : mostTurns < tableRows table → WriteCause counts table places tooManyTurns 3
+  slope : (i : ℕ) → i < tableRows table → Outside (turnIn table i .slope) (counts .slopes) → WriteCause counts table places badSlope (rowPlace i 0)
+  groomer : (i : ℕ) → i < tableRows table → Outside (turnIn table i .groomer) (counts .groomers) → WriteCause counts table places badGroomer (rowPlace i 1)
+  time : (i : ℕ) → i < tableRows table → WrongTime (turnIn table i) → WriteCause counts table places badTime (rowPlace i 2)
+  worth : (i : ℕ) → i < tableRows table → Outside (turnIn table i .worth) mostWorth → WriteCause counts table places badWorth (rowPlace i 3)
+  small-buffer : places < length (sheetOf counts (tableTurns table)) → WriteCause counts table places bufferTooSmall (rowPlace (tableRows table) 0)
 
 -- the first of them has number k
 abbrev pub FirstWriteCause : Counts → List ℕ → ℕ → ℕ → Type 0

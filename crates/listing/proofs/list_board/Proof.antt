@@ -3,11 +3,11 @@ use borrow.Author.Needs.{needs}
 use Rattle.listing.proofs.list_board.Statement.{statement}
 use Rattle.listing.proofs.list_board.Tie as tie
 
-tally-requires : tie.Need-tally-requires
-tally-requires c κs = search (needs, board-cases)
-
 worth-requires : tie.Need-worth-requires
 worth-requires c κs = search (needs, board-cases)
+
+tally-requires : tie.Need-tally-requires
+tally-requires c κs = search (needs, board-cases)
 
 map-requires : tie.Need-map-requires
 map-requires c κs = search (needs, board-cases)
@@ -16,7 +16,7 @@ list-map-requires : tie.Need-list-map-requires
 list-map-requires c κs = search (needs, board-cases)
 
 same-length : tie.Need-same-length
-same-length c = search (needs, board-cases)
+same-length c = search needs
 
 returns : tie.Need-returns
 returns c = search (needs, board-cases)
@@ -24,4 +24,4 @@ returns c = search (needs, board-cases)
 pub list-board-spec : {M : Type 1} → statement M
 list-board-spec =
     tie.close
-    (tie.spec tally-requires worth-requires map-requires list-map-requires same-length returns)
+    (tie.spec worth-requires tally-requires map-requires list-map-requires same-length returns)

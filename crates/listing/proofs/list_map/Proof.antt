@@ -7,7 +7,7 @@ slice-aggregate-put-listing : tie.Need-slice-aggregate-put-listing
 slice-aggregate-put-listing c = search needs
 
 put-listing-requires : tie.Need-put-listing-requires
-put-listing-requires c κs = search (needs, text-cases)
+put-listing-requires c κs = search needs
 
 refused-requires : tie.Need-refused-requires
 refused-requires c κs = search needs
@@ -24,8 +24,8 @@ slice-aggregate-put-bytes c = search (needs, text-cases)
 put-bytes-requires : tie.Need-put-bytes-requires
 put-bytes-requires c κs = search (needs, text-cases)
 
-cast-t19 : tie.Need-cast-t19
-cast-t19 c = search needs
+cast-t18 : tie.Need-cast-t18
+cast-t18 c = search needs
 
 same-length : tie.Need-same-length
 same-length c = search needs
@@ -44,6 +44,6 @@ list-map-spec =
     array-share-prefix-text
     slice-aggregate-put-bytes
     put-bytes-requires
-    cast-t19
+    cast-t18
     same-length
     returns-2)

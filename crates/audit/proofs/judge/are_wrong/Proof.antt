@@ -1,5 +1,5 @@
-use Rattle.audit.proofs.Judgements.{wrong-cases}
 use borrow.Author.Needs.{needs}
+use Rattle.audit.proofs.Judgements.{wrong-cases}
 use Rattle.audit.proofs.judge.are_wrong.Statement.{statement}
 use Rattle.audit.proofs.judge.are_wrong.Tie as tie
 

@@ -13,6 +13,9 @@ returns c = search (needs, opened-cases, board-cases)
 turns-requires : tie.Need-turns-requires
 turns-requires c κs = search (needs, opened-cases, board-cases)
 
+cast-if2 : tie.Need-cast-if2
+cast-if2 c = search needs
+
 returns-2 : tie.Need-returns-2
 returns-2 c = search (needs, opened-cases, board-cases)
 
@@ -35,6 +38,7 @@ board-fault-spec =
     open-requires
     returns
     turns-requires
+    cast-if2
     returns-2
     map-requires
     steps-requires

@@ -1,21 +1,21 @@
+use borrow.Author.Needs.{needs}
 use Rattle.audit.proofs.Replays.{stepsFrom, replay-cases, never}
-use Rattle.ratio.specs.Bounds.{Bounded}
+use Rattle.ratio.specs.Bounds.{Residuals}
 use Rattle.board.specs.Board.{stepsIn}
 use Rattle.model.specs.Rules.{allRight}
 use Rattle.model.specs.Steps.{afterSteps}
-use Rattle.model.specs.Turns.{turnsIn}
+use Rattle.problem.specs.Columns.{turnsBy}
 use lib.ListN.{length}
 use mathlib.Core.Path.{_≡_, refl}
 use Prim.Native.Nat.{_-_, _≤_}
-use borrow.Author.Needs.{needs}
 use Rattle.audit.proofs.replay.replay.Statement.{statement}
 use Rattle.audit.proofs.replay.replay.Tie as tie
 
 abbrev Inv-loop : tie.InvT-loop
-Inv-loop rest₀ table cols n steps m i₀ rest i = (i ≤ m) × (length rest ≡ n) × Bounded rest × (allRight (turnsIn n table) rest (stepsFrom (m - i) i steps) ≡ allRight (turnsIn n table) rest₀ (stepsIn m steps)) × (afterSteps (turnsIn n table) rest (stepsFrom (m - i) i steps) ≡ afterSteps (turnsIn n table) rest₀ (stepsIn m steps))
+Inv-loop rest₀ p cols steps m i₀ rest i = (i ≤ m) × Residuals (p .count) rest × (allRight (turnsBy p cols) rest (stepsFrom (m - i) i steps) ≡ allRight (turnsBy p cols) rest₀ (stepsIn m steps)) × (afterSteps (turnsBy p cols) rest (stepsFrom (m - i) i steps) ≡ afterSteps (turnsBy p cols) rest₀ (stepsIn m steps))
 
 abbrev μ-loop : tie.MeasureT-loop
-μ-loop rest₀ table cols n steps m i₀ rest i = m - i
+μ-loop rest₀ p cols steps m i₀ rest i = m - i
 
 loop-holds : tie.Need-loop-holds Inv-loop μ-loop
 loop-holds c = search (needs, replay-cases)

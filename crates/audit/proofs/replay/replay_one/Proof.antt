@@ -16,7 +16,7 @@ cast-apply-step : tie.Need-cast-apply-step
 cast-apply-step c = search needs
 
 apply-step-requires : tie.Need-apply-step-requires
-apply-step-requires c κs = (search one-cases, search needs, search needs, search one-cases, search needs)
+apply-step-requires c κs = (search one-cases, search needs, search needs, search one-cases)
 
 same-length : tie.Need-same-length
 same-length c = search needs

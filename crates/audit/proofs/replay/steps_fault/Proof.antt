@@ -6,15 +6,6 @@ use Rattle.audit.proofs.replay.steps_fault.Tie as tie
 set-initial-requires : tie.Need-set-initial-requires
 set-initial-requires c κs = search needs
 
-slice-aggregate-put-columns : tie.Need-slice-aggregate-put-columns
-slice-aggregate-put-columns c = search needs
-
-put-columns-requires : tie.Need-put-columns-requires
-put-columns-requires c κs = search needs
-
-slice-aggregate-replay : tie.Need-slice-aggregate-replay
-slice-aggregate-replay c = search needs
-
 replay-requires : tie.Need-replay-requires
 replay-requires c κs = search needs
 
@@ -44,9 +35,6 @@ steps-fault-spec =
     tie.close
     (tie.spec
     set-initial-requires
-    slice-aggregate-put-columns
-    put-columns-requires
-    slice-aggregate-replay
     replay-requires
     none-open-requires
     same-length

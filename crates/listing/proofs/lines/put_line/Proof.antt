@@ -3,8 +3,11 @@ use borrow.Author.Needs.{needs}
 use Rattle.listing.proofs.lines.put_line.Statement.{statement}
 use Rattle.listing.proofs.lines.put_line.Tie as tie
 
-start-of-requires : tie.Need-start-of-requires
-start-of-requires c κs = search needs
+row-at-requires : tie.Need-row-at-requires
+row-at-requires c κs = search needs
+
+cast-put-number : tie.Need-cast-put-number
+cast-put-number c = search needs
 
 put-number-requires : tie.Need-put-number-requires
 put-number-requires c κs = search (needs, line-cases)
@@ -12,8 +15,8 @@ put-number-requires c κs = search (needs, line-cases)
 slice-aggregate-put-labelled : tie.Need-slice-aggregate-put-labelled
 slice-aggregate-put-labelled c = search needs
 
-end-of-requires : tie.Need-end-of-requires
-end-of-requires c κs = search needs
+cast-put-labelled : tie.Need-cast-put-labelled
+cast-put-labelled c = search needs
 
 put-labelled-requires : tie.Need-put-labelled-requires
 put-labelled-requires c κs = search (needs, line-cases)
@@ -21,14 +24,14 @@ put-labelled-requires c κs = search (needs, line-cases)
 slice-aggregate-put-two : tie.Need-slice-aggregate-put-two
 slice-aggregate-put-two c = search needs
 
-slope-of-requires : tie.Need-slope-of-requires
-slope-of-requires c κs = search needs
+cast-put-two : tie.Need-cast-put-two
+cast-put-two c = search needs
 
 slice-aggregate-put-two-2 : tie.Need-slice-aggregate-put-two-2
 slice-aggregate-put-two-2 c = search needs
 
-worth-of-requires : tie.Need-worth-of-requires
-worth-of-requires c κs = search needs
+cast-put-two-2 : tie.Need-cast-put-two-2
+cast-put-two-2 c = search needs
 
 put-two-requires : tie.Need-put-two-requires
 put-two-requires c κs = search (needs, line-cases)
@@ -37,21 +40,22 @@ same-length : tie.Need-same-length
 same-length c = search needs
 
 returns : tie.Need-returns
-returns c = search (needs, line-cases)
+returns c = (search (needs, line-cases), search (needs, line-cases))
 
 pub put-line-spec : {M : Type 1} → statement M
 put-line-spec =
     tie.close
     (tie.spec
-    start-of-requires
+    row-at-requires
+    cast-put-number
     put-number-requires
     slice-aggregate-put-labelled
-    end-of-requires
+    cast-put-labelled
     put-labelled-requires
     slice-aggregate-put-two
-    slope-of-requires
+    cast-put-two
     slice-aggregate-put-two-2
-    worth-of-requires
+    cast-put-two-2
     put-two-requires
     same-length
     returns)

@@ -1,4 +1,4 @@
-use Rattle.listing.proofs.PartCases.{round-fits, groomer-place, groomer-put, groomer-cases}
+use Rattle.listing.proofs.PartCases.{groomer-cases, round-fits}
 use borrow.Author.Needs.{needs}
 use Rattle.listing.proofs.parts.put_groomer.Statement.{statement}
 use Rattle.listing.proofs.parts.put_groomer.Tie as tie
@@ -13,7 +13,7 @@ slice-aggregate-note-round-2 : tie.Need-slice-aggregate-note-round-2
 slice-aggregate-note-round-2 c = search needs
 
 note-round-requires : tie.Need-note-round-requires
-note-round-requires c κs = (search needs, search groomer-cases, search groomer-cases)
+note-round-requires c κs = search (needs, groomer-cases)
 
 slice-aggregate-put-notes : tie.Need-slice-aggregate-put-notes
 slice-aggregate-put-notes c = search needs
@@ -22,13 +22,13 @@ slice-aggregate-put-notes-2 : tie.Need-slice-aggregate-put-notes-2
 slice-aggregate-put-notes-2 c = search needs
 
 put-notes-requires : tie.Need-put-notes-requires
-put-notes-requires c κs = (search needs, search groomer-cases, search needs, round-fits _ _ _ _ (c .before .before .before .before .before .before .before .before .before .before .before .before .before .before .before .pre .0) (c .before .before .before .before .before .note-round .ensures .1) _ (c .before .before .before .before .before .before .before .before .before .before .put-heading .ensures .0) (c .before .before .before .before .before .before .before .before .before .before .before .before .before .before .before .pre .1))
+put-notes-requires c κs = (search needs, search groomer-cases, c .before .before .before .before .before .before .before .before .before .before .before .before .before .before .pre .0 .held, round-fits _ _ _ _ (c .before .before .before .before .before .before .before .before .before .before .before .before .before .before .pre .0) (c .before .before .before .before .before .note-round .ensures .1) _ (c .before .before .before .before .before .before .before .before .before .before .put-heading .ensures .0) (c .before .before .before .before .before .before .before .before .before .before .before .before .before .before .pre .1))
 
 same-length : tie.Need-same-length
 same-length c = search needs
 
 returns : tie.Need-returns
-returns c = search (needs, groomer-cases)
+returns c = (search (needs, groomer-cases), search (needs, groomer-cases))
 
 pub put-groomer-spec : {M : Type 1} → statement M
 put-groomer-spec =

@@ -4,17 +4,17 @@ use Prim.Native.Nat.{_+_, _-_, _≤_}
 use mathlib.Core.Path.{_≡_}
 use lib.ListN.{length}
 use Rattle.wire.specs.Number.{puts}
-use Rattle.model.specs.Turns.{turnsIn}
+use Rattle.problem.specs.Columns.{turnsBy}
 use Rattle.board.specs.Choice.{choiceIn}
 use Rattle.listing.specs.Text.{groomersFrom}
 use Rattle.listing.proofs.parts.put_groomers.Statement.{statement}
 use Rattle.listing.proofs.parts.put_groomers.Tie as tie
 
 abbrev Inv-loop : tie.InvT-loop
-Inv-loop out₀ table n map groomers to₀ passed₀ out to passed = (passed ≤ groomers) × (length out ≡ length out₀) × (to + length (groomersFrom (turnsIn n table) (choiceIn n map) (groomers - passed) (passed + 1)) ≡ length (groomersFrom (turnsIn n table) (choiceIn n map) groomers 1)) × (puts out to (groomersFrom (turnsIn n table) (choiceIn n map) (groomers - passed) (passed + 1)) ≡ puts out₀ 0 (groomersFrom (turnsIn n table) (choiceIn n map) groomers 1))
+Inv-loop out₀ p cols map groomers to₀ passed₀ out to passed = (passed ≤ groomers) × (length out ≡ length out₀) × (to + length (groomersFrom (turnsBy p cols) (choiceIn (p .count) map) (groomers - passed) (passed + 1)) ≡ length (groomersFrom (turnsBy p cols) (choiceIn (p .count) map) groomers 1)) × (puts out to (groomersFrom (turnsBy p cols) (choiceIn (p .count) map) (groomers - passed) (passed + 1)) ≡ puts out₀ 0 (groomersFrom (turnsBy p cols) (choiceIn (p .count) map) groomers 1))
 
 abbrev μ-loop : tie.MeasureT-loop
-μ-loop out₀ table n map groomers to₀ passed₀ out to passed = groomers - passed
+μ-loop out₀ p cols map groomers to₀ passed₀ out to passed = groomers - passed
 
 loop-holds : tie.Need-loop-holds Inv-loop μ-loop
 loop-holds c = search (needs, parts-cases)

@@ -1,17 +1,17 @@
+use borrow.Author.Needs.{needs}
 use Rattle.ratio.proofs.Order.{earliest-cases}
 use Rattle.ratio.specs.Below.{earliestBelow}
-use Rattle.ratio.specs.Columns.{turnsBy}
+use Rattle.problem.specs.Columns.{turnsBy}
 use mathlib.Core.Path.{_≡_}
 use Prim.Native.Nat.{_-_, _≤_}
-use borrow.Author.Needs.{needs}
 use Rattle.ratio.proofs.orders.is_earliest.Statement.{statement}
 use Rattle.ratio.proofs.orders.is_earliest.Tie as tie
 
 abbrev Inv-loop : tie.InvT-loop
-Inv-loop rest table cols n j all₀ t₀ all t = (t ≤ n) × (all ≡ earliestBelow (turnsBy n cols) rest j t)
+Inv-loop rest p cols j n all₀ t₀ all t = (t ≤ n) × (all ≡ earliestBelow (turnsBy p cols) rest j t)
 
 abbrev μ-loop : tie.MeasureT-loop
-μ-loop rest table cols n j all₀ t₀ all t = n - t
+μ-loop rest p cols j n all₀ t₀ all t = n - t
 
 loop-holds : tie.Need-loop-holds Inv-loop μ-loop
 loop-holds c = search (needs, earliest-cases)

@@ -1,6 +1,7 @@
 use borrow.Author.Needs.{needs}
 use Rattle.sheet.proofs.Scans.{scan-cases}
-use Rattle.sheet.specs.Read.{recordsCauses, turnsFrom, rows}
+use Rattle.sheet.specs.Read.{recordsCauses, turnsFrom}
+use Rattle.turns.specs.Turn.{rowNumbers, rows}
 use Rattle.wire.specs.Number.{puts}
 use Rattle.refusal.specs.Cause.{firstOf}
 use lib.ListN.{length}
@@ -10,10 +11,10 @@ use Rattle.sheet.proofs.reader.read_records.Statement.{statement}
 use Rattle.sheet.proofs.reader.read_records.Tie as tie
 
 abbrev Inv-loop : tie.InvT-loop
-Inv-loop s n limits table₀ c₀ left₀ at₀ table c left at = (at + 5 * left ≤ length table) × (length table ≡ length table₀) × (firstOf (recordsCauses left s limits c) ≡ firstOf (recordsCauses n s limits c₀)) × (puts table at (rows (turnsFrom left s c)) ≡ puts table₀ 0 (rows (turnsFrom n s c₀)))
+Inv-loop kind s n limits table₀ c₀ left₀ at₀ table c left at = (at + rowNumbers * left ≤ length table) × (length table ≡ length table₀) × (firstOf (recordsCauses kind left s limits c) ≡ firstOf (recordsCauses kind n s limits c₀)) × (puts table at (rows (turnsFrom left s c)) ≡ puts table₀ 0 (rows (turnsFrom n s c₀)))
 
 abbrev μ-loop : tie.MeasureT-loop
-μ-loop s n limits table₀ c₀ left₀ at₀ table c left at = left
+μ-loop kind s n limits table₀ c₀ left₀ at₀ table c left at = left
 
 loop-holds : tie.Need-loop-holds Inv-loop μ-loop
 loop-holds c = search (needs, scan-cases)
@@ -24,14 +25,11 @@ next-requires c κs = search (needs, scan-cases)
 enum-known-t : tie.Need-enum-known-t Inv-loop μ-loop
 enum-known-t c = search (needs, scan-cases)
 
-put-row-requires : tie.Need-put-row-requires Inv-loop μ-loop
-put-row-requires c κs = search (needs, scan-cases)
+put-turn-requires : tie.Need-put-turn-requires Inv-loop μ-loop
+put-turn-requires c κs = search (needs, scan-cases)
 
 sub-left : tie.Need-sub-left Inv-loop μ-loop
 sub-left c = search (needs, scan-cases)
-
-add-at : tie.Need-add-at Inv-loop μ-loop
-add-at c = search (needs, scan-cases)
 
 loop-less : tie.Need-loop-less Inv-loop μ-loop
 loop-less c = search (needs, scan-cases)
@@ -69,9 +67,8 @@ read-records-spec =
     loop-holds
     next-requires
     enum-known-t
-    put-row-requires
+    put-turn-requires
     sub-left
-    add-at
     loop-less
     loop-again
     enum-known-fault

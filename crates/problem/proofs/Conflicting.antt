@@ -1,0 +1,39 @@
+-- The ways in which two turns conflict, by their rows. Assumes nothing.
+use mathlib.Core.Path.{_≡_, refl}
+use mathlib.Core.Bool.{Bool, _&&_, _||_}
+use Prim.Native.Nat.{ℕ, _+_}
+use lib.Dec.{ltb, eqb}
+use Rattle.model.specs.Turns.{Turns, overlapping, overlap, bySlope, oneGroomer, byGroomer, conflict}
+use Rattle.problem.specs.declared.ways.Row.{Row}
+use Rattle.problem.specs.declared.ways.Ways.{Ways}
+use Rattle.problem.specs.Ways.{rowOf, sharedOf, waysOf, conflicting}
+
+-- ---- as the code leaves them
+
+pub overlap-is : (gap start end from until : ℕ) {a b c d g h : ℕ} → a ≡ start → b ≡ until → g ≡ gap → c ≡ from → d ≡ end → h ≡ gap → (ltb a (b + g) && ltb c (d + h)) ≡ overlapping gap start end from until
+unfolding overlapping
+overlap-is gap start end from until p q r s t u = rw (p, q, r, s, t, u)
+
+pub shared-is : (x y : Row) → _≡_ {A = Ways} (record { slope = eqb (x .slope) (y .slope); groomer = eqb (x .groomer) (y .groomer) }) (sharedOf x y)
+unfolding sharedOf
+shared-is x y = refl
+
+pub ways-are : (gap : ℕ) (x y : Row) {c : Ways} {m : Bool} → c ≡ sharedOf x y → m ≡ overlapping gap (x .start) (x .end) (y .start) (y .end) → _≡_ {A = Ways} (record { slope = c .slope; groomer = c .groomer && m }) (waysOf gap x y)
+unfolding waysOf
+ways-are gap x y e f = rw (e, f)
+
+pub any-is : (gap : ℕ) (x y : Row) {w : Ways} → w ≡ waysOf gap x y → (w .slope || w .groomer) ≡ conflicting gap x y
+unfolding conflicting
+any-is gap x y e = rw e
+
+pub ruleset ways-cases = (overlap-is, shared-is, ways-are, any-is)
+
+-- ---- as the model says them
+
+pub rows-conflict : (T : Turns) (x y : ℕ) → conflicting (T .gap) (rowOf T x) (rowOf T y) ≡ conflict T x y
+unfolding conflicting waysOf sharedOf rowOf conflict bySlope oneGroomer byGroomer overlap
+rows-conflict T x y = refl
+
+pub shared-groomer : (T : Turns) (x y : ℕ) → sharedOf (rowOf T x) (rowOf T y) .groomer ≡ oneGroomer T x y
+unfolding sharedOf rowOf oneGroomer
+shared-groomer T x y = refl

@@ -1,0 +1,3 @@
+pub mod Conflicting
+pub mod Rows
+pub mod Posed

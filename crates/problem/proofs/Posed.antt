@@ -1,0 +1,181 @@
+-- From a sheet's table to the columns, by cases, and the problem that they then pose. Assumes nothing.
+use mathlib.Core.Path.{_≡_, refl, sym, _∙_, ap}
+use mathlib.Core.Bool.{Bool, true, false, cond}
+use mathlib.Core.List.{List, _++_}
+use Prim.Native.Nat.{ℕ, _+_, _*_, _≤_, _<_}
+use native.Mathlib.Omega.{arith}
+use native.Mathlib.Numerals.{add-one}
+use native.Mathlib.Decide.{decLt}
+use lib.Dec.{ltb}
+use lib.ListN.{length, getD, drop, List·getD-eq-default, List·getD-append}
+use borrow.Author.Tests.{lt-ltb, le-ltb}
+use Rattle.refusal.specs.Cause.{firstOf}
+use Rattle.lists.proofs.Bools.{up-to}
+use Rattle.turns.specs.declared.Turn.{Turn}
+use Rattle.turns.specs.Turn.{rowNumbers, turnIn, shiftMinutes, mostWorth, InRange}
+use Rattle.model.specs.Turns.{Turns, PositiveLengths}
+use Rattle.sheet.specs.declared.reader.ReadAnswer.{ReadAnswer}
+use Rattle.sheet.specs.Kind.{mostTurns}
+use Rattle.sheet.specs.Read.{countsIn, turnCount, sheetCauses, turnsOf, tableOf, answerOf}
+use Rattle.sheet.proofs.Tables.{turns-length, turns-at, table-length, table-row}
+use Rattle.sheet.proofs.Unrefused.{few-turns, row-in-range}
+use Rattle.sheet.proofs.Whole.{whole-accepted, whole-turns, whole-few, whole-room}
+use Rattle.problem.specs.declared.ways.Row.{Row}
+use Rattle.problem.specs.declared.columns.Size.{Size}
+use Rattle.problem.specs.Ways.{rowFor}
+use Rattle.problem.specs.Columns.{columnPlaces, rowIn, withRow, within, turnsBy, Held}
+use Rattle.problem.specs.Problem.{noTurn, problemOf, shiftGap, sheetTurns}
+use Rattle.problem.specs.Load.{shiftSize, EndsFit, RowsOf, Posed}
+use Rattle.problem.proofs.Rows.{row-length, row-new, row-other}
+
+-- ---- one turn
+
+module _ (table : List ℕ) (t : ℕ) {a : Turn} (e : a ≡ turnIn table t) where
+  pub row-from-is : _≡_ {A = Row} (record { slope = a .slope; groomer = a .groomer; start = a .start; end = a .start + a .length; worth = a .worth }) (rowFor (turnIn table t))
+  unfolding rowFor
+  row-from-is = rw e
+
+  pub end-fits : (n : ℕ) → EndsFit n table → t < n → a .start + a .length < 65536
+  unfolding EndsFit
+  end-fits n f h = rw e (f t h)
+
+pub ruleset from-cases = (row-from-is, end-fits)
+
+-- ---- all turns of the table
+
+pub rows-none : (table cols : List ℕ) → RowsOf table cols 0
+unfolding RowsOf
+rows-none table cols = λ t h. absurd (omega arith)
+
+pub rows-more : (table cols : List ℕ) (i : ℕ) {r : Row} {cols′ : List ℕ} {n : ℕ} → i < n → n ≤ mostTurns → length cols ≡ columnPlaces → r ≡ rowFor (turnIn table i) → cols′ ≡ withRow cols i r → RowsOf table cols i → RowsOf table cols′ (i + 1)
+unfolding RowsOf
+rows-more table cols i {r} {n = n} l m w e q o = let h : i < mostTurns = omega arith in rw (add-one, q) (up-to (λ t. rowIn (withRow cols i r) t ≡ rowFor (turnIn table t)) i (λ t k. row-other cols i r t (omega arith) h (omega arith) ∙ o t k) (row-new cols i r h w ∙ e))
+
+pub rows-length : (cols : List ℕ) (i : ℕ) (r : Row) {cols′ : List ℕ} → cols′ ≡ withRow cols i r → length cols ≡ columnPlaces → length cols′ ≡ columnPlaces
+rows-length cols i r e w = rw e (row-length cols i r ∙ w)
+
+pub rows-done : (table cols : List ℕ) (i : ℕ) {n : ℕ} → n ≤ i → i ≤ n → RowsOf table cols i → RowsOf table cols n
+rows-done table cols i {n} h l o = let q : i ≡ n = omega arith in rw q at o
+
+pub ruleset rows-cases = (rows-none, rows-more, rows-length, rows-done)
+
+-- ---- a sheet that is not refused
+
+module _ (s : List ℕ) (z : firstOf (sheetCauses s) ≡ 0) where
+  pub sheet-count : sheetTurns s .count ≡ turnCount s
+  unfolding sheetTurns problemOf
+  sheet-count = turns-length s
+
+  abbrev turn : ℕ → Turn
+  turn t = getD (turnsOf s) t noTurn
+
+  sheet-range : (t : ℕ) → t < turnCount s → InRange (countsIn s) (turn t)
+  sheet-range t h = rw (turns-at s noTurn t h ∙ sym (table-row s t h)) (row-in-range s z t h)
+
+  -- its turns are in range, as the model speaks of them
+  pub sheet-starts : (t : ℕ) → t < turnCount s → sheetTurns s .start t < sheetTurns s .end t
+  unfolding sheetTurns problemOf
+  sheet-starts t h = omega (arith, sheet-range t h .length-from)
+
+  pub sheet-lengths : PositiveLengths (sheetTurns s)
+  sheet-lengths t h = sheet-starts t (omega (arith, sheet-count))
+
+  pub sheet-ends : (t : ℕ) → t < turnCount s → sheetTurns s .end t ≤ shiftMinutes
+  unfolding sheetTurns problemOf
+  sheet-ends t h = sheet-range t h .end-to
+
+  pub sheet-worths : (t : ℕ) → t < turnCount s → sheetTurns s .worth t ≤ mostWorth
+  unfolding sheetTurns problemOf
+  sheet-worths t h = sheet-range t h .worth-to
+
+  pub sheet-slopes : (t : ℕ) → t < turnCount s → (1 ≤ sheetTurns s .slope t) × (sheetTurns s .slope t ≤ countsIn s .slopes)
+  unfolding sheetTurns problemOf
+  sheet-slopes t h = (sheet-range t h .slope-from, sheet-range t h .slope-to)
+
+  pub sheet-groomers : (t : ℕ) → t < turnCount s → (1 ≤ sheetTurns s .groomer t) × (sheetTurns s .groomer t ≤ countsIn s .groomers)
+  unfolding sheetTurns problemOf
+  sheet-groomers t h = (sheet-range t h .groomer-from, sheet-range t h .groomer-to)
+
+  -- ---- and so are they in columns with its rows
+
+  module _ (cols : List ℕ) (w : length cols ≡ columnPlaces) (o : (t : ℕ) → t < turnCount s → rowIn cols t ≡ rowFor (turn t)) where
+    abbrev size : Size
+    size = shiftSize (turnCount s)
+
+    -- a number of each turn, from the columns and from the list; 0 behind the last
+    same : (f : Row → ℕ) (g : Turn → ℕ) → g noTurn ≡ 0 → ((t : Turn) → f (rowFor t) ≡ g t) → (t : ℕ) → within (turnCount s) (λ i. f (rowIn cols i)) t ≡ g (turn t)
+    unfolding within
+    same f g n e t = go (decLt t (turnCount s))
+      where
+        go : Dec (t < turnCount s) → cond (ltb t (turnCount s)) (f (rowIn cols t)) 0 ≡ g (turn t)
+        go (yes l) = rw (lt-ltb t (turnCount s) l, o t l) (e (turn t))
+        go (no l) = rw (le-ltb t (turnCount s) (omega arith), List·getD-eq-default (turnsOf s) noTurn {n = t} (omega (arith, turns-length s))) (sym n)
+
+    posed-turns : turnsBy size cols ≡ sheetTurns s
+    unfolding turnsBy sheetTurns problemOf rowFor
+    posed-turns = λ j. record {
+      count = sym (turns-length s) j;
+      gap = shiftGap;
+      slope = λ t. same (λ r. r .slope) (λ u. u .slope) refl (λ u. refl) t j;
+      groomer = λ t. same (λ r. r .groomer) (λ u. u .groomer) refl (λ u. refl) t j;
+      start = λ t. same (λ r. r .start) (λ u. u .start) refl (λ u. refl) t j;
+      end = λ t. same (λ r. r .end) (λ u. u .start + u .length) refl (λ u. refl) t j;
+      worth = λ t. same (λ r. r .worth) (λ u. u .worth) refl (λ u. refl) t j;
+    }
+
+    pub posed : Posed s cols
+    posed =
+        record {
+          turns = posed-turns;
+          held =
+              record {
+                places = w;
+                few = few-turns s z;
+                starts = λ t h. rw posed-turns (sheet-starts t h);
+                ends = λ t h. rw posed-turns (sheet-ends t h);
+                worths = λ t h. rw posed-turns (sheet-worths t h);
+              };
+        }
+
+-- ---- what was read
+
+pub load-refused : (r : ReadAnswer) {s cols : List ℕ} → (r .refusal ≡ 0 → ⊥) → r .refusal ≡ 0 → Posed s cols
+load-refused r n z = absurd (n z)
+
+module _ (s lent t : List ℕ) (r : ReadAnswer) (e : (r ≡ answerOf s) × (r .refusal ≡ 0 → t ≡ tableOf s ++ drop (length (tableOf s)) lent)) (z : r .refusal ≡ 0) where
+  pub load-few : r .turns ≤ mostTurns
+  load-few = whole-few s (e .0) z
+
+  pub load-room : rowNumbers * r .turns ≤ length t
+  load-room = whole-room s (e .0) z lent (e .1)
+
+  accepted : firstOf (sheetCauses s) ≡ 0
+  accepted = whole-accepted s (e .0) z
+
+  number : (k : ℕ) → k < rowNumbers * turnCount s → getD t k 0 ≡ getD (tableOf s) k 0
+  number k h = rw (e .1 z) (List·getD-append (tableOf s) (drop (length (tableOf s)) lent) 0 k (omega (arith, table-length s)))
+
+  read-turn : (i : ℕ) → i < turnCount s → turnIn t i ≡ getD (turnsOf s) i noTurn
+  read-turn i h = front ∙ table-row s i h ∙ sym (turns-at s noTurn i h)
+    where
+      front : turnIn t i ≡ turnIn (tableOf s) i
+      front = λ j. record {
+        slope = number (i * rowNumbers) (omega arith) j;
+        groomer = number (i * rowNumbers + 1) (omega arith) j;
+        start = number (i * rowNumbers + 2) (omega arith) j;
+        length = number (i * rowNumbers + 3) (omega arith) j;
+        worth = number (i * rowNumbers + 4) (omega arith) j;
+      }
+
+  pub load-fits : EndsFit (r .turns) t
+  unfolding EndsFit
+  load-fits i h =
+      let l : i < turnCount s = omega (arith, whole-turns s (e .0) z) in
+      let q : turnIn t i .start + turnIn t i .length ≡ getD (turnsOf s) i noTurn .start + getD (turnsOf s) i noTurn .length = ap (λ (u : Turn). u .start + u .length) (read-turn i l) in
+      omega (arith, sheet-range s accepted i l .end-to)
+
+  pub load-posed : (cols : List ℕ) → RowsOf t cols (r .turns) × (length cols ≡ columnPlaces) → Posed s cols
+  unfolding RowsOf
+  load-posed cols o = posed s accepted cols (o .1) (λ i h. o .0 i (omega (arith, whole-turns s (e .0) z)) ∙ ap rowFor (read-turn i h))
+
+pub ruleset load-cases = (load-refused, load-few, load-room, load-fits, load-posed)

@@ -1,0 +1,17 @@
+// A sheet's turns as the engine holds them: in columns of numbers; and by which ways two turns conflict.
+mod columns;
+mod posing;
+mod ways;
+
+pub use columns::MOST_TURNS;
+pub use columns::PLACES;
+pub use columns::Size;
+pub use columns::put_row;
+pub use columns::row_at;
+pub use posing::load;
+pub use posing::shift_size;
+pub use ways::Row;
+pub use ways::Ways;
+pub use ways::rows_conflict;
+pub use ways::shared_of;
+pub use ways::ways_of;

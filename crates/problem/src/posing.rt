@@ -1,0 +1,72 @@
+// From a sheet to the columns.
+ghost use mathlib.Core.Path.{_≡_};
+ghost use Prim.Native.Nat.{_+_, _*_, _≤_, _<_};
+ghost use lib.ListN.{length};
+ghost use Rattle.turns.specs.Turn.{rowNumbers, turnIn};
+ghost use Rattle.sheet.specs.Kind.{mostTurns};
+ghost use Rattle.sheet.specs.Read.{answerOf};
+ghost use Rattle.problem.specs.Ways.{rowFor};
+ghost use Rattle.problem.specs.Columns.{columnPlaces};
+ghost use Rattle.problem.specs.Load.{shiftSize, EndsFit, RowsOf, Posed};
+use super::columns::PLACES;
+use super::columns::Size;
+use super::columns::put_row;
+use super::ways::Row;
+use sheet::ReadAnswer;
+use sheet::TABLE_PLACES;
+
+// The free minutes that a groomer needs between two turns of a shift.
+const SHIFT_GAP: u16 = 0;
+
+// A shift's size: as many turns as its sheet has.
+pub fn shift_size(n: u16) -> Size
+    ensures { λ r. ⌜ r ≡ shiftSize n ⌝ }
+{
+    Size {
+        count: n as usize,
+        gap: SHIFT_GAP,
+    }
+}
+
+// Turn t of a table as a row.
+fn row_from(table: &[u16], n: usize, t: usize) -> Row
+    requires { ⌜ (t < n) × (n ≤ mostTurns) × (rowNumbers * n ≤ length (now table)) × EndsFit n (now table) ⌝ }
+    ensures { λ r. ⌜ r ≡ rowFor (turnIn (now (table .entry)) t) ⌝ }
+{
+    let turn = turns::turn_at(table, t);
+    Row {
+        slope: turn.slope,
+        groomer: turn.groomer,
+        start: turn.start,
+        end: turn.start + turn.length,
+        worth: turn.worth,
+    }
+}
+
+// The first n turns of a table go into the columns.
+fn put_rows(cols: &mut [u16; PLACES], table: &[u16], n: usize)
+    requires { ⌜ (length (now cols) ≡ columnPlaces) × (n ≤ mostTurns) × (rowNumbers * n ≤ length (now table)) × EndsFit n (now table) ⌝ }
+    ensures { λ _. ⌜ RowsOf (now (table .entry)) (now (cols .exit)) n × (length (now (cols .exit)) ≡ columnPlaces) ⌝ }
+{
+    let mut t = 0;
+    while t < n {
+        let row = row_from(table, n, t);
+        put_row(&mut *cols, t, row);
+        t += 1;
+    }
+}
+
+// Reads any bytes as a sheet into columns, the reader's answer beside them. After a refusal nothing is
+// said of what the columns hold.
+pub fn load(s: &[u8], cols: &mut [u16; PLACES]) -> ReadAnswer
+    requires { ⌜ length (now cols) ≡ columnPlaces ⌝ }
+    ensures { λ r. ⌜ (r ≡ answerOf (now (s .entry))) × (r .refusal ≡ 0 → Posed (now (s .entry)) (now (cols .exit))) ⌝ }
+{
+    let mut table = [0u16; TABLE_PLACES];
+    let r = sheet::read_table(s, &mut table);
+    if r.refusal != 0 {
+        return r;
+    }
+    put_rows(&mut *cols, &table, r.turns as usize);
+    r
+}

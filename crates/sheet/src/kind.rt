@@ -1,0 +1,58 @@
+// A kind of sheet: what may differ between sheets that are read alike.
+ghost use mathlib.Core.Path.{_≡_};
+ghost use Rattle.sheet.specs.Kind.{garage};
+use turns::Refusals;
+
+// A map with every field of a turn.
+pub const FULL_MAP: u8 = 31;
+
+// The most turns that a sheet of any kind may have, and the places that a table needs for them.
+pub const MOST_TURNS: u16 = 400;
+
+pub const TABLE_PLACES: usize = turns::ROW_NUMBERS * (MOST_TURNS as usize);
+
+// The greatest counts that a header may name.
+pub struct Most {
+    pub groomers: u16,
+    pub slopes: u16,
+    pub turns: u16,
+}
+
+// The map with every field, and the least map of a first record. A first record has one of the two,
+// a later one none above the full map.
+pub struct Maps {
+    pub first: u8,
+    pub full: u8,
+}
+
+// What opens a sheet, what its header and its maps may be, and the refusals that are its own.
+pub struct Kind {
+    pub mark: [u8; 3],
+    pub most: Most,
+    pub maps: Maps,
+    pub refusals: Refusals,
+}
+
+// The garage's sheet.
+pub fn garage() -> Kind
+    ensures { λ r. ⌜ r ≡ garage ⌝ }
+{
+    Kind {
+        mark: wire::GRM,
+        most: Most {
+            groomers: 16,
+            slopes: 120,
+            turns: MOST_TURNS,
+        },
+        maps: Maps {
+            first: FULL_MAP,
+            full: FULL_MAP,
+        },
+        refusals: Refusals {
+            counts: refusal::BAD_COUNTS,
+            turns: refusal::TOO_MANY_TURNS,
+            slope: refusal::BAD_SLOPE,
+            groomer: refusal::BAD_GROOMER,
+        },
+    }
+}
