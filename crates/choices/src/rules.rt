@@ -109,7 +109,8 @@ fn is_settled(
 ) -> bool
     requires { ⌜ (t < p .count) × Lent p (now cols) (now map) ⌝ }
     requires { ⌜ Gathered (turnsBy p (now cols)) (choiceIn (p .count) (now map)) (p .count) c (now taken) ⌝ }
-    ensures { λ r. ⌜ r ≡ (has (choiceIn (p .count) (now (map .entry))) t || not (fits (turnsBy p (now (cols .entry))) (choiceIn (p .count) (now (map .entry))) t)) ⌝ }
+    ensures { λ r. ⌜ r ≡ (has (choiceIn (p .count) (now (map .entry))) t
+        || not (fits (turnsBy p (now (cols .entry))) (choiceIn (p .count) (now (map .entry))) t)) ⌝ }
 {
     if board::is_chosen(map, t) {
         true

@@ -31,7 +31,8 @@ pub struct ReadLine {
 
 // Reading a sheet into the lent table.
 pub fn read(sheet: &[u8], table: &mut [u16]) -> ReadLine
-    ensures { λ r. ⌜ (r ≡ readLine (readOf (now (sheet .entry)) (now (table .entry)))) × (now (table .exit) ≡ readOf (now (sheet .entry)) (now (table .entry)) .table) ⌝ }
+    ensures { λ r. ⌜ (r ≡ readLine (readOf (now (sheet .entry)) (now (table .entry))))
+        × (now (table .exit) ≡ readOf (now (sheet .entry)) (now (table .entry)) .table) ⌝ }
 {
     let answer = sheet::read(sheet, &mut *table);
     ReadLine {
@@ -45,7 +46,11 @@ pub fn read(sheet: &[u8], table: &mut [u16]) -> ReadLine
 
 // Writing the turns that stand in the input into the lent bytes, by way of the table.
 pub fn write(counts: &[u8], turns: &[u8], table: &mut [u16], bytes: &mut [u8]) -> Line
-    ensures { λ r. ⌜ (now (table .exit) ≡ unpacked (now (turns .entry)) (length (now (table .entry)))) × (r ≡ writtenLine (writeOf (countsOf (countsHeld (now (counts .entry)) .groomers) (countsHeld (now (counts .entry)) .slopes)) (now (table .exit)) (now (bytes .entry)))) × (now (bytes .exit) ≡ writeOf (countsOf (countsHeld (now (counts .entry)) .groomers) (countsHeld (now (counts .entry)) .slopes)) (now (table .exit)) (now (bytes .entry)) .lent) ⌝ }
+    ensures { λ r. ⌜ (now (table .exit) ≡ unpacked (now (turns .entry)) (length (now (table .entry))))
+        × (r ≡ writtenLine (writeOf (countsOf (countsHeld (now (counts .entry)) .groomers) (countsHeld (now (counts .entry)) .slopes))
+        (now (table .exit)) (now (bytes .entry))))
+        × (now (bytes .exit) ≡ writeOf (countsOf (countsHeld (now (counts .entry)) .groomers) (countsHeld (now (counts .entry)) .slopes))
+        (now (table .exit)) (now (bytes .entry)) .lent) ⌝ }
 {
     let c = tools::counts_in(counts);
     tools::unpack(turns, &mut *table);
@@ -59,7 +64,11 @@ pub fn write(counts: &[u8], turns: &[u8], table: &mut [u16], bytes: &mut [u8]) -
 
 // Opening a board, and its steps: their length, and the checksum of their bytes.
 pub fn open(board: &[u8]) -> Line
-    ensures { λ r. ⌜ r ≡ record { refusal = openOf (now (board .entry)); value = length (stepsPart (now (board .entry))); last = sumOf (stepsPart (now (board .entry))) } ⌝ }
+    ensures { λ r. ⌜ r ≡ record {
+      refusal = openOf (now (board .entry));
+      value = length (stepsPart (now (board .entry)));
+      last = sumOf (stepsPart (now (board .entry)));
+    } ⌝ }
 {
     let steps = board::steps(board);
     Line {
@@ -85,7 +94,11 @@ pub fn chosen(board: &[u8], turn: u16) -> bool
 
 // Checking a board against a sheet: nothing is lent, and the worth ends the line.
 pub fn check(sheet: &[u8], board: &[u8]) -> Line
-    ensures { λ r. ⌜ r ≡ record { refusal = checkOf (now (sheet .entry)) (now (board .entry)) .refusal; value = checkOf (now (sheet .entry)) (now (board .entry)) .tally; last = checkOf (now (sheet .entry)) (now (board .entry)) .worth } ⌝ }
+    ensures { λ r. ⌜ r ≡ record {
+      refusal = checkOf (now (sheet .entry)) (now (board .entry)) .refusal;
+      value = checkOf (now (sheet .entry)) (now (board .entry)) .tally;
+      last = checkOf (now (sheet .entry)) (now (board .entry)) .worth;
+    } ⌝ }
 {
     let answer = audit::check(sheet, board);
     Line {
@@ -97,7 +110,8 @@ pub fn check(sheet: &[u8], board: &[u8]) -> Line
 
 // Planning a sheet into the lent bytes.
 pub fn plan(sheet: &[u8], board: &mut [u8]) -> Line
-    ensures { λ r. ⌜ (r ≡ writtenLine (planOf (now (sheet .entry)) (now (board .entry)))) × (now (board .exit) ≡ planOf (now (sheet .entry)) (now (board .entry)) .lent) ⌝ }
+    ensures { λ r. ⌜ (r ≡ writtenLine (planOf (now (sheet .entry)) (now (board .entry))))
+        × (now (board .exit) ≡ planOf (now (sheet .entry)) (now (board .entry)) .lent) ⌝ }
 {
     let answer = planner::plan(sheet, &mut *board);
     Line {
@@ -109,7 +123,8 @@ pub fn plan(sheet: &[u8], board: &mut [u8]) -> Line
 
 // Listing the plan of a sheet into the lent bytes.
 pub fn list(sheet: &[u8], text: &mut [u8]) -> Line
-    ensures { λ r. ⌜ (r ≡ writtenLine (listOf (now (sheet .entry)) (now (text .entry)))) × (now (text .exit) ≡ listOf (now (sheet .entry)) (now (text .entry)) .lent) ⌝ }
+    ensures { λ r. ⌜ (r ≡ writtenLine (listOf (now (sheet .entry)) (now (text .entry))))
+        × (now (text .exit) ≡ listOf (now (sheet .entry)) (now (text .entry)) .lent) ⌝ }
 {
     let answer = listing::list(sheet, &mut *text);
     Line {

@@ -45,7 +45,8 @@ fn put_labelled(out: &mut [u8], at: usize, word: &[u8], x: u32) -> usize
 // Two of them, and the end of the line.
 fn put_two(out: &mut [u8], at: usize, word: &[u8], x: u32, second: &[u8], y: u32) -> usize
     requires { ⌜ at + length (twoLabelled (now word) x (now second) y) ≤ lastPlace ⌝ }
-    ensures { λ r. ⌜ (r ≡ at + length (twoLabelled (now (word .entry)) x (now (second .entry)) y)) × (now (out .exit) ≡ puts (now (out .entry)) at (twoLabelled (now (word .entry)) x (now (second .entry)) y)) ⌝ }
+    ensures { λ r. ⌜ (r ≡ at + length (twoLabelled (now (word .entry)) x (now (second .entry)) y))
+        × (now (out .exit) ≡ puts (now (out .entry)) at (twoLabelled (now (word .entry)) x (now (second .entry)) y)) ⌝ }
 {
     let next = put_labelled(&mut *out, at, word, x);
     let last = put_labelled(&mut *out, next, second, y);

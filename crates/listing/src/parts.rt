@@ -30,7 +30,8 @@ fn put_groomer(
 ) -> usize
     requires { ⌜ Ready p (now cols) (now map) × (at + length (groomerText (turnsBy p (now cols)) (choiceIn (p .count) (now map)) groomer) ≤ lastPlace) ⌝ }
     ensures { λ r. ⌜ r ≡ at + length (groomerText (turnsBy p (now (cols .entry))) (choiceIn (p .count) (now (map .entry))) groomer) ⌝ }
-    ensures { λ _. ⌜ now (out .exit) ≡ puts (now (out .entry)) at (groomerText (turnsBy p (now (cols .entry))) (choiceIn (p .count) (now (map .entry))) groomer) ⌝ }
+    ensures { λ _. ⌜ now (out .exit)
+        ≡ puts (now (out .entry)) at (groomerText (turnsBy p (now (cols .entry))) (choiceIn (p .count) (now (map .entry))) groomer) ⌝ }
 {
     let next = put_heading(&mut *out, at, groomer);
     let mut minutes = [0u8; NOTES / 8];
@@ -43,7 +44,8 @@ fn put_groomer(
 fn put_groomers(out: &mut [u8], p: Size, cols: &[u16; PLACES], map: &[u8], groomers: u16) -> usize
     requires { ⌜ Ready p (now cols) (now map) × (length (groomersFrom (turnsBy p (now cols)) (choiceIn (p .count) (now map)) groomers 1) ≤ lastPlace) ⌝ }
     ensures { λ r. ⌜ r ≡ length (groomersFrom (turnsBy p (now (cols .entry))) (choiceIn (p .count) (now (map .entry))) groomers 1) ⌝ }
-    ensures { λ _. ⌜ now (out .exit) ≡ puts (now (out .entry)) 0 (groomersFrom (turnsBy p (now (cols .entry))) (choiceIn (p .count) (now (map .entry))) groomers 1) ⌝ }
+    ensures { λ _. ⌜ now (out .exit)
+        ≡ puts (now (out .entry)) 0 (groomersFrom (turnsBy p (now (cols .entry))) (choiceIn (p .count) (now (map .entry))) groomers 1) ⌝ }
 {
     let mut to = 0;
     let mut passed: u16 = 0;
