@@ -62,8 +62,8 @@ module _ (tallied worth amounts earned : ℕ) where
   wrong-tally h = rw (ne-eqb tallied amounts h)
 
   module _ (h : tallied ≡ amounts) where
-    pub wrong-worth : (worth ≡ earned → ⊥) → not true ≡ (eqb tallied amounts && (eqb worth earned && leb tallied worth))
-    wrong-worth k = rw (eq-eqb tallied amounts h, ne-eqb worth earned k)
+    pub other-worth : (worth ≡ earned → ⊥) → not true ≡ (eqb tallied amounts && (eqb worth earned && leb tallied worth))
+    other-worth k = rw (eq-eqb tallied amounts h, ne-eqb worth earned k)
 
     pub wrong-below : worth ≡ earned → not (ltb worth tallied) ≡ (eqb tallied amounts && (eqb worth earned && leb tallied worth))
     wrong-below k = rw (eq-eqb tallied amounts h, eq-eqb worth earned k) (turned (ltb worth tallied) refl)
@@ -72,7 +72,7 @@ module _ (tallied worth amounts earned : ℕ) where
         turned true e = sym (lt-leb tallied worth (ltb-true worth tallied e))
         turned false e = sym (le-leb tallied worth (ltb-false worth tallied e))
 
-pub ruleset wrong-cases = (wrong-tally, wrong-worth, wrong-below)
+pub ruleset wrong-cases = (wrong-tally, other-worth, wrong-below)
 
 module _ (size : Size) (cols : List ℕ) (S : List Bool) (xs : List Step) (b : List ℕ) {tallied worth amounts earned : ℕ} (r : Bool) (u : tallied ≡ boardTally b) (v : worth ≡ boardWorth b) (p : amounts ≡ tally xs) (q : earned ≡ chosenBelow (turnsBy size cols) S (size .count)) (e : not r ≡ (eqb tallied amounts && (eqb worth earned && leb tallied worth))) where
   sums-is : sums (turnsBy size cols) S xs (boardTally b) (boardWorth b) ≡ not r
@@ -149,8 +149,8 @@ module _ (b : List ℕ) {r : ℕ} (e : r ≡ openOf b) where
       steps-are : stepsIn (boardSteps b) steps ≡ writtenSteps b
       steps-are = rw s (part-steps b (opened b e z))
 
-      pub board-parts : {g : ℕ} → g ≡ firstOf (partCauses (turnsBy size cols) (choiceIn (size .count) map) (stepsIn (boardSteps b) steps) (boardTally b) (boardWorth b)) → g ≡ firstOf (boardCauses (turnsBy size cols) b)
+      pub board-by-parts : {g : ℕ} → g ≡ firstOf (partCauses (turnsBy size cols) (choiceIn (size .count) map) (stepsIn (boardSteps b) steps) (boardTally b) (boardWorth b)) → g ≡ firstOf (boardCauses (turnsBy size cols) b)
       unfolding boardCauses firstOf turnsBy
-      board-parts d = rw (opened b e z, ← p, eq-eqb k (size .count) h) (rw (choice-is, steps-are) at d)
+      board-by-parts d = rw (opened b e z, ← p, eq-eqb k (size .count) h) (rw (choice-is, steps-are) at d)
 
-pub ruleset board-cases = (board-malformed, board-other, board-lent, board-parts)
+pub ruleset board-cases = (board-malformed, board-other, board-lent, board-by-parts)

@@ -50,7 +50,7 @@ pub record Clear (T : Turns) (b : List ℕ) : Type 0 where
   pub counted : boardTurns b ≡ T .count
   pub apart : independent T (boardChoice b) ≡ true
   pub full : maximal T (boardChoice b) ≡ true
-  pub steps-right : allRight T (initial T) (writtenSteps b) ≡ true
+  pub all-right : allRight T (initial T) (writtenSteps b) ≡ true
   pub closed : noneOpen T (afterSteps T (initial T) (writtenSteps b)) ≡ true
   pub summed : sums T (boardChoice b) (writtenSteps b) (boardTally b) (boardWorth b) ≡ true
 
@@ -69,14 +69,14 @@ module _ (T : Turns) (b : List ℕ) where
         counted = eqb-true (boardTurns b) (T .count) (not-false (eqb (boardTurns b) (T .count)) (or-false-2 (malformed b) (not (eqb (boardTurns b) (T .count))) (c₁ .0)));
         apart = not-false (independent T (boardChoice b)) (c₂ .0);
         full = not-false (maximal T (boardChoice b)) (c₃ .0);
-        steps-right = not-false (allRight T (initial T) (writtenSteps b)) (c₄ .0);
+        all-right = not-false (allRight T (initial T) (writtenSteps b)) (c₄ .0);
         closed = not-false (noneOpen T (afterSteps T (initial T) (writtenSteps b))) (c₅ .0);
         summed = not-false (sums T (boardChoice b) (writtenSteps b) (boardTally b) (boardWorth b)) (c₆ .0);
       }
 
   pub clear-board : Clear T b → firstOf (boardCauses T b) ≡ 0
   unfolding boardCauses ruleCauses choiceCauses stepCauses sumCauses firstOf
-  clear-board c = rw (c .formed, eq-eqb (boardTurns b) (T .count) (c .counted), c .apart, c .full, c .steps-right, c .closed, c .summed)
+  clear-board c = rw (c .formed, eq-eqb (boardTurns b) (T .count) (c .counted), c .apart, c .full, c .all-right, c .closed, c .summed)
 
 -- ---- the check passes
 
@@ -94,13 +94,13 @@ module _ (s b : List ℕ) where
   passes-parts p =
       let q = check-parts (sym (check-number s b) ∙ p) in
       let c = board-clear (sheetTurns s) b (q .1) in
-      let k = keeps-is (sheetTurns s) (boardChoice b) (writtenSteps b) (boardTally b) (boardWorth b) (sheet-lengths s (q .0)) .0 (c .apart, c .full, c .steps-right, c .closed, c .summed) in
+      let k = keeps-is (sheetTurns s) (boardChoice b) (writtenSteps b) (boardTally b) (boardWorth b) (sheet-lengths s (q .0)) .0 (c .apart, c .full, c .all-right, c .closed, c .summed) in
       (q .0, record { form = rw (c .counted ∙ sheet-count s (q .0)) at (formed-board b (c .formed)); rules = k })
 
   pub parts-pass : firstOf (sheetCauses s) ≡ 0 → BoardKeeps s b → Passes s b
   parts-pass e k =
       let t = keeps-is (sheetTurns s) (boardChoice b) (writtenSteps b) (boardTally b) (boardWorth b) (sheet-lengths s e) .1 (k .rules) in
-      let c : Clear (sheetTurns s) b = record { formed = board-formed b (k .form); counted = k .form .turns ∙ sym (sheet-count s e); apart = t .0; full = t .1; steps-right = t .2; closed = t .3; summed = t .4 } in
+      let c : Clear (sheetTurns s) b = record { formed = board-formed b (k .form); counted = k .form .turns ∙ sym (sheet-count s e); apart = t .0; full = t .1; all-right = t .2; closed = t .3; summed = t .4 } in
       check-number s b ∙ parts-check e (clear-board (sheetTurns s) b c)
 
   -- exactly: of bytes, the check passes a board if and only if the sheet is accepted and the board keeps the rules

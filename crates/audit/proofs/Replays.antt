@@ -35,8 +35,8 @@ module _ (p : Size) (cols : List ℕ) (s : List ℤ) (j a : ℕ) {r : Bool} (e :
   is-right : Right (turnsBy p cols) s (record { turn = j; amount = a })
   is-right = right-is (turnsBy p cols) s (record { turn = j; amount = a }) .0 (sym e ∙ t)
 
-  pub right-inside : j < p .count
-  right-inside = omega (arith, is-right .inside, count-is p cols)
+  pub right-step-inside : j < p .count
+  right-step-inside = omega (arith, is-right .inside, count-is p cols)
 
   pub right-small : Residuals (p .count) s → a ≤ mostWorth
   unfolding left
@@ -59,7 +59,7 @@ pub one-applied : (size : Size) (cols : List ℕ) (s : List ℤ) (bytes : List �
     → s′ ≡ afterStep (turnsBy size cols) s (record { turn = j; amount = a }) → s′ ≡ afterStep (turnsBy size cols) s (stepAt bytes i)
 one-applied size cols s bytes i j a p q e = e ∙ ap (afterStep (turnsBy size cols) s) (step-is bytes i p q)
 
-pub ruleset one-cases = (right-inside, right-small, one-false, one-true, one-applied)
+pub ruleset one-cases = (right-step-inside, right-small, one-false, one-true, one-applied)
 
 -- ---- the steps from i on
 
@@ -154,8 +154,8 @@ module _ (p : Size) (cols : List ℕ) (xs : List Step) {s : List ℤ} {r : Bool}
     unfolding stepCauses firstOf
     fault-open f = rw (shown, t, closed, f)
 
-    pub fault-none : o ≡ true → 0 ≡ firstOf (stepCauses (turnsBy p cols) xs)
+    pub fault-no-step : o ≡ true → 0 ≡ firstOf (stepCauses (turnsBy p cols) xs)
     unfolding stepCauses firstOf
-    fault-none f = rw (shown, t, closed, f)
+    fault-no-step f = rw (shown, t, closed, f)
 
-pub ruleset fault-cases = (fault-step, fault-open, fault-none)
+pub ruleset fault-cases = (fault-step, fault-open, fault-no-step)

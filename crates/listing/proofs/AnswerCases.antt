@@ -40,20 +40,20 @@ use Rattle.listing.specs.Ready.{Ready}
 use Rattle.listing.specs.Limits.{listingBytes}
 use Rattle.listing.specs.declared.ListAnswer.{ListAnswer}
 use Rattle.listing.specs.List.{listingFor, sheetListing, listCauses, listOf}
-use Rattle.listing.specs.Answer.{listed, refusedWith, textAnswer}
+use Rattle.listing.specs.Answer.{listed, listRefused, textAnswer}
 use Rattle.listing.proofs.Rounds.{apart-starts}
 use Rattle.listing.proofs.Bytes.{listing-bytes}
 
 -- ---- a text into lent bytes
 
 module _ (text lent : List ℕ) {bytes : ℕ} (e : bytes ≡ length text) where
-  pub text-small : {x : ListAnswer} → length lent < bytes → x ≡ refusedWith bufferTooSmall → listed x lent ≡ textAnswer text lent
+  pub text-small : {x : ListAnswer} → length lent < bytes → x ≡ listRefused bufferTooSmall → listed x lent ≡ textAnswer text lent
   unfolding textAnswer firstOf
   text-small h g = rw g (sym (kept-small [] _ _ lent refl refl (omega arith)))
 
-  pub text-done : {lent′ : List ℕ} → bytes ≤ length lent → lent′ ≡ puts lent 0 text → listed (record { refusal = 0; bytes = bytes }) lent′ ≡ textAnswer text lent
+  pub text-wrote : {lent′ : List ℕ} → bytes ≤ length lent → lent′ ≡ puts lent 0 text → listed (record { refusal = 0; bytes = bytes }) lent′ ≡ textAnswer text lent
   unfolding textAnswer firstOf
-  text-done h g = rw (e, g, puts-front text lent (omega arith)) (sym (wrote-enough [] _ text lent refl refl (omega arith)))
+  text-wrote h g = rw (e, g, puts-front text lent (omega arith)) (sym (wrote-enough [] _ text lent refl refl (omega arith)))
 
 -- a text at the front of a place of its own, which is then lent up to its end
 module _ (text space : List ℕ) (room : length text ≤ length space) {bytes : ℕ} {b : List ℕ} (e : bytes ≡ length text) (f : b ≡ puts space 0 text) where
@@ -82,10 +82,10 @@ module _ (text space : List ℕ) (short : length text ≤ listingBytes) (room : 
   pub copy-fits : (lent : List ℕ) → bytes ≤ length lent → 0 + length (take bytes b) ≤ length lent
   copy-fits lent h = omega (arith, copy-part)
 
-  pub copy-done : (lent : List ℕ) {lent′ : List ℕ} → bytes ≤ length lent → lent′ ≡ puts lent 0 (take bytes b) → listed (record { refusal = 0; bytes = bytes }) lent′ ≡ textAnswer text lent
-  copy-done lent h g = text-done text lent e h (rw (front-is text space held e f) at g)
+  pub copied-done : (lent : List ℕ) {lent′ : List ℕ} → bytes ≤ length lent → lent′ ≡ puts lent 0 (take bytes b) → listed (record { refusal = 0; bytes = bytes }) lent′ ≡ textAnswer text lent
+  copied-done lent h g = text-wrote text lent e h (rw (front-is text space held e f) at g)
 
-pub ruleset text-cases = (text-small, counted, copy-holds, copy-part, copy-fits, copy-done)
+pub ruleset text-cases = (text-small, counted, copy-holds, copy-part, copy-fits, copied-done)
 
 -- ---- the planner's board
 
@@ -166,7 +166,7 @@ list-text s lent z =
     same-first last (sheetListing s) lent (sheetCauses s ++ last) (sym (first-goes (sheetCauses s) last (sheet-numbered s) z))
 
 module _ (s lent : List ℕ) {r : ReadAnswer} (e : r ≡ answerOf s) where
-  pub list-fault : {x : ListAnswer} → (r .refusal ≡ 0 → ⊥) → x ≡ refusedWith (r .refusal) → listed x lent ≡ listOf s lent
+  pub list-fault : {x : ListAnswer} → (r .refusal ≡ 0 → ⊥) → x ≡ listRefused (r .refusal) → listed x lent ≡ listOf s lent
   unfolding listOf listCauses
   list-fault f g = rw g (sym (kept-before (sheetCauses s) _ _ lent (r .refusal) (sym (whole-refusal s e)) f))
 

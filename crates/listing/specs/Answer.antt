@@ -13,8 +13,8 @@ abbrev pub listed : ListAnswer → List ℕ → Written
 listed answer lent = record { refusal = answer .refusal; bytes = answer .bytes; lent = lent }
 
 -- a refusal returns its number and no bytes
-abbrev pub refusedWith : ℕ → ListAnswer
-refusedWith k = record { refusal = k; bytes = 0 }
+abbrev pub listRefused : ℕ → ListAnswer
+listRefused k = record { refusal = k; bytes = 0 }
 
 -- a text into lent bytes: all of it, or nothing where they are too few
 unfoldable pub textAnswer : List ℕ → List ℕ → Written

@@ -14,7 +14,7 @@ ghost use Rattle.listing.specs.Text.{listingOf, refusedLine};
 ghost use Rattle.listing.specs.Ready.{Ready};
 ghost use Rattle.listing.specs.Limits.{listingBytes};
 ghost use Rattle.listing.specs.List.{listingFor, listOf};
-ghost use Rattle.listing.specs.Answer.{listed, refusedWith, textAnswer};
+ghost use Rattle.listing.specs.Answer.{listed, listRefused, textAnswer};
 use lines::Sums;
 use lines::put_refused;
 use parts::put_listing;
@@ -32,7 +32,7 @@ pub struct ListAnswer {
 }
 
 fn refused(k: u8) -> ListAnswer
-    ensures { λ r. ⌜ r ≡ refusedWith k ⌝ }
+    ensures { λ r. ⌜ r ≡ listRefused k ⌝ }
 {
     ListAnswer {
         refusal: k,

@@ -25,7 +25,7 @@ use Rattle.problem.specs.Load.{shiftSize, Posed}
 use Rattle.problem.proofs.Posed.{sheet-count, sheet-worths}
 use Rattle.planner.specs.declared.PlanAnswer.{PlanAnswer}
 use Rattle.planner.specs.Plan.{boardFor, plannedBoard, planCauses, planOf}
-use Rattle.planner.specs.Answer.{planned, refusedWith}
+use Rattle.planner.specs.Answer.{planned, planRefused}
 use Rattle.planner.proofs.Boards.{board-most, ReadsBack, board-back}
 
 -- ---- every sheet that is not refused
@@ -50,7 +50,7 @@ plan-room n lent q g h = rw q (omega (arith, g))
 module _ (s lent : List ℕ) {r : ReadAnswer} (e : r ≡ answerOf s) where
   -- ---- refused
 
-  pub plan-fault : {x : PlanAnswer} → (r .refusal ≡ 0 → ⊥) → x ≡ refusedWith (r .refusal) → planned x lent ≡ planOf s lent
+  pub plan-fault : {x : PlanAnswer} → (r .refusal ≡ 0 → ⊥) → x ≡ planRefused (r .refusal) → planned x lent ≡ planOf s lent
   unfolding planOf planCauses
   plan-fault f g = rw g (sym (kept-before (sheetCauses s) _ _ lent (r .refusal) (sym (whole-refusal s e)) f))
 
@@ -61,7 +61,7 @@ module _ (s lent : List ℕ) {r : ReadAnswer} (e : r ≡ answerOf s) where
     sound : firstOf (sheetCauses s) ≡ 0
     sound = whole-accepted s e f
 
-    pub plan-small : {x : PlanAnswer} {size : ℕ} → x ≡ refusedWith bufferTooSmall → size ≡ boardLength (r .turns) (r .turns) → length lent < size → planned x lent ≡ planOf s lent
+    pub plan-small : {x : PlanAnswer} {size : ℕ} → x ≡ planRefused bufferTooSmall → size ≡ boardLength (r .turns) (r .turns) → length lent < size → planned x lent ≡ planOf s lent
     unfolding planOf planCauses
     plan-small g p h = rw g (sym (kept-small (sheetCauses s) _ _ lent (sheet-numbered s) sound (omega (arith, p, count))))
 

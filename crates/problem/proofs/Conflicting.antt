@@ -6,7 +6,7 @@ use lib.Dec.{ltb, eqb}
 use Rattle.model.specs.Turns.{Turns, overlapping, overlap, bySlope, oneGroomer, byGroomer, conflict}
 use Rattle.problem.specs.declared.ways.Row.{Row}
 use Rattle.problem.specs.declared.ways.Ways.{Ways}
-use Rattle.problem.specs.Ways.{rowOf, sharedOf, waysOf, conflicting}
+use Rattle.problem.specs.Ways.{turnRow, sharedOf, waysOf, conflicting}
 
 -- ---- as the code leaves them
 
@@ -30,10 +30,10 @@ pub ruleset ways-cases = (overlap-is, shared-is, ways-are, any-is)
 
 -- ---- as the model says them
 
-pub rows-conflict : (T : Turns) (x y : ℕ) → conflicting (T .gap) (rowOf T x) (rowOf T y) ≡ conflict T x y
-unfolding conflicting waysOf sharedOf rowOf conflict bySlope oneGroomer byGroomer overlap
+pub rows-conflict : (T : Turns) (x y : ℕ) → conflicting (T .gap) (turnRow T x) (turnRow T y) ≡ conflict T x y
+unfolding conflicting waysOf sharedOf turnRow conflict bySlope oneGroomer byGroomer overlap
 rows-conflict T x y = refl
 
-pub shared-groomer : (T : Turns) (x y : ℕ) → sharedOf (rowOf T x) (rowOf T y) .groomer ≡ oneGroomer T x y
-unfolding sharedOf rowOf oneGroomer
+pub shared-groomer : (T : Turns) (x y : ℕ) → sharedOf (turnRow T x) (turnRow T y) .groomer ≡ oneGroomer T x y
+unfolding sharedOf turnRow oneGroomer
 shared-groomer T x y = refl

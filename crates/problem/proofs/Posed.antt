@@ -35,11 +35,11 @@ module _ (table : List ℕ) (t : ℕ) {a : Turn} (e : a ≡ turnIn table t) wher
   unfolding rowFor
   row-from-is = rw e
 
-  pub end-fits : (n : ℕ) → EndsFit n table → t < n → a .start + a .length < 65536
+  pub end-narrow : (n : ℕ) → EndsFit n table → t < n → a .start + a .length < 65536
   unfolding EndsFit
-  end-fits n f h = rw e (f t h)
+  end-narrow n f h = rw e (f t h)
 
-pub ruleset from-cases = (row-from-is, end-fits)
+pub ruleset from-cases = (row-from-is, end-narrow)
 
 -- ---- all turns of the table
 
@@ -51,13 +51,13 @@ pub rows-more : (table cols : List ℕ) (i : ℕ) {r : Row} {cols′ : List ℕ}
 unfolding RowsOf
 rows-more table cols i {r} {n = n} l m w e q o = let h : i < mostTurns = omega arith in rw (add-one, q) (up-to (λ t. rowIn (withRow cols i r) t ≡ rowFor (turnIn table t)) i (λ t k. row-other cols i r t (omega arith) h (omega arith) ∙ o t k) (row-new cols i r h w ∙ e))
 
-pub rows-length : (cols : List ℕ) (i : ℕ) (r : Row) {cols′ : List ℕ} → cols′ ≡ withRow cols i r → length cols ≡ columnPlaces → length cols′ ≡ columnPlaces
-rows-length cols i r e w = rw e (row-length cols i r ∙ w)
+pub put-length : (cols : List ℕ) (i : ℕ) (r : Row) {cols′ : List ℕ} → cols′ ≡ withRow cols i r → length cols ≡ columnPlaces → length cols′ ≡ columnPlaces
+put-length cols i r e w = rw e (row-length cols i r ∙ w)
 
 pub rows-done : (table cols : List ℕ) (i : ℕ) {n : ℕ} → n ≤ i → i ≤ n → RowsOf table cols i → RowsOf table cols n
 rows-done table cols i {n} h l o = let q : i ≡ n = omega arith in rw q at o
 
-pub ruleset rows-cases = (rows-none, rows-more, rows-length, rows-done)
+pub ruleset rows-cases = (rows-none, rows-more, put-length, rows-done)
 
 -- ---- a sheet that is not refused
 

@@ -12,7 +12,7 @@ use Rattle.sheet.specs.Kind.{mostTurns}
 use Rattle.problem.specs.declared.ways.Row.{Row}
 use Rattle.problem.specs.declared.ways.Ways.{Ways}
 use Rattle.problem.specs.declared.columns.Size.{Size}
-use Rattle.problem.specs.Ways.{rowOf, sharedOf, conflicting}
+use Rattle.problem.specs.Ways.{turnRow, sharedOf, conflicting}
 use Rattle.problem.specs.Columns.{columnPlaces, rowIn, withRow, within, turnsBy, Held}
 use Rattle.problem.proofs.Conflicting.{rows-conflict, shared-groomer}
 
@@ -109,8 +109,8 @@ module _ (p : Size) (cols : List ℕ) where
   gap-is = refl
 
   -- row t of the columns is turn t's
-  pub row-is : (t : ℕ) → t < p .count → rowIn cols t ≡ rowOf (turnsBy p cols) t
-  unfolding turnsBy rowOf
+  pub row-is : (t : ℕ) → t < p .count → rowIn cols t ≡ turnRow (turnsBy p cols) t
+  unfolding turnsBy turnRow
   row-is t h = λ j. record {
     slope = sym (within-at (p .count) (λ i. rowIn cols i .slope) t h) j;
     groomer = sym (within-at (p .count) (λ i. rowIn cols i .groomer) t h) j;
@@ -119,39 +119,39 @@ module _ (p : Size) (cols : List ℕ) where
     worth = sym (within-at (p .count) (λ i. rowIn cols i .worth) t h) j;
   }
 
-  gapped : (x y : ℕ) → conflicting (p .gap) (rowOf (turnsBy p cols) x) (rowOf (turnsBy p cols) y) ≡ conflict (turnsBy p cols) x y
+  gapped : (x y : ℕ) → conflicting (p .gap) (turnRow (turnsBy p cols) x) (turnRow (turnsBy p cols) y) ≡ conflict (turnsBy p cols) x y
   unfolding turnsBy
   gapped x y = rows-conflict (turnsBy p cols) x y
 
-  pub conflict-is : (x y : ℕ) {a b : Row} {r : Bool} → x < p .count → y < p .count → a ≡ rowIn cols x → b ≡ rowIn cols y → r ≡ conflicting (p .gap) a b → r ≡ conflict (turnsBy p cols) x y
-  conflict-is x y h k e f g = g ∙ rw (e, f, row-is x h, row-is y k) (gapped x y)
+  pub rows-conflict-is : (x y : ℕ) {a b : Row} {r : Bool} → x < p .count → y < p .count → a ≡ rowIn cols x → b ≡ rowIn cols y → r ≡ conflicting (p .gap) a b → r ≡ conflict (turnsBy p cols) x y
+  rows-conflict-is x y h k e f g = g ∙ rw (e, f, row-is x h, row-is y k) (gapped x y)
 
-  pub groomer-is : (x y : ℕ) {a b : Row} {w : Ways} → x < p .count → y < p .count → a ≡ rowIn cols x → b ≡ rowIn cols y → w ≡ sharedOf a b → w .groomer ≡ oneGroomer (turnsBy p cols) x y
-  groomer-is x y h k e f g = ap (λ (w : Ways). w .groomer) g ∙ rw (e, f, row-is x h, row-is y k) (shared-groomer (turnsBy p cols) x y)
+  pub rows-groomer-is : (x y : ℕ) {a b : Row} {w : Ways} → x < p .count → y < p .count → a ≡ rowIn cols x → b ≡ rowIn cols y → w ≡ sharedOf a b → w .groomer ≡ oneGroomer (turnsBy p cols) x y
+  rows-groomer-is x y h k e f g = ap (λ (w : Ways). w .groomer) g ∙ rw (e, f, row-is x h, row-is y k) (shared-groomer (turnsBy p cols) x y)
 
   -- a number of turn t, from its row
   module _ (t : ℕ) {a : Row} (h : t < p .count) (e : a ≡ rowIn cols t) where
-    row-at-is : a ≡ rowOf (turnsBy p cols) t
+    row-at-is : a ≡ turnRow (turnsBy p cols) t
     row-at-is = e ∙ row-is t h
 
     pub slope-at : a .slope ≡ turnsBy p cols .slope t
-    unfolding rowOf
+    unfolding turnRow
     slope-at = ap (λ (r : Row). r .slope) row-at-is
 
     pub groomer-at : a .groomer ≡ turnsBy p cols .groomer t
-    unfolding rowOf
+    unfolding turnRow
     groomer-at = ap (λ (r : Row). r .groomer) row-at-is
 
     pub start-at : a .start ≡ turnsBy p cols .start t
-    unfolding rowOf
+    unfolding turnRow
     start-at = ap (λ (r : Row). r .start) row-at-is
 
     pub end-at : a .end ≡ turnsBy p cols .end t
-    unfolding rowOf
+    unfolding turnRow
     end-at = ap (λ (r : Row). r .end) row-at-is
 
     pub worth-at : a .worth ≡ turnsBy p cols .worth t
-    unfolding rowOf
+    unfolding turnRow
     worth-at = ap (λ (r : Row). r .worth) row-at-is
 
   pub lengths-are : Held p cols → PositiveLengths (turnsBy p cols)

@@ -12,8 +12,8 @@ unfoldable pub rowFor : Turn → Row
 rowFor t = record { slope = t .slope; groomer = t .groomer; start = t .start; end = t .start + t .length; worth = t .worth }
 
 -- the row that turn t of a problem has
-unfoldable pub rowOf : Turns → ℕ → Row
-rowOf T t = record { slope = T .slope t; groomer = T .groomer t; start = T .start t; end = T .end t; worth = T .worth t }
+unfoldable pub turnRow : Turns → ℕ → Row
+turnRow T t = record { slope = T .slope t; groomer = T .groomer t; start = T .start t; end = T .end t; worth = T .worth t }
 
 -- what two turns share, whatever their minutes: the slope, the groomer
 unfoldable pub sharedOf : Row → Row → Ways

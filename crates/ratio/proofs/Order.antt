@@ -17,7 +17,7 @@ use Rattle.problem.specs.declared.ways.Ways.{Ways}
 use Rattle.problem.specs.declared.columns.Size.{Size}
 use Rattle.problem.specs.Ways.{sharedOf}
 use Rattle.problem.specs.Columns.{rowIn, turnsBy}
-use Rattle.problem.proofs.Rows.{count-is, groomer-is, end-at}
+use Rattle.problem.proofs.Rows.{count-is, rows-groomer-is, end-at}
 use Rattle.ratio.specs.Below.{earliestBelow}
 
 -- ---- one turn
@@ -25,7 +25,7 @@ use Rattle.ratio.specs.Below.{earliestBelow}
 pub earlier-is : (p : Size) (cols : List ℕ) (s : List ℤ) (j t : ℕ) {o : Bool} {x y : Row} {w : Ways}
     → j < p .count → t < p .count → o ≡ isOpen s t → x ≡ rowIn cols j → y ≡ rowIn cols t → w ≡ sharedOf x y → not (o && w .groomer && ltb (y .end) (x .end)) ≡ noEarlier (turnsBy p cols) s j t
 unfolding noEarlier
-earlier-is p cols s j t h k e f g q = rw (e, groomer-is p cols j t h k f g q, end-at p cols j h f, end-at p cols t k g)
+earlier-is p cols s j t h k e f g q = rw (e, rows-groomer-is p cols j t h k f g q, end-at p cols j h f, end-at p cols t k g)
 
 -- ---- all turns
 
