@@ -131,8 +131,8 @@ slopeboard_write_answer slopeboard_write(uint32_t groomers, uint32_t slopes, con
  * SLOPEBOARD_BOARD_BYTES of the sheet's turns. */
 slopeboard_plan_answer slopeboard_plan(const uint8_t *sheet, size_t sheet_len, uint8_t *board, size_t board_len);
 
-/* Gives 0 if the bytes have the shape of a board, else 12: the mark GRB, no more steps than turns,
- * exactly the length that both counts demand, and no bit past the last turn. What the board says is
+/* Gives 0 if the bytes have the shape of a board, which is: the mark GRB, no more steps than turns,
+ * exactly the length that both counts demand, and no bit past the last turn; else 12. What the board says is
  * not judged, and it may have more turns than any sheet. */
 uint8_t slopeboard_open(const uint8_t *board, size_t board_len);
 

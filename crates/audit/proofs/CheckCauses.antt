@@ -15,7 +15,7 @@ use Rattle.model.specs.Steps.{isOpen, initial, afterSteps, tally}
 use Rattle.lists.specs.Lists.{every}
 use Rattle.model.specs.Choice.{has, chosen, fits}
 use Rattle.model.specs.Rules.{independent, maximal, noneOpen, sums}
-use Rattle.lists.proofs.Bools.{and-1, and-2, or-cases, or-false-1, or-false-2, not-both, every-not}
+use Rattle.lists.proofs.Bools.{and-1, and-2, or-cases, or-1, or-2, or-false-1, or-false-2, not-both, every-not}
 use Rattle.model.proofs.Minutes.{conflict-is}
 use Rattle.model.proofs.Filled.{fits-apart}
 use Rattle.model.proofs.Readings.{independent-is, maximal-is, allRight-is, noneOpen-is, sums-is}
@@ -25,30 +25,30 @@ use Rattle.sheet.specs.Accepted.{SheetCause, placeOf, FirstAmong}
 use Rattle.sheet.proofs.Causes.{refused-iff, first-same, cause-there}
 use Rattle.sheet.proofs.Readings.{sheet-numbered}
 use Rattle.board.specs.Board.{boardTurns, boardSteps, boardTally, boardWorth, boardChoice, writtenSteps}
-use Rattle.board.specs.Open.{malformed, WellFormed}
-use Rattle.board.proofs.OpenCauses.{formed-board, board-formed}
+use Rattle.board.specs.Open.{malformed, openOf, OpenCause}
+use Rattle.refusal.specs.Number.{malformedBoard}
+use Rattle.board.proofs.Openings.{open-refused, shut}
+use Rattle.board.proofs.OpenCauses.{open-refused-iff}
 use Rattle.problem.specs.Problem.{sheetTurns}
 use Rattle.problem.proofs.Posed.{sheet-lengths}
-use Rattle.audit.specs.Check.{choiceCauses, stepCauses, ruleCauses, sumCauses, boardCauses, checkCauses, checkOf, BoardCause, form, two-conflict, room-left, step-wrong, turn-open, sums-differ, CheckCause, of-sheet, of-board, FirstCheckCause}
+use Rattle.audit.specs.Check.{choiceCauses, stepCauses, ruleCauses, sumCauses, boardCauses, checkCauses, checkOf, BoardCause, no-board, other-count, two-conflict, room-left, step-wrong, turn-open, sums-differ, CheckCause, of-sheet, of-board, FirstCheckCause}
 use Rattle.audit.proofs.Passing.{check-number}
 
 module _ (T : Turns) (lengths : PositiveLengths T) (b : List ℕ) where
   -- ---- each test that fails, in words
 
-  form-cause : (malformed b || not (eqb (boardTurns b) (T .count))) ≡ true → WellFormed b (T .count) (boardSteps b) → ⊥
-  form-cause e w = go (or-cases (malformed b) (not (eqb (boardTurns b) (T .count))) e)
+  form-cause : (malformed b || not (eqb (boardTurns b) (T .count))) ≡ true → BoardCause T b 12 0
+  form-cause e = go (or-cases (malformed b) (not (eqb (boardTurns b) (T .count))) e)
     where
-      go : (malformed b ≡ true) ⊎ (not (eqb (boardTurns b) (T .count)) ≡ true) → ⊥
-      go (inl m) = not-both m (board-formed b w)
-      go (inr n) = eqb-false (boardTurns b) (T .count) (not-true (eqb (boardTurns b) (T .count)) n) (w .turns)
+      go : (malformed b ≡ true) ⊎ (not (eqb (boardTurns b) (T .count)) ≡ true) → BoardCause T b 12 0
+      go (inl m) = no-board (open-refused-iff b .0 (sym (open-refused b (sym m) refl)) .1)
+      go (inr n) = other-count (eqb-false (boardTurns b) (T .count) (not-true (eqb (boardTurns b) (T .count)) n))
 
-  cause-form : (WellFormed b (T .count) (boardSteps b) → ⊥) → (malformed b || not (eqb (boardTurns b) (T .count))) ≡ true
-  cause-form n = go (malformed b) refl (ℕ-discrete (boardTurns b) (T .count))
-    where
-      go : (m : Bool) → malformed b ≡ m → Dec (boardTurns b ≡ T .count) → (m || not (eqb (boardTurns b) (T .count))) ≡ true
-      go true e d = refl
-      go false e (yes q) = absurd (n (rw q at (formed-board b e)))
-      go false e (no q) = rw (ne-eqb (boardTurns b) (T .count) q)
+  cause-opens : {r : ℕ} → OpenCause b malformedBoard r → (malformed b || not (eqb (boardTurns b) (T .count))) ≡ true
+  cause-opens {r} c = or-1 (malformed b) (not (eqb (boardTurns b) (T .count))) (shut b refl (λ z. omega (arith, sym z ∙ open-refused-iff b .1 (r, c))))
+
+  cause-count : boardTurns b ≢ T .count → (malformed b || not (eqb (boardTurns b) (T .count))) ≡ true
+  cause-count n = or-2 (malformed b) (not (eqb (boardTurns b) (T .count))) (rw (ne-eqb (boardTurns b) (T .count) n))
 
   conflict-cause : not (independent T (boardChoice b)) ≡ true → BoardCause T b 13 1
   unfolding independent
@@ -102,7 +102,7 @@ module _ (T : Turns) (lengths : PositiveLengths T) (b : List ℕ) where
 
   pub board-cause : {k r : ℕ} → There (boardCauses T b) k r → BoardCause T b k r
   unfolding boardCauses ruleCauses choiceCauses stepCauses sumCauses
-  board-cause (here e) = form (form-cause e)
+  board-cause (here e) = form-cause e
   board-cause (later (here e)) = conflict-cause e
   board-cause (later (later (here e))) = room-cause e
   board-cause (later (later (later (here e)))) = step-wrong (λ r. not-both (allRight-is T (initial T) (writtenSteps b) .1 r) (not-true _ e))
@@ -111,7 +111,8 @@ module _ (T : Turns) (lengths : PositiveLengths T) (b : List ℕ) where
 
   pub cause-board : {k r : ℕ} → BoardCause T b k r → There (boardCauses T b) k r
   unfolding boardCauses ruleCauses choiceCauses stepCauses sumCauses
-  cause-board (form n) = here (cause-form n)
+  cause-board (no-board c) = here (cause-opens c)
+  cause-board (other-count n) = here (cause-count n)
   cause-board (two-conflict x y l m d p q c) = later (here (refuted _ (λ e. independent-is T (boardChoice b) lengths .0 e x y l m d p q c)))
   cause-board (room-left t l h n) = later (later (here (refuted _ (λ e. let w = maximal-is T (boardChoice b) lengths .0 e t l h in n (w .0) (w .1) (w .2) (w .3)))))
   cause-board (step-wrong n) = later (later (later (here (refuted _ (λ e. n (allRight-is T (initial T) (writtenSteps b) .0 e))))))

@@ -16,7 +16,7 @@ use Rattle.sheet.specs.Accepted.{SheetCause, placeOf, FirstAmong}
 use Rattle.problem.specs.Problem.{sheetTurns}
 use Rattle.audit.specs.declared.judge.CheckAnswer.{CheckAnswer}
 use Rattle.board.specs.Board.{boardTurns, boardSteps, boardTally, boardWorth, boardChoice, writtenSteps}
-use Rattle.board.specs.Open.{malformed, WellFormed}
+use Rattle.board.specs.Open.{malformed, WellFormed, OpenCause}
 
 -- what may be wrong with a choice: two chosen turns conflict, or a turn still fits
 unfoldable pub choiceCauses : Turns → List Bool → List Cause
@@ -71,11 +71,18 @@ pub record BoardKeeps (s b : List ℕ) : Type 0 where
 
 -- a cause to refuse b as a board for these turns is there: its number, and its place in the order
 pub data BoardCause (T : Turns) (b : List ℕ) : ℕ → ℕ → Type 0 where
-  form : (WellFormed b (T .count) (boardSteps b) → ⊥) → BoardCause T b malformedBoard 0
+  -- 12: it does not open, or is for another number of turns
+  no-board : {r : ℕ} → OpenCause b malformedBoard r → BoardCause T b malformedBoard 0
+  other-count : boardTurns b ≢ T .count → BoardCause T b malformedBoard 0
+  -- 13
   two-conflict : (x y : ℕ) → x < T .count → y < T .count → x ≢ y → has (boardChoice b) x ≡ true → has (boardChoice b) y ≡ true → Conflict T x y → BoardCause T b chosenConflict 1
+  -- 14
   room-left : (t : ℕ) → t < T .count → has (boardChoice b) t ≡ false → ((u : ℕ) → u < T .count → has (boardChoice b) u ≡ true → Conflict T u t → ⊥) → BoardCause T b notMaximal 2
+  -- 15: not each step in order is right where it stands
   step-wrong : (Each (afterStep T) (Right T) (initial T) (writtenSteps b) → ⊥) → BoardCause T b wrongStep 3
+  -- 16
   turn-open : (t : ℕ) → t < T .count → isOpen (afterSteps T (initial T) (writtenSteps b)) t ≡ true → BoardCause T b turnLeftOpen 4
+  -- 17
   sums-differ : (boardTally b ≢ tally (writtenSteps b)) ⊎ (boardWorth b ≢ chosen (T .count) (boardChoice b) (T .worth)) ⊎ (boardWorth b < boardTally b) → BoardCause T b wrongSums 5
 
 -- a cause to refuse s or b: the sheet's come first; the board's places count from behind the sheet's last

@@ -31,7 +31,7 @@ use Rattle.problem.proofs.Posed.{sheet-count, sheet-lengths}
 use Rattle.audit.specs.Check.{Passes, BoardKeeps, checkOf, checked}
 use Rattle.audit.proofs.Passing.{formed-board, parts-pass, passes-iff, passes-answer, passes-promises}
 use Rattle.planner.specs.Plan.{planCauses, plannedBoard, planOf}
-use Rattle.planner.proofs.PlanCauses.{plan-number}
+use Rattle.planner.proofs.PlanCauses.{plan-number, plan-accepted-iff}
 use Rattle.planner.proofs.Answers.{planned-back}
 use Rattle.claim.specs.Claim.{ByMethod, Claim}
 
@@ -91,7 +91,8 @@ claim s b y =
       exactly = passes-iff s b y;
       answers = passes-answer s b;
       ours = λ a. planned-passes s (accepted-iff y .1 a);
-      writes = λ lent z. rw (plan-front s lent z) (planned-passes s (plan-accepted s lent z));
+      plans = plan-accepted-iff y;
+      writes = plan-front s;
       method-returns = λ a. (goBack (sheetTurns s) (steps (sheetTurns s)), steps (sheetTurns s), selection-exists (sheetTurns s) (sheet-lengths s (accepted-iff y .1 a)));
       method = λ a S xs d. made s (accepted-iff y .1 a) d;
       promises = passes-promises s b;

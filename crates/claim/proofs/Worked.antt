@@ -20,7 +20,8 @@ use Rattle.model.specs.Steps.{isOpen, left, initial, reduced, change, afterStep
 use Rattle.model.specs.Pick.{sooner, better, best, pick, nextStep, plan, steps}
 use Rattle.model.specs.Choice.{chosen, fits, choose, back, fill, goBack, choice}
 use Rattle.model.specs.Rules.{independent, maximal, noEarlier, right, allRight, noneOpen, sums}
-use Rattle.board.specs.Choice.{bitOf, chosenIn, choiceIn, clearPast, byteOf, mapOf}
+use Rattle.board.specs.Choice.{bitOf, chosenIn, choiceIn, clearPast, byteOf, mapOf, onesOf, onesIn}
+use Rattle.board.specs.Chosen.{counted, countOf, turnChosen}
 use Rattle.board.specs.Board.{boardMap, boardChoice, stepsIn, writtenSteps, stepBytes, boardOf}
 use Rattle.board.specs.Open.{badSizes, malformed, openOf, stepsPart}
 use Rattle.audit.specs.Check.{choiceCauses, stepCauses, ruleCauses, sumCauses, boardCauses, checkCauses, checkOf, checked}
@@ -67,6 +68,22 @@ shift-opened = refl
 shift-steps : stepsPart shiftBoard ≡ shiftSteps
 unfolding firstOf opensWith every tab bitOf chosenIn choiceIn clearPast byteOf mapOf boardMap boardChoice stepsIn writtenSteps stepBytes boardOf badSizes malformed openOf stepsPart
 shift-steps = refl
+
+shift-counted : countOf shiftBoard ≡ counted 0 3
+unfolding firstOf opensWith every tab bitOf chosenIn clearPast boardMap badSizes malformed onesOf onesIn countOf turnChosen
+shift-counted = refl
+
+shift-chosen : turnChosen shiftBoard 1 ≡ true
+unfolding firstOf opensWith every tab bitOf chosenIn clearPast boardMap badSizes malformed onesOf onesIn countOf turnChosen
+shift-chosen = refl
+
+shift-not-chosen : turnChosen shiftBoard 0 ≡ false
+unfolding firstOf opensWith every tab bitOf chosenIn clearPast boardMap badSizes malformed onesOf onesIn countOf turnChosen
+shift-not-chosen = refl
+
+shift-no-turn : turnChosen shiftBoard 4 ≡ false
+unfolding firstOf opensWith every tab bitOf chosenIn clearPast boardMap badSizes malformed onesOf onesIn countOf turnChosen
+shift-no-turn = refl
 
 shift-checked : checkOf shift shiftBoard ≡ checked 0 240 320
 unfolding firstOf opensWith field turnFrom badMapFor endAt turnAt cursorAfter recordCauses firstCursor countCauses headerCauses recordsCauses turnsFrom rows garage causesFor sheetCauses turnsOf tableOf readCausesFor readFor readOf outsideRange pastShift turnCauses problemOf sheetTurns overlapping overlap bySlope oneGroomer byGroomer conflict every tab isOpen left initial reduced change afterStep afterSteps tally sooner better best pick nextStep plan steps chosen fits choose back fill goBack choice bitOf chosenIn choiceIn clearPast byteOf mapOf boardMap boardChoice stepsIn writtenSteps stepBytes boardOf badSizes malformed openOf stepsPart independent maximal noEarlier right allRight noneOpen sums choiceCauses stepCauses ruleCauses sumCauses boardCauses checkCauses checkOf
@@ -151,6 +168,10 @@ worked-cases = record {
   shift-planned = shift-planned;
   shift-opened = shift-opened;
   shift-steps = shift-steps;
+  shift-counted = shift-counted;
+  shift-chosen = shift-chosen;
+  shift-not-chosen = shift-not-chosen;
+  shift-no-turn = shift-no-turn;
   shift-checked = shift-checked;
   shift-stepped = shift-stepped;
   shift-gone-back = shift-gone-back;

@@ -14,6 +14,7 @@ use Rattle.sheet.specs.Read.{readOf, outcome, readRefused}
 use Rattle.problem.specs.Problem.{sheetTurns}
 use Rattle.writer.specs.Write.{writeOf}
 use Rattle.board.specs.Open.{openOf, stepsPart}
+use Rattle.board.specs.Chosen.{counted, countOf, turnChosen}
 use Rattle.audit.specs.Check.{checkOf, checked}
 use Rattle.planner.specs.Plan.{planOf}
 use Rattle.listing.specs.List.{listOf}
@@ -39,6 +40,10 @@ pub record WorkedCases : Type 0 where
   pub shift-planned : planOf shift (lent 33) ≡ record { refusal = 0; bytes = 28; lent = shiftBoard ++ lent 5 }
   pub shift-opened : openOf shiftBoard ≡ 0
   pub shift-steps : stepsPart shiftBoard ≡ shiftSteps
+  pub shift-counted : countOf shiftBoard ≡ counted 0 3
+  pub shift-chosen : turnChosen shiftBoard 1 ≡ true
+  pub shift-not-chosen : turnChosen shiftBoard 0 ≡ false
+  pub shift-no-turn : turnChosen shiftBoard 4 ≡ false
   pub shift-checked : checkOf shift shiftBoard ≡ checked 0 240 320
   -- its first step leaves 0, 50, -20 and 90; going back over its steps chooses 3 and 1, and filling adds 2
   pub shift-stepped : afterStep shiftTurns (initial shiftTurns) (record { turn = 0; amount = 100 }) ≡ pos 0 ∷ pos 50 ∷ negsuc 19 ∷ pos 90 ∷ []

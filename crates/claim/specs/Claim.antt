@@ -4,14 +4,14 @@ use mathlib.Core.Logic.{_↔_}
 use mathlib.Core.Bool.{Bool}
 use mathlib.Core.List.{List}
 use lib.ListN.{length, take}
-use Prim.Native.Nat.{ℕ}
+use Prim.Native.Nat.{ℕ, _≤_}
 use Rattle.model.specs.Steps.{Step, tally}
 use Rattle.model.specs.Choice.{chosen, fits, fill}
 use Rattle.model.specs.Promises.{Promises}
 use Rattle.model.specs.IntervalSelection.{Selects}
 use Rattle.sheet.specs.Read.{countsIn, turnCount, turnsOf}
 use Rattle.sheet.specs.Accepted.{Accepted}
-use Rattle.board.specs.Board.{boardTally, boardWorth, boardChoice, writtenSteps}
+use Rattle.board.specs.Board.{boardTally, boardWorth, boardLength, boardChoice, writtenSteps}
 use Rattle.problem.specs.Problem.{sheetTurns}
 use Rattle.audit.specs.Check.{Passes, BoardKeeps, checkOf, checked}
 use Rattle.planner.specs.Plan.{plannedBoard, planOf}
@@ -42,8 +42,10 @@ pub record Claim (s b : List ℕ) : Type 0 where
   pub answers : Passes s b → checkOf s b ≡ checked 0 (boardTally b) (boardWorth b)
   -- the planner's board of an accepted sheet passes
   pub ours : Accepted s → Passes s (plannedBoard s)
-  -- so does what the planner writes: in whatever bytes it is lent, where it refuses nothing, the first so many are a board that passes
-  pub writes : (lent : List ℕ) → planOf s lent .refusal ≡ 0 → Passes s (take (planOf s lent .bytes) (planOf s lent .lent))
+  -- the planner refuses nothing exactly if s is accepted and the lent bytes hold a board with as many steps as turns
+  pub plans : (lent : List ℕ) → (planOf s lent .refusal ≡ 0) ↔ (Accepted s × (boardLength (turnCount s) (turnCount s) ≤ length lent))
+  -- then what it writes is its board: in whatever bytes it is lent, the first so many
+  pub writes : (lent : List ℕ) → planOf s lent .refusal ≡ 0 → take (planOf s lent .bytes) (planOf s lent .lent) ≡ plannedBoard s
   -- the published algorithm returns a choice and makes steps, and whatever these are, the planner's board is theirs
   pub method-returns : Accepted s → (S : List Bool) × (xs : List Step) × Selects (sheetTurns s) S xs
   pub method : Accepted s → (S : List Bool) (xs : List Step) → Selects (sheetTurns s) S xs → ByMethod s S xs

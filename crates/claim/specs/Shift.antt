@@ -38,7 +38,7 @@ emptyBoard = 0x47 ∷ 0x52 ∷ 0x42 ∷ 0x00 ∷ 0x00 ∷ 0x00 ∷ 0x00 ∷ 0x00
 abbrev pub lateTurn : ℕ → ℕ → ℕ → List ℕ
 lateTurn len high low = 0x47 ∷ 0x52 ∷ 0x4D ∷ 0x01 ∷ 0x01 ∷ 0x00 ∷ 0x01 ∷ 0x1F ∷ 0x01 ∷ 0x01 ∷ 0x03 ∷ 0x84 ∷ 0x00 ∷ len ∷ high ∷ low ∷ []
 
--- its listing as characters, a list for each line
+-- the shift's listing as characters, a list for each line
 abbrev pub shiftListing : List ℕ
 shiftListing =
     (103 ∷ 114 ∷ 111 ∷ 111 ∷ 109 ∷ 101 ∷ 114 ∷ 32 ∷ 49 ∷ 10 ∷ [])

@@ -1,4 +1,4 @@
--- Algorithm IS of the source document, section 5.2.1, line by line, with the machines of 5.2.4: an interval is a turn, its activity the slope, its machine the groomer. Sets of intervals are lists of Bool. Assumes nothing.
+-- Algorithm IS of the source document, section 5.2.1, line by line, with the machines of 5.2.4: an interval is a turn, its activity the slope, its machine the groomer. Two intervals of a machine intersect where the turns overlap, with the gap between turns counted to each; the source's own case is a gap of 0. Sets of intervals are lists of Bool. Assumes nothing.
 use mathlib.Core.Path.{_≡_}
 use mathlib.Core.Logic.{_≢_, _⊎_}
 use mathlib.Core.Bool.{Bool, true, false, not, cond, _&&_, _||_}
@@ -15,7 +15,7 @@ use Rattle.model.specs.Rules.{Independent}
 unfoldable pub neighbour : Turns → ℕ → ℕ → Bool
 neighbour T J I = bySlope T J I || (not (bySlope T J I) && byGroomer T J I)
 
--- line 6: the weight that is split off, and the weight that stays
+-- line 6: the weight that is split off
 unfoldable pub w₁ : Turns → (ℕ → ℤ) → ℕ → ℕ → ℤ
 w₁ T w J I = cond (neighbour T J I) (w J) (pos 0)
 

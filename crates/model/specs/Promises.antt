@@ -6,7 +6,7 @@ use Rattle.model.specs.Turns.{Turns}
 use Rattle.model.specs.Rules.{Independent, Maximal}
 use Rattle.model.specs.Feasible.{Feasible, worthOf, OneTurnASlope}
 
--- the four promises, of a choice and its two sums
+-- the promises, of a choice and its two sums
 pub record Promises (T : Turns) (S : List Bool) (tallied worth : ℕ) : Type 0 where
   -- no feasible set is worth more than twice the tally
   pub twice : (R : List ℕ) → Feasible T R → worthOf T R ≤ 2 * tallied

@@ -35,11 +35,11 @@ module _ (table : List ℕ) (t : ℕ) {a : Turn} (e : a ≡ turnIn table t) wher
   unfolding rowFor
   row-from-is = rw e
 
-  pub end-narrow : (n : ℕ) → EndsFit n table → t < n → a .start + a .length < 65536
+  pub end-in-16 : (n : ℕ) → EndsFit n table → t < n → a .start + a .length < 65536
   unfolding EndsFit
-  end-narrow n f h = rw e (f t h)
+  end-in-16 n f h = rw e (f t h)
 
-pub ruleset from-cases = (row-from-is, end-narrow)
+pub ruleset from-cases = (row-from-is, end-in-16)
 
 -- ---- all turns of the table
 

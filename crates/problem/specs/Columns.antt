@@ -11,9 +11,13 @@ use Rattle.sheet.specs.Kind.{mostTurns}
 use Rattle.problem.specs.declared.ways.Row.{Row}
 use Rattle.problem.specs.declared.columns.Size.{Size}
 
--- the places of all columns
+-- how many columns there are
+abbrev pub columnCount : ℕ
+columnCount = 5
+
+-- the places of all of them
 abbrev pub columnPlaces : ℕ
-columnPlaces = 5 * mostTurns
+columnPlaces = columnCount * mostTurns
 
 -- the row at place i
 unfoldable pub rowIn : List ℕ → ℕ → Row

@@ -9,7 +9,10 @@ use super::ways::Row;
 // A column has a place for each turn that a sheet can have.
 pub const MOST_TURNS: usize = sheet::MOST_TURNS as usize;
 
-pub const PLACES: usize = 5 * MOST_TURNS;
+// Slopes, groomers, starts, ends, worths.
+const COLUMNS: usize = 5;
+
+pub const PLACES: usize = COLUMNS * MOST_TURNS;
 
 const GROOMERS: usize = MOST_TURNS;
 

@@ -6,6 +6,11 @@ use turns::Refusals;
 // A map with every field of a turn.
 pub const FULL_MAP: u8 = 31;
 
+// The most groomers and slopes of the garage's sheet.
+const MOST_GROOMERS: u16 = 16;
+
+const MOST_SLOPES: u16 = 120;
+
 // The most turns that a sheet of any kind may have, and the places that a table needs for them.
 pub const MOST_TURNS: u16 = 400;
 
@@ -40,8 +45,8 @@ pub fn garage() -> Kind
     Kind {
         mark: wire::GRM,
         most: Most {
-            groomers: 16,
-            slopes: 120,
+            groomers: MOST_GROOMERS,
+            slopes: MOST_SLOPES,
             turns: MOST_TURNS,
         },
         maps: Maps {
