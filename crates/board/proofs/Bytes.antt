@@ -107,6 +107,6 @@ pub byte-bits : (f : ℕ → Bool) (j : ℕ) → j < 8 → bitOf (byteFrom f) j 
 unfolding tab
 byte-bits f j h = listed (tab 8 f) (tab-length 8 f) j h ∙ tab-at 8 f false j h
 
-pub byte-below : (f : ℕ → Bool) → byteFrom f ≤ 255
+pub bits-below : (f : ℕ → Bool) → byteFrom f ≤ 255
 unfolding tab
-byte-below f = listed-below (tab 8 f) (tab-length 8 f)
+bits-below f = listed-below (tab 8 f) (tab-length 8 f)

@@ -197,6 +197,6 @@ module _ (S : List Bool) where
   map-clean =
       record {
         size = map-length S;
-        bytes = bytes-tab (mapBytes (length S)) (byteOf S) (λ k. omega (arith, byte.byte-below (λ i. has S (8 * k + i))));
+        bytes = bytes-tab (mapBytes (length S)) (byteOf S) (λ k. omega (arith, byte.bits-below (λ i. has S (8 * k + i))));
         clear = bits-clear (length S) (mapOf S) (λ t l h. map-chosen t h ∙ List·getD-eq-default S false l);
       }

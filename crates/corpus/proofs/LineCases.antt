@@ -120,9 +120,9 @@ pub ruleset sum-cases = (sum-start, sum-more, sum-done)
 
 -- ---- what a line says
 
-pub counts-are : (bytes : List ℕ) {a b : ℕ} → a ≡ numberOr bytes 0 4 → b ≡ numberOr bytes 4 4 → _≡_ {A = Counts} (record { groomers = a; slopes = b }) (countsHeld bytes)
+pub held-counts : (bytes : List ℕ) {a b : ℕ} → a ≡ numberOr bytes 0 4 → b ≡ numberOr bytes 4 4 → _≡_ {A = Counts} (record { groomers = a; slopes = b }) (countsHeld bytes)
 unfolding countsHeld
-counts-are bytes e f = rw (e, f)
+held-counts bytes e f = rw (e, f)
 
 module _ (w : Written) {a b : ℕ} {l : List ℕ} (e : _≡_ {A = Written} (record { refusal = a; bytes = b; lent = l }) w) where
   pub line-is : {sum : ℕ} → sum ≡ sumOf l → _≡_ {A = Line} (record { refusal = a; value = b; last = sum }) (writtenLine w)
@@ -158,4 +158,4 @@ module _ (counts table lent : List ℕ) {c : Counts} (f : c ≡ countsHeld count
 
 pub ruleset write-cases = (write-line, write-lent)
 
-pub ruleset line-cases = (counts-are, line-is, lent-is, read-line, read-table, open-line, check-line)
+pub ruleset line-cases = (held-counts, line-is, lent-is, read-line, read-table, open-line, check-line)

@@ -14,7 +14,7 @@ use Rattle.model.specs.Steps.{tally}
 use Rattle.model.specs.Pick.{steps}
 use Rattle.model.specs.Choice.{chosen, choice}
 use Rattle.model.specs.Rules.{Independent}
-use Rattle.model.proofs.Planned.{steps-right}
+use Rattle.model.proofs.Planned.{planned-right}
 use Rattle.model.proofs.Limits.{sums-limits}
 use Rattle.model.proofs.Promised.{planned-keeps}
 use Rattle.sheet.specs.Kind.{mostTurns}
@@ -130,7 +130,7 @@ module _ (s : List ℕ) (z : firstOf (sheetCauses s) ≡ 0) where
   unfolding sheetListing listingFor listingOf
   listing-bytes =
       let apart : Independent T (choice T) = planned-keeps T lengths .apart in
-      let sums = sums-limits T worths few (steps-right T) (choice T) in
+      let sums = sums-limits T worths few (planned-right T) (choice T) in
       omega (
         arith,
         length-append (groomersFrom T (choice T) (countsIn s .groomers) 1) (sumsLine (chosen (T .count) (choice T) (T .worth)) (tally (steps T))),

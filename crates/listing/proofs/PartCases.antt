@@ -144,8 +144,8 @@ pub marked-none : Marked (replicate 120 0) (replicate 960 0)
 marked-none = record { clean = zeros-clean 960 120 refl; size = length-replicate {A = ℕ} 960 0; others = λ k l e. zeros-at 960 k }
 
 module _ (size : Size) (cols map : List ℕ) (h : ℕ) where
-  pub notes-start : replicate 960 0 ≡ notesOf (turnsBy size cols) (choiceIn (size .count) map) h 0
-  notes-start = notes-zero (turnsBy size cols) (choiceIn (size .count) map) h
+  pub notes-none : replicate 960 0 ≡ notesOf (turnsBy size cols) (choiceIn (size .count) map) h 0
+  notes-none = notes-zero (turnsBy size cols) (choiceIn (size .count) map) h
 
   pub notes-inside : {notes : List ℕ} → notes ≡ notesOf (turnsBy size cols) (choiceIn (size .count) map) h (size .count) → NotesBelow (size .count) notes
   notes-inside e = rw e (notes-within (turnsBy size cols) (choiceIn (size .count) map) h (size .count))
@@ -171,7 +171,7 @@ module _ (size : Size) (cols map : List ℕ) (h : ℕ) where
       unfolding groomerText
       groomer-put l p q = both-put (headingOf h) (linesOf (turnsBy size cols) (roundOf (turnsBy size cols) (choiceIn (size .count) map) h)) at f l p (rw lines-are at q)
 
-pub ruleset groomer-cases = (marked-none, notes-start, notes-inside, head-fits, round-fits, groomer-place, groomer-put)
+pub ruleset groomer-cases = (marked-none, notes-none, notes-inside, head-fits, round-fits, groomer-place, groomer-put)
 
 -- ---- all groomers
 
@@ -213,9 +213,9 @@ pub ruleset parts-cases = (parts-start, parts-begin, part-fits, part-place, part
 -- ---- the whole
 
 module _ (groomers : ℕ) (T : Turns) (S : List Bool) (worth tally : ℕ) where
-  pub groomers-fit : length (listingOf groomers T S worth tally) ≤ lastPlace → length (groomersFrom T S groomers 1) ≤ lastPlace
+  pub groomers-room : length (listingOf groomers T S worth tally) ≤ lastPlace → length (groomersFrom T S groomers 1) ≤ lastPlace
   unfolding listingOf
-  groomers-fit m = let q : 0 + length (groomersFrom T S groomers 1 ++ sumsLine worth tally) ≤ lastPlace = omega (arith, m) in omega (arith, first-fits (groomersFrom T S groomers 1) (sumsLine worth tally) 0 q)
+  groomers-room m = let q : 0 + length (groomersFrom T S groomers 1 ++ sumsLine worth tally) ≤ lastPlace = omega (arith, m) in omega (arith, first-fits (groomersFrom T S groomers 1) (sumsLine worth tally) 0 q)
 
   module _ {last : ℕ} (e : last ≡ length (groomersFrom T S groomers 1)) where
     pub last-fits : length (listingOf groomers T S worth tally) ≤ lastPlace → last + length (sumsLine worth tally) ≤ lastPlace
@@ -230,4 +230,4 @@ module _ (groomers : ℕ) (T : Turns) (S : List Bool) (worth tally : ℕ) where
     unfolding listingOf
     listing-put l p q = both-put (groomersFrom T S groomers 1) (sumsLine worth tally) 0 (e ∙ plus-none _) l p q
 
-pub ruleset listing-cases = (groomers-fit, last-fits, listing-place, listing-put)
+pub ruleset listing-cases = (groomers-room, last-fits, listing-place, listing-put)

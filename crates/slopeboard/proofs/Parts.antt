@@ -21,16 +21,16 @@ unfolding stepsPartAt stepsPart
 part-named b e = rw e (part-cases-of b (malformed b))
 
 module _ (b : List ℕ) {r : ℕ} (e : r ≡ openOf b) where
-  pub part-none : (r ≡ 0 → ⊥) → _≡_ {A = Part} (record { start = 0; length = 0 }) (stepsPartAt b)
+  pub steps-none : (r ≡ 0 → ⊥) → _≡_ {A = Part} (record { start = 0; length = 0 }) (stepsPartAt b)
   unfolding stepsPartAt
-  part-none z = rw (shut b e z)
+  steps-none z = rw (shut b e z)
 
   module _ (z : r ≡ 0) {steps : List ℕ} (q : steps ≡ stepsPart b) where
     steps-length : length steps ≡ stepSize * boardSteps b
     steps-length = rw q (part-length b (opened b e z))
 
-    pub part-inside : length steps ≤ length b
-    part-inside = omega (arith, steps-length, formed-length b (opened b e z))
+    pub steps-inside : length steps ≤ length b
+    steps-inside = omega (arith, steps-length, formed-length b (opened b e z))
 
     pub part-at : _≡_ {A = Part} (record { start = length b - length steps; length = length steps }) (stepsPartAt b)
     unfolding stepsPartAt
@@ -38,4 +38,4 @@ module _ (b : List ℕ) {r : ℕ} (e : r ≡ openOf b) where
         let w : length b - stepSize * boardSteps b ≡ stepsPlace (boardTurns b) = omega (arith, formed-length b (opened b e z)) in
         rw (opened b e z, steps-length, w)
 
-pub ruleset part-cases = (part-none, part-inside, part-at)
+pub ruleset part-cases = (steps-none, steps-inside, part-at)

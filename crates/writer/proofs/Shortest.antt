@@ -13,7 +13,7 @@ use Rattle.sheet.specs.Layout.{recordOf, headerFor}
 use Rattle.writer.specs.Write.{mapFor, recordsOf, sheetOf}
 use Rattle.sheet.specs.Accepted.{Records, none, more, SheetFor}
 use Rattle.sheet.proofs.Fields.{record-length}
-use Rattle.writer.proofs.WriteMaps.{map-least, map-only}
+use Rattle.writer.proofs.WriteMaps.{written-least, map-only}
 
 -- ---- the records
 
@@ -22,7 +22,7 @@ unfolding recordsOf
 records-least none = omega arith
 records-least {first = first} {p = p} (more {t = t} {m = m} {bytes = bytes} {ts = ts} map kept fits r) =
     let rest = records-least r in
-    let one = map-least first p t m map kept in
+    let one = written-least first p t m map kept in
     rw (length-append (recordOf (mapFor first p t) t) (recordsOf _ t ts), length-append (recordOf m t) bytes) (omega (arith, record-length (mapFor first p t) t, record-length m t))
 
 records-only : {limits : Counts} {first : Bool} {p : Turn} {bytes : List ℕ} {ts : List Turn} → Records garage limits first p bytes ts → length bytes ≤ length (recordsOf first p ts) → bytes ≡ recordsOf first p ts
@@ -30,7 +30,7 @@ unfolding recordsOf
 records-only none h = refl
 records-only {first = first} {p = p} (more {t = t} {m = m} {bytes = bytes} {ts = ts} map kept fits r) h =
     let rest = records-least r in
-    let one = map-least first p t m map kept in
+    let one = written-least first p t m map kept in
     let l = simp length-append at h in
     let same = map-only first p t m map kept (omega (arith, record-length (mapFor first p t) t, record-length m t)) in
     ap₂ _++_ (ap (λ (k : ℕ). recordOf k t) same) (records-only r (omega (arith, record-length (mapFor first p t) t, record-length m t)))

@@ -134,8 +134,8 @@ within-same : {a0 a1 a2 a3 a4 b0 b1 b2 b3 b4 : ℕ} → a0 ≤ b0 → a1 ≤ b1 
 within-same h0 h1 h2 h3 h4 l = omega arith
 
 module _ (first : Bool) (p t : Turn) (m : ℕ) (g : GoodMap (garage .maps) first m) (c : Carried m p t) where
-  pub map-least : widthOf (mapFor first p t) ≤ widthOf m
-  map-least = let w = map-within first p t m g c in within-width (w .slope) (w .groomer) (w .start) (w .length) (w .worth)
+  pub written-least : widthOf (mapFor first p t) ≤ widthOf m
+  written-least = let w = map-within first p t m g c in within-width (w .slope) (w .groomer) (w .start) (w .length) (w .worth)
 
   pub map-only : widthOf m ≤ widthOf (mapFor first p t) → m ≡ mapFor first p t
   map-only h =

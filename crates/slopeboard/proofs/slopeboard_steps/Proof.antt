@@ -1,4 +1,4 @@
-use Rattle.slopeboard.proofs.Parts.{part-named, part-none, part-at, part-cases}
+use Rattle.slopeboard.proofs.Parts.{part-named, steps-none, part-at, part-cases}
 use borrow.Author.Needs.{needs}
 use Rattle.slopeboard.proofs.slopeboard_steps.Statement.{statement}
 use Rattle.slopeboard.proofs.slopeboard_steps.Tie as tie
@@ -7,7 +7,7 @@ open-requires : tie.Need-open-requires
 open-requires c κs = search needs
 
 returns : tie.Need-returns
-returns c = let p = part-none _ (c .before .open .ensures) (c .if1 .taken) in (p, part-named _ p)
+returns c = let p = steps-none _ (c .before .open .ensures) (c .if1 .taken) in (p, part-named _ p)
 
 steps-requires : tie.Need-steps-requires
 steps-requires c κs = search needs
