@@ -12,31 +12,38 @@ pub const A_STEP_A_TURN: u32 = 6;
 /// A shift of this shape with so many turns.
 pub fn shift(rng: &mut Rng, shape: u32, turns: usize) -> Shift {
     match shape {
-        1 => drawn(rng, turns, [2, 12], [LAST_END, 400], 300),
-        2 => drawn(rng, turns, [1, MAX_SLOPES], [LAST_END, 90], 500),
-        3 => drawn(rng, turns, [MAX_GROOMERS, 1], [LAST_END, 90], 500),
+        1 => drawn(rng, turns, [2, 12], [LAST_END, 1, 400], 300),
+        2 => drawn(rng, turns, [1, MAX_SLOPES], [LAST_END, 1, 90], 500),
+        3 => drawn(rng, turns, [MAX_GROOMERS, 1], [LAST_END, 1, 90], 500),
         4 => all_equal(rng, turns),
         5 => end_to_start(rng, turns),
         A_STEP_A_TURN => a_step_a_turn(rng, turns),
         7 => equal_ends(rng, turns),
-        8 => drawn(rng, turns, [3, 8], [12, 8], 3),
-        9 => drawn(rng, turns, [2, 30], [200, 60], u32::from(MAX_WORTH)),
+        8 => drawn(rng, turns, [3, 8], [12, 1, 8], 3),
+        9 => drawn(rng, turns, [2, 30], [200, 1, 60], u32::from(MAX_WORTH)),
         _ => gen::shift(rng, turns),
     }
 }
 
 /// A shift like those of a usual night, with more of the same for more turns.
 pub fn usual(rng: &mut Rng, turns: usize) -> Shift {
-    drawn(rng, turns, [12, 80], [LAST_END, 90], 500)
+    drawn(rng, turns, [12, 80], [LAST_END, 1, 90], 500)
+}
+
+/// A shift with the most groomers and slopes, no short turn, and worths of
+/// every size.
+pub fn widest(rng: &mut Rng, turns: usize) -> Shift {
+    let counts = [MAX_GROOMERS, MAX_SLOPES];
+    drawn(rng, turns, counts, [LAST_END, 30, 90], MAX_WORTH.into())
 }
 
 /// Turns drawn evenly. The counts are those of groomers and slopes, the times
-/// the last end and the longest length.
-fn drawn(rng: &mut Rng, turns: usize, counts: [u32; 2], times: [u32; 2], worth: u32) -> Shift {
+/// the last end, the shortest length and the longest.
+fn drawn(rng: &mut Rng, turns: usize, counts: [u32; 2], times: [u32; 3], worth: u32) -> Shift {
     let [groomers, slopes] = counts;
-    let [last_end, longest] = times;
+    let [last_end, shortest, longest] = times;
     let turn = |rng: &mut Rng| {
-        let length = rng.between(1, longest);
+        let length = rng.between(shortest, longest);
         [
             rng.between(1, slopes) as u16,
             rng.between(1, groomers) as u16,
@@ -53,7 +60,7 @@ fn drawn(rng: &mut Rng, turns: usize, counts: [u32; 2], times: [u32; 2], worth: 
 }
 
 fn all_equal(rng: &mut Rng, turns: usize) -> Shift {
-    let one = drawn(rng, 1, [4, 9], [LAST_END, 120], u32::from(MAX_WORTH));
+    let one = drawn(rng, 1, [4, 9], [LAST_END, 1, 120], u32::from(MAX_WORTH));
     Shift {
         turns: one.turns.repeat(turns),
         ..one
@@ -116,7 +123,7 @@ fn a_step_a_turn(rng: &mut Rng, turns: usize) -> Shift {
 
 /// Few ends and many starts: turn numbers decide.
 fn equal_ends(rng: &mut Rng, turns: usize) -> Shift {
-    let mut shift = drawn(rng, turns, [4, 40], [LAST_END, 120], 400);
+    let mut shift = drawn(rng, turns, [4, 40], [LAST_END, 1, 120], 400);
     for turn in &mut shift.turns {
         let end = rng.pick(&[300, 300, 301, LAST_END]);
         turn[2] = (end - u32::from(turn[3])) as u16;

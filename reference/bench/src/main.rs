@@ -159,33 +159,44 @@ fn print_row(name: &str, label: &str, [library, reference]: [Times; 2], growth: 
     );
 }
 
+/// Jobs for sheets of so many turns, drawn from the same kind of shift.
+fn jobs(rng: &mut Rng, kind: fn(&mut Rng, usize) -> Shift, turns: usize) -> Vec<Job> {
+    let job = |_| {
+        let shift = kind(rng, turns);
+        Job::new(rng, &shift)
+    };
+    (0..SHEETS).map(job).collect()
+}
+
+/// The numbers of turns and steps; of the steps the mean.
+fn size(jobs: &[Job]) -> String {
+    let steps = jobs.iter().map(Job::steps).sum::<usize>() / jobs.len();
+    format!("n={} m={steps}", jobs[0].numbers.len() / 5)
+}
+
 fn main() {
     let mut rng = Rng::new(7);
-    let sizes = [50, 100, 200, 400];
-    let mut usual = sizes.map(|turns| {
-        let jobs = (0..SHEETS).map(|_| {
-            let shift = shapes::usual(&mut rng, turns);
-            Job::new(&mut rng, &shift)
-        });
-        jobs.collect::<Vec<Job>>()
-    });
+    let mut usual = [50, 100, 200, 400].map(|turns| jobs(&mut rng, shapes::usual, turns));
     let shift = shapes::shift(&mut rng, shapes::A_STEP_A_TURN, 400);
     let mut most_steps = [Job::new(&mut rng, &shift)];
     assert_eq!(most_steps[0].steps(), 400);
+    let mut widest = jobs(&mut rng, shapes::widest, 400);
 
-    println!("times of one call in microseconds; m is the number of steps, n of turns");
+    println!("times of one call in microseconds; m is the number of steps, n of turns;");
+    println!("w: 16 groomers, 120 slopes, lengths 30 to 90, worths 1 to 60,000");
     println!("                     library             reference");
     println!("entry sheet               best    median        best    median   ratio  growth");
     for entry in &ENTRIES {
         let mut before: Option<f64> = None;
-        for (turns, jobs) in sizes.into_iter().zip(&mut usual) {
-            let steps = jobs.iter().map(Job::steps).sum::<usize>() / jobs.len();
+        for jobs in &mut usual {
             let times = measure_all(entry, jobs);
             let growth = before.map(|before| times[0].median / before);
-            print_row(entry.name, &format!("n={turns} m={steps}"), times, growth);
+            print_row(entry.name, &size(jobs), times, growth);
             before = Some(times[0].median);
         }
         let times = measure_all(entry, &mut most_steps);
-        print_row(entry.name, "n=400 m=400", times, None);
+        print_row(entry.name, &size(&most_steps), times, None);
+        let times = measure_all(entry, &mut widest);
+        print_row(entry.name, &(size(&widest) + " w"), times, None);
     }
 }
