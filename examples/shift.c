@@ -16,11 +16,19 @@
 #define TURNS 4
 #define NUMBERS (SLOPEBOARD_NUMBERS_PER_TURN * TURNS)
 
-/* Slope, groomer, start, length, worth. */
+/* Slope, groomer, start, length, worth: as they were typed, in any order. */
+static const uint16_t typed[NUMBERS] = {
+    1, 1, 0,   60,  100,
+    2, 1, 30,  60,  150,
+    1, 2, 0,   120, 80,
+    3, 2, 120, 60,  90,
+};
+
+/* The same turns as the sheet has them, where they also get their numbers. */
 static const uint16_t turns[NUMBERS] = {
     1, 1, 0,   60,  100, /* turn 0 */
-    2, 1, 30,  60,  150, /* turn 1 */
-    1, 2, 0,   120, 80,  /* turn 2 */
+    1, 2, 0,   120, 80,  /* turn 1 */
+    2, 1, 30,  60,  150, /* turn 2 */
     3, 2, 120, 60,  90,  /* turn 3 */
 };
 
@@ -40,7 +48,7 @@ static void print_steps(const uint8_t *board, slopeboard_part steps) {
 
 int main(void) {
     uint8_t sheet[SLOPEBOARD_MOST_SHEET_BYTES];
-    slopeboard_write_answer written = slopeboard_write(GROOMERS, SLOPES, turns, NUMBERS, sheet, sizeof sheet);
+    slopeboard_write_answer written = slopeboard_write(GROOMERS, SLOPES, typed, NUMBERS, sheet, sizeof sheet);
     if (written.refusal != 0) return refused("write", written.refusal);
 
     uint16_t table[NUMBERS];

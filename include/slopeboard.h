@@ -36,7 +36,7 @@ extern "C" {
 #endif
 
 /* The number of this interface. Each change that a caller can see raises it. */
-#define SLOPEBOARD_VERSION 2
+#define SLOPEBOARD_VERSION 3
 
 /* The refusals. */
 enum {
@@ -118,10 +118,13 @@ typedef struct {
  * turns. */
 slopeboard_read_answer slopeboard_read(const uint8_t *sheet, size_t sheet_len, uint16_t *table, size_t table_len);
 
-/* Writes the shortest sheet that has these counts and the turns of the table, in the table's order.
+/* Writes the sheet that has these counts and the turns of the table. In the sheet the turns stand by
+ * slope, then by groomer, start, length and worth, each rising, whatever order the table has; each comes as
+ * often as in the table. It is the shortest sheet with the turns in that order. Turns are numbered as the
+ * sheet has them, so reading it back tells which turn a number means.
  *
- * Refusals, in this order: 18, 3, 4; then, turn by turn, 6, 7, 8, 9; then 11 if the sheet is longer than
- * bytes_len. */
+ * Refusals, in this order: 18, 3, 4; then, turn by turn as the table has them, 6, 7, 8, 9; then 11 if the
+ * sheet is longer than bytes_len. */
 slopeboard_write_answer slopeboard_write(uint32_t groomers, uint32_t slopes, const uint16_t *table, size_t table_len,
                                          uint8_t *bytes, size_t bytes_len);
 

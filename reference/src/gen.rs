@@ -47,6 +47,15 @@ impl Rng {
     pub fn pick<T: Copy>(&mut self, values: &[T]) -> T {
         values[self.below(values.len() as u32) as usize]
     }
+
+    /// The numbers below the count in any order.
+    pub fn shuffled(&mut self, count: usize) -> Vec<usize> {
+        let mut list: Vec<usize> = (0..count).collect();
+        for place in (1..count).rev() {
+            list.swap(place, self.below(place as u32 + 1) as usize);
+        }
+        list
+    }
 }
 
 /// The content of a sheet before it becomes bytes. The values need not be

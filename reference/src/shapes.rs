@@ -6,7 +6,10 @@ use crate::limits::{FIELDS, LAST_END, MAX_GROOMERS, MAX_SLOPES, MAX_TURNS, MAX_W
 /// How many shapes there are.
 pub const SHAPES: u32 = 10;
 
-/// The widest shape of all: a step for every turn.
+/// Nothing but equal turns.
+pub const ALL_EQUAL: u32 = 4;
+
+/// The shape with the most steps: one for every turn.
 pub const A_STEP_A_TURN: u32 = 6;
 
 /// A shift of this shape with so many turns.
@@ -15,7 +18,7 @@ pub fn shift(rng: &mut Rng, shape: u32, turns: usize) -> Shift {
         1 => drawn(rng, turns, [2, 12], [LAST_END, 1, 400], 300),
         2 => drawn(rng, turns, [1, MAX_SLOPES], [LAST_END, 1, 90], 500),
         3 => drawn(rng, turns, [MAX_GROOMERS, 1], [LAST_END, 1, 90], 500),
-        4 => all_equal(rng, turns),
+        ALL_EQUAL => all_equal(rng, turns),
         5 => end_to_start(rng, turns),
         A_STEP_A_TURN => a_step_a_turn(rng, turns),
         7 => equal_ends(rng, turns),
@@ -35,6 +38,47 @@ pub fn usual(rng: &mut Rng, turns: usize) -> Shift {
 pub fn widest(rng: &mut Rng, turns: usize) -> Shift {
     let counts = [MAX_GROOMERS, MAX_SLOPES];
     drawn(rng, turns, counts, [LAST_END, 30, 90], MAX_WORTH.into())
+}
+
+/// A shift in which few turns come again and again, some of them with all
+/// values but one alike.
+pub fn few_kinds(rng: &mut Rng, turns: usize) -> Shift {
+    let mut kinds = drawn(rng, 3, [4, 9], [LAST_END, 1, 120], MAX_WORTH.into());
+    for kind in 0..3 {
+        let mut other = kinds.turns[kind];
+        let field = rng.below(FIELDS as u32) as usize;
+        other[field] -= u16::from(other[field] > 1);
+        kinds.turns.push(other);
+    }
+    let turn = |_| rng.pick(&kinds.turns);
+    Shift {
+        turns: (0..turns).map(turn).collect(),
+        ..kinds
+    }
+}
+
+/// The shift with its turns by slope, groomer, start, length and worth.
+pub fn sorted(shift: &Shift) -> Shift {
+    let mut shift = shift.clone();
+    shift.turns.sort();
+    shift
+}
+
+/// The shift with its turns the other way round than in [`sorted`].
+pub fn falling(shift: &Shift) -> Shift {
+    let mut shift = sorted(shift);
+    shift.turns.reverse();
+    shift
+}
+
+/// The shift with its turns in any order.
+pub fn shuffled(rng: &mut Rng, shift: &Shift) -> Shift {
+    let numbers = rng.shuffled(shift.turns.len());
+    let turns = numbers.into_iter().map(|turn| shift.turns[turn]);
+    Shift {
+        turns: turns.collect(),
+        ..*shift
+    }
 }
 
 /// Turns drawn evenly. The counts are those of groomers and slopes, the times

@@ -3,12 +3,12 @@
 
 mod both;
 
-use both::{check, listing, plan, read};
+use both::{check, listing, plan, read, write};
 use slopeboard_reference::boards::{self, Draft};
 use slopeboard_reference::gen::{self, Rng, Shift};
 use slopeboard_reference::naive::planning::{take, worths};
 use slopeboard_reference::naive::turns::{turns_of, Turn};
-use slopeboard_reference::naive::{best_worth, open, steps, write};
+use slopeboard_reference::naive::{best_worth, open, steps};
 use slopeboard_reference::shapes;
 
 /// Few turns on few slopes and in few minutes, so that conflicts
@@ -217,16 +217,18 @@ fn written_sheets_are_short_and_read_back() {
         } else {
             rng.below(11) as usize
         };
-        let sheet = gen::typical(&mut rng, turns).bytes;
-        let mut table = vec![0; turns * 5];
-        let counts = read(&sheet, &mut table).unwrap();
-        let (groomers, slopes) = (counts.groomers, counts.slopes);
+        let shift = shapes::sorted(&gen::shift(&mut rng, turns));
+        let redundant = rng.pick(&[0, 20, 100]);
+        let sheet = gen::encode(&mut rng, &shift, redundant).bytes;
+        let table = shapes::shuffled(&mut rng, &shift).turns.concat();
+        let (groomers, slopes) = (shift.groomers.into(), shift.slopes.into());
         let mut out = vec![0; sheet.len()];
-        // It fits the length of any sheet that reads the same.
+        // It fits the length of any sheet with the turns in this order.
         let len = write(groomers, slopes, &table, &mut out).unwrap();
         let mut again = vec![0; turns * 5];
-        assert_eq!(read(&out[..len], &mut again), Ok(counts));
-        assert_eq!(table, again);
+        let counts = read(&out[..len], &mut again).unwrap();
+        assert_eq!((counts.groomers, counts.slopes), (groomers, slopes));
+        assert_eq!(again, shift.turns.concat());
         let before = out.clone();
         assert_eq!(
             write(groomers, slopes, &table, &mut out[..len - 1]),

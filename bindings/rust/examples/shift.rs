@@ -3,7 +3,7 @@
 
 use std::io::{self, Write};
 
-/// Slope, groomer, start, length, worth of each turn.
+/// Slope, groomer, start, length, worth of each turn, in any order.
 const TURNS: [[u16; slopeboard::NUMBERS_PER_TURN]; 4] = [
     [1, 1, 0, 60, 100],
     [2, 1, 30, 60, 150],
@@ -19,7 +19,11 @@ fn main() -> Result<(), Box<dyn std::error::Error>> {
     let mut table = [0; 5 * TURNS.len()];
     let counts = slopeboard::read(sheet, &mut table)?;
     assert_eq!(usize::from(counts.turns), TURNS.len());
-    assert_eq!(table, TURNS.as_flattened());
+    // The sheet has the turns sorted, and from here on they are numbered as
+    // the sheet has them.
+    let mut sorted = TURNS;
+    sorted.sort_unstable();
+    assert_eq!(table, sorted.as_flattened());
 
     let mut board = [0; slopeboard::board_bytes(TURNS.len())];
     let len = slopeboard::plan(sheet, &mut board)?;

@@ -19,7 +19,7 @@ pub use refusal::Refusal;
 
 /// The number of this interface, as `SLOPEBOARD_VERSION` in the header: each
 /// change that a caller can see raises it.
-pub const VERSION: u32 = 2;
+pub const VERSION: u32 = 3;
 
 /// Numbers that a turn takes in a turn table: slope, groomer, start, length,
 /// worth.
@@ -68,8 +68,8 @@ pub fn read(sheet: &[u8], table: &mut [u16]) -> Result<Counts, Refusal> {
     })
 }
 
-/// Writes the shortest sheet with these counts and the turns of the table and
-/// gives its length.
+/// Writes the shortest sheet with these counts and the turns of the table,
+/// sorted by slope, groomer, start, length and worth, and gives its length.
 pub fn write(
     groomers: u32,
     slopes: u32,

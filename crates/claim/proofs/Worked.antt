@@ -8,6 +8,8 @@ use Rattle.sheet.specs.Kind.{garage}
 use Rattle.sheet.specs.Record.{field, turnFrom, badMapFor, endAt, turnAt, cursorAfter, recordCauses, firstCursor}
 use Rattle.sheet.specs.Read.{countCauses, headerCauses, recordsCauses, turnsFrom, causesFor, sheetCauses, turnsOf, tableOf, readCausesFor, readFor, readOf}
 use Rattle.sheet.specs.Layout.{recordOf}
+use Rattle.sorting.specs.Sorting.{insertBy, sortBy}
+use Rattle.writer.specs.Order.{numbersAtMost, turnAtMost, sortedTurns}
 use Rattle.writer.specs.Write.{mapFor, recordsOf, sheetOf, turnsCauses, tableCauses, writeCauses, writeOf}
 use Rattle.lists.specs.Lists.{every, tab}
 use Rattle.model.specs.Turns.{overlapping, overlap, bySlope, oneGroomer, byGroomer, conflict}
@@ -29,7 +31,7 @@ use Rattle.listing.specs.List.{listingFor, sheetListing, listCauses, listOf}
 use Rattle.claim.specs.Cases.{WorkedCases}
 
 pub worked-cases : WorkedCases
-unfolding firstOf opensWith field turnFrom badMapFor endAt turnAt cursorAfter recordCauses firstCursor countCauses headerCauses recordsCauses turnsFrom rows garage causesFor sheetCauses turnsOf tableOf readCausesFor readFor readOf outsideRange pastShift turnCauses writtenUnless recordOf mapFor recordsOf sheetOf turnsOfTable turnsCauses tableCauses writeCauses writeOf problemOf sheetTurns overlapping overlap bySlope oneGroomer byGroomer conflict every tab isOpen left initial reduced change afterStep afterSteps tally sooner better best pick nextStep plan steps chosen fits choose back fill goBack choice bitOf chosenIn choiceIn clearPast byteOf mapOf boardMap boardChoice stepsIn writtenSteps stepBytes boardOf badSizes malformed openOf stepsPart boardFor plannedBoard planCauses planOf decimalIn decimal startsAt startsBelow roundFrom roundOf labelled twoLabelled headingOf lineOf linesOf groomerText groomersFrom sumsLine listingOf listingFor sheetListing listCauses listOf onesOf onesIn countOf turnChosen independent maximal noEarlier right allRight noneOpen sums choiceCauses stepCauses ruleCauses sumCauses boardCauses checkCauses checkOf
+unfolding insertBy sortBy numbersAtMost turnAtMost sortedTurns firstOf opensWith field turnFrom badMapFor endAt turnAt cursorAfter recordCauses firstCursor countCauses headerCauses recordsCauses turnsFrom rows garage causesFor sheetCauses turnsOf tableOf readCausesFor readFor readOf outsideRange pastShift turnCauses writtenUnless recordOf mapFor recordsOf sheetOf turnsOfTable turnsCauses tableCauses writeCauses writeOf problemOf sheetTurns overlapping overlap bySlope oneGroomer byGroomer conflict every tab isOpen left initial reduced change afterStep afterSteps tally sooner better best pick nextStep plan steps chosen fits choose back fill goBack choice bitOf chosenIn choiceIn clearPast byteOf mapOf boardMap boardChoice stepsIn writtenSteps stepBytes boardOf badSizes malformed openOf stepsPart boardFor plannedBoard planCauses planOf decimalIn decimal startsAt startsBelow roundFrom roundOf labelled twoLabelled headingOf lineOf linesOf groomerText groomersFrom sumsLine listingOf listingFor sheetListing listCauses listOf onesOf onesIn countOf turnChosen independent maximal noEarlier right allRight noneOpen sums choiceCauses stepCauses ruleCauses sumCauses boardCauses checkCauses checkOf
 worked-cases =
     record {
       shift-read = refl;

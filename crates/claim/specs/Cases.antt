@@ -18,7 +18,7 @@ use Rattle.board.specs.Chosen.{counted, countOf, turnChosen}
 use Rattle.audit.specs.Check.{checkOf, checked}
 use Rattle.planner.specs.Plan.{planOf}
 use Rattle.listing.specs.List.{listOf}
-use Rattle.claim.specs.Shift.{shift, shiftTable, shiftBoard, shiftSteps, shiftListing, wrongWorth, leavesRoom, header, emptyBoard, lateTurn}
+use Rattle.claim.specs.Shift.{shift, shiftTable, shiftWritten, shiftBoard, shiftSteps, shiftListing, wrongWorth, leavesRoom, header, emptyBoard, lateTurn}
 
 -- lent places hold 9 before
 abbrev pub lent : ℕ → List ℕ
@@ -36,7 +36,7 @@ shiftCounts = record { groomers = 2; slopes = 3 }
 pub record WorkedCases : Type 0 where
   -- the shift, through every entry
   pub shift-read : readOf shift (lent 22) ≡ outcome (record { refusal = 0; groomers = 2; slopes = 3; turns = 4 }) (shiftTable ++ lent 2)
-  pub shift-written : writeOf shiftCounts shiftTable (lent 40) ≡ record { refusal = 0; bytes = 39; lent = shift ++ lent 1 }
+  pub shift-written : writeOf shiftCounts shiftTable (lent 40) ≡ record { refusal = 0; bytes = 38; lent = shiftWritten ++ lent 2 }
   pub shift-planned : planOf shift (lent 33) ≡ record { refusal = 0; bytes = 28; lent = shiftBoard ++ lent 5 }
   pub shift-opened : openOf shiftBoard ≡ 0
   pub shift-steps : stepsPart shiftBoard ≡ shiftSteps

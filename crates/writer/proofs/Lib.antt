@@ -1,3 +1,5 @@
+pub mod Orders
+pub mod Keys
 pub mod WriteRecords
 pub mod Measures
 pub mod Writings

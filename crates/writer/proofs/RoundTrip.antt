@@ -1,14 +1,15 @@
--- What is written is an accepted sheet of the same counts and turns, and reading it gives the table back. Assumes nothing.
+-- What is written is an accepted sheet of the same counts and turns in the written order, and reading it gives them. Assumes nothing.
 use Prim.Native.Nat.{ℕ, _*_, _/_, _%_, _<_, _≤_}
 use mathlib.Core.Path.{_≡_, refl, sym, _∙_, ap, subst}
 use mathlib.Core.Bool.{Bool, true, false, cond}
 use mathlib.Core.List.{List, [], _∷_, _++_}
 use native.Mathlib.Omega.{arith}
-use native.Mathlib.Nat.{le-trans}
 use lib.ListN.{length, take}
 use lib.Seq.{take-append-seam}
 use lib.Dec.{eqb, ltb}
 use borrow.Author.Tests.{le-ltb, ltb-false, eq-eqb}
+use Rattle.sorting.specs.Sorting.{InOrder, AllOf}
+use Rattle.sorting.proofs.Sorted.{sort-all}
 use Rattle.refusal.specs.Number.{bufferTooSmall}
 use Rattle.refusal.specs.Cause.{_when_, firstOf}
 use Rattle.refusal.specs.Written.{wrote, kept}
@@ -19,9 +20,8 @@ use Rattle.wire.specs.Mark.{sheetMark}
 use Rattle.wire.proofs.Numbers.{bytes-below}
 use Rattle.turns.specs.declared.Turn.{Turn}
 use Rattle.turns.specs.declared.Counts.{Counts}
-use Rattle.turns.specs.Turn.{rowNumbers, rows, tableRows, tableTurns, turnCauses}
-use Rattle.turns.proofs.Ranges.{turn-numbered, in-range-fine, fine-in-range}
-use Rattle.turns.proofs.Rows.{rows-length, turns-length, turns-rows, rows-table}
+use Rattle.turns.specs.Turn.{rowNumbers, rows, tableRows, tableTurns, InRange}
+use Rattle.turns.proofs.Rows.{rows-length, turns-length, turns-rows}
 use Rattle.sheet.specs.Kind.{garage}
 use Rattle.sheet.specs.Record.{firstCursor}
 use Rattle.sheet.specs.Read.{countsIn, turnCount, countCauses, causesFor, turnsOf, tableOf, readCausesFor, Outcome, outcome, atFront, readRefused, readFor, readOf}
@@ -32,24 +32,23 @@ use Rattle.sheet.proofs.SoundKinds.{garage-sound}
 use Rattle.sheet.proofs.Headers.{legal-counts, counts-numbered}
 use Rattle.sheet.proofs.Readings.{causes-numbered}
 use Rattle.sheet.proofs.Accepting.{sheet-reads}
-use Rattle.writer.specs.Write.{mapFor, recordsOf, allRecords, sheetOf, turnsCauses, tableCauses, writeCauses, writeOf}
+use Rattle.writer.specs.Order.{turnAtMost, sortedTurns, SameTurns, InWrittenOrder}
+use Rattle.writer.specs.Write.{mapFor, recordsOf, allRecords, sheetOf, writtenTurns, turnsCauses, tableCauses, writeCauses, writeOf}
 use Rattle.writer.proofs.WriteMaps.{map-good, map-below, map-carries}
-use Rattle.writer.proofs.Writings.{Writable, table-writable, table-numbered}
-use Rattle.writer.proofs.Shortest.{shortest}
+use Rattle.writer.proofs.Orders.{sorted-length, sorted-iff, sorted-order, sorted-same, sorted-stay, sorted-twice, unsorted-all}
+use Rattle.writer.proofs.Writings.{Writable, table-writable, table-numbered, fine-all, all-fine, write-clear}
+use Rattle.writer.proofs.Shortest.{shortest, shortest-only}
 
 -- ---- what is written is a sheet of these turns
 
-records-written : (counts : Counts) (first : Bool) (p : Turn) (ts : List Turn) → firstOf (turnsCauses (garage .refusals) counts ts) ≡ 0 → Records garage counts first p (recordsOf first p ts) ts
-unfolding turnsCauses recordsOf
-records-written counts first p [] e = accepted.Records.none
-records-written counts first p (t ∷ ts) e =
-    let n = garage-sound .numbers in
-    let both = clear-append (turnCauses (garage .refusals) counts t) (turnsCauses (garage .refusals) counts ts) (turn-numbered (garage .refusals) counts t n) e in
-    accepted.Records.more (map-good first p t) (map-carries first p t) (fine-in-range (garage .refusals) counts t n (both .0)) (records-written counts false t ts (both .1))
+records-written : (counts : Counts) (first : Bool) (p : Turn) {ts : List Turn} → AllOf (InRange counts) ts → Records garage counts first p (recordsOf first p ts) ts
+unfolding recordsOf
+records-written counts first p AllOf.none = accepted.Records.none
+records-written counts first p (AllOf.more {x = t} r rs) = accepted.Records.more (map-good first p t) (map-carries first p t) r (records-written counts false t rs)
 
 pub sheet-for : (counts : Counts) (ts : List Turn) → Legal garage counts (length ts) → firstOf (turnsCauses (garage .refusals) counts ts) ≡ 0 → SheetFor garage (sheetOf counts ts) counts ts
 unfolding sheetOf garage
-sheet-for counts ts l e = record { legal = l; body = allRecords ts; bytes = refl; records = records-written counts true (firstCursor .prev) ts e }
+sheet-for counts ts l e = record { legal = l; body = allRecords ts; bytes = refl; records = records-written counts true (firstCursor .prev) (fine-all counts ts e) }
 
 -- ---- and its numbers are bytes
 
@@ -86,17 +85,22 @@ sheet-below counts ts g s =
     bytes-append mark (more g (more s (bytes-append (bytes-below 2 (length ts)) (records-below true (firstCursor .prev) ts))))
 
 module _ (counts : Counts) (table : List ℕ) (e : firstOf (tableCauses counts table) ≡ 0) where
-  pub written-sheet : SheetFor garage (sheetOf counts (tableTurns table)) counts (tableTurns table)
+  written-rows : length (writtenTurns table) ≡ tableRows table
+  written-rows = sorted-length (tableTurns table) ∙ turns-length (tableRows table) table 0
+
+  pub written-sheet : SheetFor garage (sheetOf counts (writtenTurns table)) counts (writtenTurns table)
+  unfolding sortedTurns
   written-sheet =
       let s = table-writable counts table e in
-      sheet-for counts (tableTurns table) (rw (turns-length (tableRows table) table 0) (s .legal)) (s .fine)
+      let all = sort-all turnAtMost (InRange counts) (fine-all counts (tableTurns table) (s .fine)) in
+      sheet-for counts (writtenTurns table) (rw written-rows (s .legal)) (all-fine counts all)
 
-  pub written-accepted : Accepted (sheetOf counts (tableTurns table))
-  written-accepted = record { counts = counts; turns = tableTurns table; sheet = written-sheet }
+  pub written-accepted : Accepted (sheetOf counts (writtenTurns table))
+  written-accepted = record { counts = counts; turns = writtenTurns table; sheet = written-sheet }
 
-  pub written-bytes : Bytes (sheetOf counts (tableTurns table))
+  pub written-bytes : Bytes (sheetOf counts (writtenTurns table))
   unfolding garage
-  written-bytes = let l = table-writable counts table e .legal in sheet-below counts (tableTurns table) (omega arith) (omega arith)
+  written-bytes = let l = table-writable counts table e .legal in sheet-below counts (writtenTurns table) (omega arith) (omega arith)
 
 -- ---- reading
 
@@ -126,7 +130,7 @@ reading {s} {counts} {ts} f lent =
 
 module _ (counts : Counts) (table out : List ℕ) where
   -- nothing is wrong with a table and the lent bytes are enough: its sheet is written
-  pub writing : firstOf (tableCauses counts table) ≡ 0 → length (sheetOf counts (tableTurns table)) ≤ length out → writeOf counts table out ≡ wrote (sheetOf counts (tableTurns table)) out
+  pub writing : firstOf (tableCauses counts table) ≡ 0 → length (sheetOf counts (writtenTurns table)) ≤ length out → writeOf counts table out ≡ wrote (sheetOf counts (writtenTurns table)) out
   unfolding writeOf writeCauses
   writing e l = wrote-enough (tableCauses counts table) _ _ out (table-numbered counts table) e l
 
@@ -140,29 +144,31 @@ module _ (counts : Counts) (table out : List ℕ) where
   unfolding writeOf
   write-keeps k z e = kept-first (writeCauses counts table (length out)) _ out k (sym write-number ∙ e) z
 
-  pub write-accepts : writeOf counts table out .refusal ≡ 0 → (firstOf (tableCauses counts table) ≡ 0) × (length (sheetOf counts (tableTurns table)) ≤ length out)
+  pub write-accepts : writeOf counts table out .refusal ≡ 0 → (firstOf (tableCauses counts table) ≡ 0) × (length (sheetOf counts (writtenTurns table)) ≤ length out)
   unfolding writeCauses
   write-accepts e =
-      let both = clear-append (tableCauses counts table) (bufferTooSmall when ltb (length out) (length (sheetOf counts (tableTurns table))) ∷ []) (table-numbered counts table) (sym write-number ∙ e) in
-      let last = clear-cons (bufferTooSmall when ltb (length out) (length (sheetOf counts (tableTurns table)))) [] (omega arith) (both .1) in
-      (both .0, ltb-false (length out) (length (sheetOf counts (tableTurns table))) (last .0))
+      let both = clear-append (tableCauses counts table) (bufferTooSmall when ltb (length out) (length (sheetOf counts (writtenTurns table))) ∷ []) (table-numbered counts table) (sym write-number ∙ e) in
+      let last = clear-cons (bufferTooSmall when ltb (length out) (length (sheetOf counts (writtenTurns table)))) [] (omega arith) (both .1) in
+      (both .0, ltb-false (length out) (length (sheetOf counts (writtenTurns table))) (last .0))
 
 -- ---- there and back
 
--- a table that the writer accepts, read from the sheet that it writes, into any lent table long enough: these counts and turns, just this table, and the rest as it was
+-- a table that the writer accepts, read from the sheet that it writes, into any lent table long enough: these counts, its turns in the written order, and the rest as it was
 pub sheet-back : (counts : Counts) (table lent : List ℕ) → firstOf (tableCauses counts table) ≡ 0 → length table ≤ length lent
-    → readOf (sheetOf counts (tableTurns table)) lent ≡ outcome (record { refusal = 0; groomers = counts .groomers; slopes = counts .slopes; turns = tableRows table }) (atFront table lent)
+    → readOf (sheetOf counts (writtenTurns table)) lent ≡ outcome (record { refusal = 0; groomers = counts .groomers; slopes = counts .slopes; turns = tableRows table }) (atFront (rows (writtenTurns table)) lent)
 sheet-back counts table lent e l =
-    let s = table-writable counts table e in
-    let n = turns-length (tableRows table) table 0 in
-    reading (written-sheet counts table e) lent ∙ rw (n, le-ltb (length lent) (rowNumbers * tableRows table) (omega arith), rows-table table (s .whole))
+    reading (written-sheet counts table e) lent ∙ rw (written-rows counts table e, le-ltb (length lent) (rowNumbers * tableRows table) (omega arith))
 
 -- the same of what the writer left in any lent bytes where it refused nothing
 pub write-then-read : (counts : Counts) (table out lent : List ℕ) → writeOf counts table out .refusal ≡ 0 → length table ≤ length lent
-    → readOf (take (writeOf counts table out .bytes) (writeOf counts table out .lent)) lent ≡ outcome (record { refusal = 0; groomers = counts .groomers; slopes = counts .slopes; turns = tableRows table }) (atFront table lent)
+    → readOf (take (writeOf counts table out .bytes) (writeOf counts table out .lent)) lent ≡ outcome (record { refusal = 0; groomers = counts .groomers; slopes = counts .slopes; turns = tableRows table }) (atFront (rows (writtenTurns table)) lent)
 write-then-read counts table out lent e l =
     let a = write-accepts counts table out e in
     rw (writing counts table out (a .0) (a .1), take-append-seam) (sheet-back counts table lent (a .0) l)
+
+-- the turns of the table so read are those of the table that was written, each as often, in the written order
+pub read-in-order : (table : List ℕ) → InWrittenOrder (tableTurns table) (tableTurns (rows (writtenTurns table)))
+read-in-order table = rw (turns-rows (writtenTurns table)) (sorted-order (tableTurns table))
 
 -- ---- a sheet that was read, written again
 
@@ -172,25 +178,24 @@ writable-table counts table s =
     let n = counts-numbered garage counts (tableRows table) (garage-sound .numbers) in
     rw (eq-eqb (length table % rowNumbers) 0 (s .whole)) (first-goes (countCauses garage counts (tableRows table)) _ n (legal-counts garage counts (tableRows table) (s .legal)) ∙ s .fine)
 
-records-fine : {limits : Counts} {first : Bool} {p : Turn} {bytes : List ℕ} {ts : List Turn} → Records garage limits first p bytes ts → firstOf (turnsCauses (garage .refusals) limits ts) ≡ 0
-unfolding turnsCauses firstOf
-records-fine accepted.Records.none = refl
-records-fine {limits} (accepted.Records.more {t = t} {ts = ts} map kept fits r) =
-    let n = turn-numbered (garage .refusals) limits t (garage-sound .numbers) in
-    first-goes (turnCauses (garage .refusals) limits t) (turnsCauses (garage .refusals) limits ts) n (in-range-fine (garage .refusals) limits t fits) ∙ records-fine r
+records-in-range : {limits : Counts} {first : Bool} {p : Turn} {bytes : List ℕ} {ts : List Turn} → Records garage limits first p bytes ts → AllOf (InRange limits) ts
+records-in-range accepted.Records.none = AllOf.none
+records-in-range (accepted.Records.more map kept fits r) = AllOf.more fits (records-in-range r)
 
 -- the table of a sheet of these counts and turns is one that the writer accepts
 sheet-table : {s : List ℕ} {counts : Counts} {ts : List Turn} → SheetFor garage s counts ts → firstOf (tableCauses counts (rows ts)) ≡ 0
 sheet-table {s} {counts} {ts} f =
     let n : tableRows (rows ts) ≡ length ts = omega (arith, rows-length ts) in
-    writable-table counts (rows ts) (record { whole = omega (arith, rows-length ts); legal = rw n (f .legal); fine = rw (turns-rows ts) (records-fine (f .records)) })
+    writable-table counts (rows ts) (record { whole = omega (arith, rows-length ts); legal = rw n (f .legal); fine = rw (turns-rows ts) (all-fine counts (records-in-range (f .records))) })
 
--- an accepted sheet's table, written with its counts: the turns are the same, the writer takes them, and its sheet reads the same into every table and is no longer
+-- an accepted sheet's table, written with its counts: the turns are the same, the writer takes them, and its sheet reads as them in the written order;
+-- if they are in that order already, it reads the same into every table and is no longer
 pub record Rewritten (s : List ℕ) : Type 0 where
   pub turns-same : tableTurns (tableOf s) ≡ turnsOf s
-  pub writes : (out : List ℕ) → length s ≤ length out → writeOf (countsIn s) (tableOf s) out ≡ wrote (sheetOf (countsIn s) (turnsOf s)) out
-  pub reads-same : (lent : List ℕ) → readOf (sheetOf (countsIn s) (turnsOf s)) lent ≡ readOf s lent
-  pub no-longer : length (sheetOf (countsIn s) (turnsOf s)) ≤ length s
+  pub writes : (out : List ℕ) → length (sheetOf (countsIn s) (sortedTurns (turnsOf s))) ≤ length out → writeOf (countsIn s) (tableOf s) out ≡ wrote (sheetOf (countsIn s) (sortedTurns (turnsOf s))) out
+  pub reads-sorted : (lent : List ℕ) → readOf (sheetOf (countsIn s) (sortedTurns (turnsOf s))) lent ≡ readingOf (countsIn s) (sortedTurns (turnsOf s)) lent
+  pub reads-same : InOrder turnAtMost (turnsOf s) → (lent : List ℕ) → readOf (sheetOf (countsIn s) (sortedTurns (turnsOf s))) lent ≡ readOf s lent
+  pub no-longer : InOrder turnAtMost (turnsOf s) → length (sheetOf (countsIn s) (sortedTurns (turnsOf s))) ≤ length s
 
 pub rewritten : (s : List ℕ) → Accepted s → Rewritten s
 unfolding tableOf
@@ -199,9 +204,45 @@ rewritten s a =
     let f : SheetFor garage s (countsIn s) (turnsOf s) = rw (r .1, r .2) (a .sheet) in
     let t = turns-rows (turnsOf s) in
     let e = sheet-table f in
+    let w : SheetFor garage (sheetOf (countsIn s) (sortedTurns (turnsOf s))) (countsIn s) (sortedTurns (turnsOf s)) = subst (λ (ts : List Turn). SheetFor garage (sheetOf (countsIn s) (sortedTurns ts)) (countsIn s) (sortedTurns ts)) t (written-sheet (countsIn s) (rows (turnsOf s)) e) in
     record {
       turns-same = t;
-      writes = λ out l. writing (countsIn s) (rows (turnsOf s)) out e (rw t (le-trans (shortest f) l)) ∙ rw t;
-      reads-same = λ lent. reading (subst (λ (ts : List Turn). SheetFor garage (sheetOf (countsIn s) ts) (countsIn s) ts) t (written-sheet (countsIn s) (rows (turnsOf s)) e)) lent ∙ sym (reading f lent);
-      no-longer = shortest f;
+      writes = λ out l. writing (countsIn s) (rows (turnsOf s)) out e (rw t l) ∙ rw t;
+      reads-sorted = λ lent. reading w lent;
+      reads-same = λ o lent. reading w lent ∙ rw (sorted-stay (turnsOf s) o) (sym (reading f lent));
+      no-longer = λ o. rw (sorted-stay (turnsOf s) o) (shortest f);
     }
+
+-- ---- one sheet for a table's turns
+
+-- tables with the same turns, each as often: what the writer takes of one it takes of the other, and gives the same
+pub one-sheet : (counts : Counts) (a b out : List ℕ) → SameTurns (tableTurns a) (tableTurns b) → length b % rowNumbers ≡ 0 → firstOf (tableCauses counts a) ≡ 0 → writeOf counts b out ≡ writeOf counts a out
+unfolding sortedTurns
+one-sheet counts a b out same whole e =
+    let s = table-writable counts a e in
+    let t : writtenTurns a ≡ writtenTurns b = sorted-same (tableTurns a) (tableTurns b) same in
+    let n : tableRows b ≡ tableRows a = sym (turns-length (tableRows b) b 0) ∙ sym (sorted-length (tableTurns b)) ∙ sym (ap length t) ∙ sorted-length (tableTurns a) ∙ turns-length (tableRows a) a 0 in
+    let all : AllOf (InRange counts) (writtenTurns b) = subst (AllOf (InRange counts)) t (sort-all turnAtMost (InRange counts) (fine-all counts (tableTurns a) (s .fine))) in
+    let z = writable-table counts b (record { whole = whole; legal = rw n (s .legal); fine = all-fine counts (unsorted-all turnAtMost (InRange counts) (tableTurns b) all) }) in
+    write-clear counts b out z ∙ rw (← t) (sym (write-clear counts a out e))
+
+-- of sheets with a table's turns in the written order, none is shorter than the one that is written, and none of its length is another
+module _ (counts : Counts) (table : List ℕ) {s : List ℕ} {ts : List Turn} (f : SheetFor garage s counts ts) (o : InWrittenOrder (tableTurns table) ts) where
+  in-order-sheet : SheetFor garage s counts (writtenTurns table)
+  in-order-sheet = subst (λ (us : List Turn). SheetFor garage s counts us) (sorted-iff (tableTurns table) ts .0 o) f
+
+  pub written-shortest : length (sheetOf counts (writtenTurns table)) ≤ length s
+  written-shortest = shortest in-order-sheet
+
+  pub written-only : length s ≡ length (sheetOf counts (writtenTurns table)) → s ≡ sheetOf counts (writtenTurns table)
+  written-only e = shortest-only in-order-sheet e
+
+-- what was read of a written sheet, written again, is that sheet
+pub write-again : (counts : Counts) (table out : List ℕ) → firstOf (tableCauses counts table) ≡ 0 → length (sheetOf counts (writtenTurns table)) ≤ length out
+    → writeOf (countsIn (sheetOf counts (writtenTurns table))) (tableOf (sheetOf counts (writtenTurns table))) out ≡ wrote (sheetOf counts (writtenTurns table)) out
+unfolding tableOf
+write-again counts table out e l =
+    let s = sheetOf counts (writtenTurns table) in
+    let r = sheet-reads garage garage-sound s counts (writtenTurns table) (written-sheet counts table e) in
+    let again : sheetOf (countsIn s) (sortedTurns (turnsOf s)) ≡ s = rw (r .1, r .2, sorted-twice) in
+    rewritten s (written-accepted counts table e) .writes out (rw again l) ∙ ap (λ (w : List ℕ). wrote w out) again

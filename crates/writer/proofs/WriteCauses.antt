@@ -18,7 +18,7 @@ use Rattle.turns.specs.Turn.{rowNumbers, turnIn, turnsOfTable, tableRows, table
 use Rattle.turns.proofs.Ranges.{outside-iff, past-iff}
 use Rattle.sheet.specs.Kind.{mostGroomers, mostSlopes, mostTurns, garage}
 use Rattle.sheet.specs.Read.{countCauses}
-use Rattle.writer.specs.Write.{sheetOf, turnsCauses, tableCauses, writeCauses, writeOf}
+use Rattle.writer.specs.Write.{writtenTurns, sheetOf, turnsCauses, tableCauses, writeCauses, writeOf}
 use Rattle.writer.specs.WriteCause.{rowPlace, WriteCause, partial-turn, groomer-count, slope-count, turn-count, slope, groomer, time, worth, small-buffer, FirstWriteCause}
 use Rattle.sheet.proofs.Causes.{first-same}
 use Rattle.writer.proofs.Writings.{table-numbered}
@@ -84,13 +84,13 @@ module _ (counts : Counts) (table : List ℕ) (places : ℕ) where
   table-places = omega (arith, rows-places (tableRows table) 0)
 
   last : List Cause
-  last = bufferTooSmall when ltb places (length (sheetOf counts (tableTurns table))) ∷ []
+  last = bufferTooSmall when ltb places (length (sheetOf counts (writtenTurns table))) ∷ []
 
   last-cause : (k q : ℕ) → There last k q → WriteCause counts table places k (length (tableCauses counts table) + q)
   unfolding last
   last-cause k zero t =
       let e : length (tableCauses counts table) + 0 ≡ rowPlace (tableRows table) 0 = omega (arith, table-places) in
-      rw (e, at-there t .1) (small-buffer (ltb-true places (length (sheetOf counts (tableTurns table))) (at-there t .0)))
+      rw (e, at-there t .1) (small-buffer (ltb-true places (length (sheetOf counts (writtenTurns table))) (at-there t .0)))
   last-cause k (suc q) t = absurd (true≢false (sym (at-there t .0)))
 
   there-cause : {k r : ℕ} → There (writeCauses counts table places) k r → WriteCause counts table places k r
@@ -124,11 +124,11 @@ module _ (counts : Counts) (table : List ℕ) (places : ℕ) where
       let s : There (turnsCauses (garage .refusals) counts (turnsOfTable (i + suc (tableRows table - suc i)) table 0)) k (4 * i + r) = skip i (suc (tableRows table - suc i)) 0 (rw (zero-add i) t) in
       there-left _ (there-right front (subst (λ (m : ℕ). There (turnsCauses (garage .refusals) counts (turnsOfTable m table 0)) k (4 * i + r)) n s))
 
-  last-there : places < length (sheetOf counts (tableTurns table)) → There (writeCauses counts table places) bufferTooSmall (rowPlace (tableRows table) 0)
+  last-there : places < length (sheetOf counts (writtenTurns table)) → There (writeCauses counts table places) bufferTooSmall (rowPlace (tableRows table) 0)
   unfolding writeCauses last
   last-there h =
       let e : rowPlace (tableRows table) 0 ≡ length (tableCauses counts table) + 0 = omega (arith, table-places) in
-      rw e (there-right (tableCauses counts table) (there-at last 0 (lt-ltb places (length (sheetOf counts (tableTurns table))) h)))
+      rw e (there-right (tableCauses counts table) (there-at last 0 (lt-ltb places (length (sheetOf counts (writtenTurns table))) h)))
 
   cause-there : {k r : ℕ} → WriteCause counts table places k r → There (writeCauses counts table places) k r
   unfolding front countCauses turnCauses garage

@@ -1,3 +1,5 @@
+pub mod Order
 pub mod Write
+pub mod Key
 pub mod Measure
 pub mod WriteCause

@@ -1,4 +1,4 @@
--- Writing a sheet: the shortest one that has the table's turns, in the table's order. Assumes nothing.
+-- Writing a sheet: the shortest one that has the table's turns, in the written order. Assumes nothing.
 use Prim.Native.Nat.{ℕ, _+_, _*_, _%_}
 use mathlib.Core.List.{List, [], _∷_, _++_}
 use mathlib.Core.Bool.{Bool, true, false, not, cond}
@@ -18,6 +18,7 @@ use Rattle.sheet.specs.Record.{firstCursor}
 use Rattle.sheet.specs.Read.{countCauses}
 use Rattle.sheet.specs.Layout.{recordOf, headerFor}
 use Rattle.writer.specs.declared.WriteAnswer.{WriteAnswer}
+use Rattle.writer.specs.Order.{sortedTurns}
 
 -- ---- the bytes
 
@@ -48,7 +49,11 @@ allRecords ts = recordsOf true (firstCursor .prev) ts
 unfoldable pub sheetOf : Counts → List Turn → List ℕ
 sheetOf counts ts = headerFor sheetMark counts (length ts) ++ allRecords ts
 
--- ---- what may be wrong, in the order of refusal: a length that makes no whole rows, the counts, the turns one by one, the lent bytes
+-- the turns of the sheet that is written for a table
+abbrev pub writtenTurns : List ℕ → List Turn
+writtenTurns table = sortedTurns (tableTurns table)
+
+-- ---- what may be wrong, in the order of refusal: a length that makes no whole rows, the counts, the turns one by one as the table has them, the lent bytes
 
 -- turn by turn, each with the causes of a turn
 unfoldable pub turnsCauses : Refusals → Counts → List Turn → List Cause
@@ -63,7 +68,7 @@ tableCauses counts table =
 
 -- and last the lent bytes
 unfoldable pub writeCauses : Counts → List ℕ → ℕ → List Cause
-writeCauses counts table places = tableCauses counts table ++ bufferTooSmall when ltb places (length (sheetOf counts (tableTurns table))) ∷ []
+writeCauses counts table places = tableCauses counts table ++ bufferTooSmall when ltb places (length (sheetOf counts (writtenTurns table))) ∷ []
 
 -- what is returned, with what the lent bytes hold then
 abbrev pub written : WriteAnswer → List ℕ → Written
@@ -71,4 +76,4 @@ written answer lent = record { refusal = answer .refusal; bytes = answer .bytes;
 
 -- on success the sheet, then what was there; on a refusal all as before
 unfoldable pub writeOf : Counts → List ℕ → List ℕ → Written
-writeOf counts table lent = writtenUnless (writeCauses counts table (length lent)) (sheetOf counts (tableTurns table)) lent
+writeOf counts table lent = writtenUnless (writeCauses counts table (length lent)) (sheetOf counts (writtenTurns table)) lent

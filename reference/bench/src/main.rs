@@ -25,8 +25,12 @@ const STRETCH: Duration = Duration::from_micros(200);
 /// How many sheets of a size are drawn; the table has their mean.
 const SHEETS: u32 = 5;
 
-/// A sheet, the planner's board for it, and room for any answer.
+/// A turn table with its counts, a sheet with its turns in that order, the
+/// planner's board for it, and room for any answer.
 struct Job {
+    groomers: u32,
+    slopes: u32,
+    table: Vec<u16>,
     sheet: Vec<u8>,
     board: Vec<u8>,
     numbers: Vec<u16>,
@@ -40,6 +44,9 @@ impl Job {
         let len = fast::plan(&sheet, &mut board).expect("the sheet is accepted");
         board.truncate(len);
         Job {
+            groomers: shift.groomers.into(),
+            slopes: shift.slopes.into(),
+            table: shift.turns.concat(),
             sheet,
             board,
             numbers: vec![0; 5 * shift.turns.len()],
@@ -81,6 +88,13 @@ const ENTRIES: [Entry; 4] = [
         reference: |job| fast::listing(&job.sheet, &mut job.bytes).is_ok(),
     },
 ];
+
+/// The entry whose time goes by the order of the turns.
+const WRITE: Entry = Entry {
+    name: "write",
+    library: |job| slopeboard::write(job.groomers, job.slopes, &job.table, &mut job.bytes).is_ok(),
+    reference: |job| fast::write(job.groomers, job.slopes, &job.table, &mut job.bytes).is_ok(),
+};
 
 /// Best and median time of one call, in nanoseconds.
 #[derive(Clone, Copy, Default)]
@@ -159,8 +173,25 @@ fn print_row(name: &str, label: &str, [library, reference]: [Times; 2], growth: 
     );
 }
 
+/// Draws a shift with so many turns.
+type Kind = fn(&mut Rng, usize) -> Shift;
+
+/// Tables whose turns stand in one order or another.
+const ORDERS: [(&str, Kind); 4] = [
+    ("random", shapes::widest),
+    ("falling", |rng, turns| {
+        shapes::falling(&shapes::widest(rng, turns))
+    }),
+    ("sorted", |rng, turns| {
+        shapes::sorted(&shapes::widest(rng, turns))
+    }),
+    ("equal", |rng, turns| {
+        shapes::shift(rng, shapes::ALL_EQUAL, turns)
+    }),
+];
+
 /// Jobs for sheets of so many turns, drawn from the same kind of shift.
-fn jobs(rng: &mut Rng, kind: fn(&mut Rng, usize) -> Shift, turns: usize) -> Vec<Job> {
+fn jobs(rng: &mut Rng, kind: Kind, turns: usize) -> Vec<Job> {
     let job = |_| {
         let shift = kind(rng, turns);
         Job::new(rng, &shift)
@@ -198,5 +229,14 @@ fn main() {
         print_row(entry.name, &size(&most_steps), times, None);
         let times = measure_all(entry, &mut widest);
         print_row(entry.name, &(size(&widest) + " w"), times, None);
+    }
+    for (order, kind) in ORDERS {
+        let mut before: Option<f64> = None;
+        for turns in [200, 400] {
+            let times = measure_all(&WRITE, &mut jobs(&mut rng, kind, turns));
+            let growth = before.map(|before| times[0].median / before);
+            print_row(WRITE.name, &format!("n={turns} {order}"), times, growth);
+            before = Some(times[0].median);
+        }
     }
 }

@@ -170,7 +170,7 @@ impl Run {
             board.steps = boards::steps(&mut self.rng, &shift.turns, Order::Free);
             board.add_up(&shift.turns);
             self.case(&sheet, &board.bytes());
-            let some = boards::shuffled(&mut self.rng, turns);
+            let some = self.rng.shuffled(turns);
             let some = some.into_iter().take(turns / 2);
             board.chosen = boards::choose(&shift.turns, some);
             board.add_up(&shift.turns);

@@ -1,7 +1,6 @@
 //! The drivers' listing.
 
 use slopeboard::MOST_TEXT_BYTES;
-use slopeboard_reference::boards;
 use slopeboard_reference::gen::{self, Rng, Shift};
 use slopeboard_reference::naive;
 
@@ -37,7 +36,7 @@ pub fn run() -> bool {
 /// A turn on each of 120 slopes, for each groomer one behind the other, with
 /// as many digits as a start, an end and a worth can have.
 fn longest(rng: &mut Rng) -> Shift {
-    let slopes = boards::shuffled(rng, 120);
+    let slopes = rng.shuffled(120);
     let turns = slopes.iter().enumerate().map(|(turn, slope)| {
         let start = 100 * (1 + turn as u32 / 16) + rng.below(50);
         [

@@ -1,6 +1,6 @@
 //! Writing a sheet.
 
-use slopeboard_reference::gen::{self, Rng};
+use slopeboard_reference::gen::{self, Rng, Shift};
 use slopeboard_reference::{naive, shapes};
 
 use crate::bytes::{answer, Lent};
@@ -49,6 +49,8 @@ pub fn run() -> bool {
         table: Vec::new(),
     };
     run.typical_tables();
+    run.orders();
+    run.faults_in_any_order();
     run.counts();
     run.lengths();
     run.tables_at_the_limit();
@@ -81,6 +83,72 @@ impl Run {
                 1..=3 => self.case(groomers, slopes, &table, len + 1),
                 _ => self.case(groomers, slopes, &table, len),
             };
+        }
+    }
+
+    /// One table in several orders, many with equal turns. The room is also
+    /// that of a sheet with the turns as the table has them.
+    fn orders(&mut self) {
+        for round in 0..6000 {
+            let turns = gen::turn_count(&mut self.rng).min(if round % 40 == 0 { 400 } else { 40 });
+            let shift = if round % 2 == 0 {
+                shapes::few_kinds(&mut self.rng, turns)
+            } else {
+                shapes::shift(&mut self.rng, round / 2 % shapes::SHAPES, turns)
+            };
+            self.order(&shift);
+            let any = shapes::shuffled(&mut self.rng, &shift);
+            self.order(&any);
+            self.order(&shapes::falling(&shift));
+            self.order(&shapes::sorted(&shift));
+        }
+    }
+
+    fn order(&mut self, shift: &Shift) {
+        let table = shift.turns.concat();
+        let (groomers, slopes) = (shift.groomers.into(), shift.slopes.into());
+        let len = self.case(groomers, slopes, &table, 4000);
+        let as_it_stands = gen::encode(&mut self.rng, shift, 0).bytes.len();
+        for room in [len - 1, as_it_stands] {
+            self.case(groomers, slopes, &table, room);
+        }
+        let turns = &shift.turns;
+        let report = &mut self.report;
+        report.property("shorter than as the table stands", len < as_it_stands);
+        report.property("longer than as the table stands", len > as_it_stands);
+        report.property("a table that rises", turns.is_sorted() && turns.len() > 1);
+        let falls = turns.is_sorted_by(|a, b| a > b) && turns.len() > 1;
+        report.property("a table that falls", falls);
+        let all_equal = turns.windows(2).all(|two| two[0] == two[1]);
+        report.property("equal turns only", all_equal && turns.len() > 1);
+        let again = |(place, turn)| turns[..place].contains(turn) && turns[place - 1] != *turn;
+        let apart = turns.iter().enumerate().any(again);
+        report.property("equal turns apart from each other", apart);
+    }
+
+    /// Faults in two turns: the first one in the table counts, wherever its
+    /// turn would be written.
+    fn faults_in_any_order(&mut self) {
+        for _ in 0..4000 {
+            let turns = self.rng.between(2, 12) as usize;
+            let mut shift = gen::shift(&mut self.rng, turns);
+            let places = self.rng.shuffled(turns);
+            for &place in &places[..2] {
+                let field = self.rng.below(5) as usize;
+                shift.turns[place][field] = self.rng.pick(VALUES[field]);
+            }
+            let (groomers, slopes) = (shift.groomers.into(), shift.slopes.into());
+            let refusal = |shift: &Shift| {
+                let mut sheet = [0; 200];
+                naive::write(groomers, slopes, &shift.turns.concat(), &mut sheet).err()
+            };
+            let sorted = shapes::sorted(&shift);
+            let other = refusal(&shift) != refusal(&sorted);
+            self.report.property("another refusal once sorted", other);
+            for shift in [&shift, &sorted, &shapes::falling(&shift)] {
+                let room = self.rng.pick(&[0, 200]);
+                self.case(groomers, slopes, &shift.turns.concat(), room);
+            }
         }
     }
 

@@ -1,5 +1,5 @@
-//! The baseline of the bench: reading, planning, checking and listing, written
-//! to be fast. It judges nothing; the tests hold it to [`crate::naive`].
+//! The baseline of the bench: reading, writing, planning, checking and listing,
+//! made to be fast. It judges nothing; the tests hold it to [`crate::naive`].
 
 mod board;
 mod check;
@@ -8,8 +8,10 @@ mod plan;
 mod refusal;
 mod sheet;
 mod turns;
+mod write;
 
 pub use check::check;
 pub use listing::listing;
 pub use plan::plan;
 pub use sheet::{read, Header};
+pub use write::write;

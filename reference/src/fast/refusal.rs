@@ -34,3 +34,5 @@ pub const BAD_STEP: u8 = 15;
 pub const TURN_LEFT_OPEN: u8 = 16;
 /// The board's tally or worth is wrong, or the worth is less than the tally.
 pub const BAD_SUMS: u8 = 17;
+/// A turn table does not consist of whole turns.
+pub const PARTIAL_TURN: u8 = 18;

@@ -4,8 +4,8 @@ use super::refusal;
 use super::turns::{judge_counts, Turn};
 use crate::limits::{FIELDS, MAX_TURNS};
 
-const MAGIC: [u8; 3] = *b"GRM";
-const HEADER_LEN: usize = 7;
+pub const MAGIC: [u8; 3] = *b"GRM";
+pub const HEADER_LEN: usize = 7;
 
 const HAS_SLOPE: u8 = 1;
 const HAS_GROOMER: u8 = 1 << 1;

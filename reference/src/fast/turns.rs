@@ -14,6 +14,17 @@ pub struct Turn {
 }
 
 impl Turn {
+    /// The turn in one row of a turn table.
+    pub fn of(row: &[u16]) -> Turn {
+        Turn {
+            slope: row[0],
+            groomer: row[1],
+            start: row[2],
+            length: row[3],
+            worth: row[4],
+        }
+    }
+
     pub fn fields(&self) -> [u16; FIELDS] {
         [
             self.slope,

@@ -102,7 +102,8 @@ pub fn read(sheet: &[u8], table: &mut [u16]) -> Result<Counts, u8> {
     })
 }
 
-/// Writes the turns of a table as the shortest sheet and gives its length.
+/// Writes the turns of a table as a sheet and gives its length. They are
+/// judged as the table has them, and written by their values.
 pub fn write(groomers: u32, slopes: u32, table: &[u16], out: &mut [u8]) -> Result<usize, u8> {
     if !table.len().is_multiple_of(5) {
         return Err(18);
@@ -115,11 +116,19 @@ pub fn write(groomers: u32, slopes: u32, table: &[u16], out: &mut [u8]) -> Resul
     for turn in &turns {
         judge_turn(turn, groomers, slopes)?;
     }
-    lend(&shortest(groomers, slopes, &turns), out)
+    lend(&shortest(groomers, slopes, &in_order(&turns)), out)
 }
 
-/// The sheet in which a bit stands only where the value differs from the one
-/// before, and every bit in the first record.
+/// The turns by slope, those of one slope by groomer, then by start, by length
+/// and by worth, the least first each time. None is lost and none is added.
+fn in_order(turns: &[Turn]) -> Vec<Turn> {
+    let mut turns = turns.to_vec();
+    turns.sort_by_key(Turn::values);
+    turns
+}
+
+/// The sheet of these turns as they stand, in which a bit stands only where
+/// the value differs from the one before, and every bit in the first record.
 fn shortest(groomers: u32, slopes: u32, turns: &[Turn]) -> Vec<u8> {
     let mut bytes = vec![0x47, 0x52, 0x4D];
     put(&mut bytes, groomers, 1);

@@ -20,6 +20,15 @@ pub fn read(sheet: &[u8], table: &mut [u16]) -> Result<Counts, u8> {
     answer
 }
 
+pub fn write(groomers: u32, slopes: u32, table: &[u16], sheet: &mut [u8]) -> Result<usize, u8> {
+    let mut other = sheet.to_vec();
+    let answer = naive::write(groomers, slopes, table, sheet);
+    let fast = fast::write(groomers, slopes, table, &mut other);
+    assert_eq!(fast, answer, "{groomers} {slopes} {table:?}");
+    assert_eq!(other, sheet, "{groomers} {slopes} {table:?}");
+    answer
+}
+
 pub fn plan(sheet: &[u8], board: &mut [u8]) -> Result<usize, u8> {
     written(sheet, board, [naive::plan, fast::plan])
 }

@@ -92,7 +92,7 @@ fn sweeps(corpus: &mut Corpus) {
 
 fn seeded_cases(corpus: &mut Corpus) {
     let mut rng = Rng::new(1);
-    for (sheets, low, high) in [(50, 1, 20), (20, 20, 90), (4, 100, 399), (4, 400, 400)] {
+    for (sheets, low, high) in [(50, 1, 20), (16, 20, 90), (2, 100, 399), (2, 400, 400)] {
         for _ in 0..sheets {
             let turns = rng.between(low, high) as usize;
             let sheet = gen::typical(&mut rng, turns);

@@ -1,7 +1,8 @@
 //! Cases for writing a sheet.
 
-use slopeboard_reference::gen::{self, Rng};
+use slopeboard_reference::gen::{self, Rng, Shift};
 use slopeboard_reference::naive::{read, write};
+use slopeboard_reference::shapes;
 
 use crate::{byte_sum, Corpus, EXAMPLE, FILL};
 
@@ -30,7 +31,9 @@ const COUNTS: [u32; 14] = [
 /// Adds all cases of this entry.
 pub fn add(corpus: &mut Corpus) {
     example_cases(corpus);
+    cause_cases(corpus);
     order_cases(corpus);
+    fault_cases(corpus);
     bound_cases(corpus);
     large_cases(corpus);
     seeded_cases(corpus);
@@ -41,6 +44,17 @@ struct Table<'a> {
     groomers: u32,
     slopes: u32,
     numbers: &'a [u16],
+}
+
+impl Table<'_> {
+    /// Numbers that belong to this shift, with its counts.
+    fn of<'a>(shift: &Shift, numbers: &'a [u16]) -> Table<'a> {
+        Table {
+            groomers: shift.groomers.into(),
+            slopes: shift.slopes.into(),
+            numbers,
+        }
+    }
 }
 
 fn case(corpus: &mut Corpus, table: &Table, lent: usize) {
@@ -91,7 +105,7 @@ fn example_cases(corpus: &mut Corpus) {
 }
 
 /// Several causes at once: the first in the order counts.
-fn order_cases(corpus: &mut Corpus) {
+fn cause_cases(corpus: &mut Corpus) {
     let (good, late) = ([1, 1, 0, 1, 1], [1, 1, 0, 1, 0, 0, 1, 0, 1, 1]);
     let faulty = [
         [2, 2, 0, 0, 0],
@@ -117,6 +131,67 @@ fn order_cases(corpus: &mut Corpus) {
                     numbers,
                 };
                 case(corpus, &table, lent);
+            }
+        }
+    }
+}
+
+/// Every order of the example's turns; drawn tables as they are, sorted and
+/// falling, some with many equal turns.
+fn order_cases(corpus: &mut Corpus) {
+    let mut numbers = [0; 20];
+    read(&EXAMPLE, &mut numbers).expect("the example is accepted");
+    for order in 0..256 {
+        let order = [0, 2, 4, 6].map(|by| order >> by & 3);
+        if (0..4).all(|turn| order.contains(&turn)) {
+            let table = Table {
+                groomers: 2,
+                slopes: 3,
+                numbers: &order.map(|turn| &numbers[5 * turn..5 * turn + 5]).concat(),
+            };
+            case(corpus, &table, 38);
+        }
+    }
+    let mut rng = Rng::new(21);
+    for turns in [2, 3, 5, 8, 9, 16, 17, 33] {
+        let drawn = [
+            shapes::few_kinds(&mut rng, turns),
+            shapes::shift(&mut rng, 8, turns),
+        ];
+        for shift in drawn {
+            for shift in [&shift, &shapes::sorted(&shift), &shapes::falling(&shift)] {
+                let numbers = shift.turns.concat();
+                case(corpus, &Table::of(shift, &numbers), 7 + 9 * turns);
+            }
+        }
+    }
+}
+
+/// Two faults, one in a turn that is written early and one in a turn that is
+/// written late: the first in the table counts.
+fn fault_cases(corpus: &mut Corpus) {
+    let good = [2, 1, 30, 60, 150];
+    let early = [
+        [0, 1, 0, 1, 1],
+        [1, 0, 0, 1, 1],
+        [1, 1, 0, 0, 1],
+        [1, 1, 0, 1, 0],
+    ];
+    let late = [
+        [4, 1, 0, 1, 1],
+        [3, 3, 0, 1, 1],
+        [3, 2, 900, 61, 1],
+        [3, 2, 0, 1, 60_001],
+    ];
+    for early in early {
+        for late in late {
+            for turns in [[early, good, late], [late, good, early]] {
+                let table = Table {
+                    groomers: 2,
+                    slopes: 3,
+                    numbers: &turns.concat(),
+                };
+                case(corpus, &table, 40);
             }
         }
     }
@@ -152,19 +227,21 @@ fn bound_cases(corpus: &mut Corpus) {
     }
 }
 
-/// Tables at the most turns allowed and beyond.
+/// Tables at the most turns allowed and beyond; then the most turns falling,
+/// and all equal.
 fn large_cases(corpus: &mut Corpus) {
     let mut rng = Rng::new(20);
     for (turns, extra) in [(400, 0), (400, 1), (401, 0)] {
         let shift = gen::shift(&mut rng, turns);
         let mut numbers = shift.turns.concat();
         numbers.resize(numbers.len() + extra, 1);
-        let table = Table {
-            groomers: shift.groomers.into(),
-            slopes: shift.slopes.into(),
-            numbers: &numbers,
-        };
+        let table = Table::of(&shift, &numbers);
         case(corpus, &table, MOST_LENT);
+    }
+    let falling = shapes::falling(&shapes::widest(&mut rng, 400));
+    for shift in [falling, shapes::shift(&mut rng, shapes::ALL_EQUAL, 400)] {
+        let numbers = shift.turns.concat();
+        case(corpus, &Table::of(&shift, &numbers), MOST_LENT);
     }
 }
 
@@ -178,11 +255,7 @@ fn seeded_cases(corpus: &mut Corpus) {
             shift.turns[turn][rng.below(5) as usize] = rng.pick(&[0, 121, 961, 60_001, 65_535]);
         }
         let numbers = shift.turns.concat();
-        let table = Table {
-            groomers: shift.groomers.into(),
-            slopes: shift.slopes.into(),
-            numbers: &numbers,
-        };
+        let table = Table::of(&shift, &numbers);
         case_with_rooms(corpus, &table);
     }
 }

@@ -1,0 +1,6 @@
+pub mod Sorted
+pub mod Merging
+pub mod Heads
+pub mod Ends
+pub mod Passing
+pub mod Starts
