@@ -23,6 +23,9 @@
  *
  * In sheets and boards, a number of several bytes begins with its high byte. Turns are numbered from 0
  * in the order of the sheet, slopes and groomers from 1.
+ *
+ * A turn ends at its start plus its length. Two different turns exclude each other if they have the same
+ * slope, or if they have the same groomer and neither starts ten minutes or more after the end of the other.
  */
 #ifndef SLOPEBOARD_H
 #define SLOPEBOARD_H
@@ -36,7 +39,7 @@ extern "C" {
 #endif
 
 /* The number of this interface. Each change that a caller can see raises it. */
-#define SLOPEBOARD_VERSION 3
+#define SLOPEBOARD_VERSION 4
 
 /* The refusals. */
 enum {
@@ -153,7 +156,7 @@ slopeboard_count_answer slopeboard_count(const uint8_t *board, size_t board_len)
 bool slopeboard_is_chosen(const uint8_t *board, size_t board_len, size_t turn);
 
 /* Checks a board, whoever made it, against a sheet. The answer has the board's tally and worth. If
- * nothing is refused, no set of the sheet's turns without a conflict is worth more than twice that tally.
+ * nothing is refused, no set of turns in which no two exclude each other is worth more than twice that tally.
  *
  * Refusals: those of slopeboard_read up to 10, in their order; then 12 if the board does not open or is
  * not for as many turns as the sheet has; then 13, 14, 15, 16, 17. */
@@ -163,7 +166,7 @@ slopeboard_check_answer slopeboard_check(const uint8_t *sheet, size_t sheet_len,
  * ends every line, and no 0 byte stands behind the last. For each groomer of the sheet, by number, there
  * is a heading, such as "groomer 1", even if nothing is chosen for it; below it stands a line for each of
  * its chosen turns, the earliest start first, with start and end, slope and worth: "30-90 slope 2 worth
- * 150". The last line has the board's worth and tally: "worth 320 tally 240".
+ * 150". The last line has the board's worth and tally: "worth 240 tally 240".
  *
  * Refusals: those of slopeboard_read up to 10, in their order; then, last of all, 11 if text_len is below
  * the bytes of this very listing. On a refusal nothing is written, not even a part of the listing.

@@ -1,7 +1,7 @@
 //! Seeded inputs for tests, corpus and comparison. The same seed always
 //! gives the same bytes.
 
-use crate::limits::{FIELDS, LAST_END, MAX_GROOMERS, MAX_SLOPES, MAX_TURNS, MAX_WORTH};
+use crate::limits::{DRIVE_OVER, FIELDS, LAST_END, MAX_GROOMERS, MAX_SLOPES, MAX_TURNS, MAX_WORTH};
 
 /// Bytes before the first record.
 pub const HEADER_LEN: usize = 7;
@@ -94,8 +94,8 @@ pub fn shift(rng: &mut Rng, turns: usize) -> Shift {
     shift
 }
 
-/// One more turn, often close to the one before it: equal, touching, or with
-/// some of its values.
+/// One more turn, often close to the one before it: equal, soon after it, or
+/// with some of its values.
 fn next_turn(rng: &mut Rng, shift: &Shift) -> [u16; FIELDS] {
     let fresh = fresh_turn(rng, shift);
     let Some(&old) = shift.turns.last() else {
@@ -103,7 +103,7 @@ fn next_turn(rng: &mut Rng, shift: &Shift) -> [u16; FIELDS] {
     };
     match rng.below(10) {
         0 => old,
-        1 | 2 => touching_turn(rng, old, fresh),
+        1 | 2 => following_turn(rng, old, fresh),
         3..=6 => mixed_turn(rng, old, fresh),
         _ => fresh,
     }
@@ -145,9 +145,11 @@ fn fresh_turn(rng: &mut Rng, shift: &Shift) -> [u16; FIELDS] {
     ]
 }
 
-/// A turn of the old one's groomer that starts as the old one ends.
-fn touching_turn(rng: &mut Rng, old: [u16; FIELDS], fresh: [u16; FIELDS]) -> [u16; FIELDS] {
-    let start = u32::from(old[2]) + u32::from(old[3]);
+/// A turn of the old one's groomer that starts as the old one ends, or about
+/// as many minutes later as it takes to drive over.
+fn following_turn(rng: &mut Rng, old: [u16; FIELDS], fresh: [u16; FIELDS]) -> [u16; FIELDS] {
+    let minutes = rng.pick(&[0, 0, 1, DRIVE_OVER - 1, DRIVE_OVER, DRIVE_OVER + 1]);
+    let start = u32::from(old[2]) + u32::from(old[3]) + minutes;
     if start >= LAST_END {
         return fresh;
     }

@@ -7,5 +7,8 @@ pub const MAX_TURNS: usize = 400;
 pub const LAST_END: u32 = 960;
 pub const MAX_WORTH: u16 = 60_000;
 
+/// Minutes that a groomer needs from the end of a turn to its next start.
+pub const DRIVE_OVER: u32 = 10;
+
 /// Numbers that a turn takes in a turn table.
 pub const FIELDS: usize = 5;

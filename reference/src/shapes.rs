@@ -1,7 +1,7 @@
 //! Seeded shifts of named shapes, all of which a reader must take.
 
 use crate::gen::{self, Rng, Shift};
-use crate::limits::{FIELDS, LAST_END, MAX_GROOMERS, MAX_SLOPES, MAX_TURNS, MAX_WORTH};
+use crate::limits::{DRIVE_OVER, FIELDS, LAST_END, MAX_GROOMERS, MAX_SLOPES, MAX_TURNS, MAX_WORTH};
 
 /// How many shapes there are.
 pub const SHAPES: u32 = 10;
@@ -19,10 +19,10 @@ pub fn shift(rng: &mut Rng, shape: u32, turns: usize) -> Shift {
         2 => drawn(rng, turns, [1, MAX_SLOPES], [LAST_END, 1, 90], 500),
         3 => drawn(rng, turns, [MAX_GROOMERS, 1], [LAST_END, 1, 90], 500),
         ALL_EQUAL => all_equal(rng, turns),
-        5 => end_to_start(rng, turns),
+        5 => one_after_the_other(rng, turns),
         A_STEP_A_TURN => a_step_a_turn(rng, turns),
         7 => equal_ends(rng, turns),
-        8 => drawn(rng, turns, [3, 8], [12, 1, 8], 3),
+        8 => drawn(rng, turns, [3, 8], [40, 1, 8], 3),
         9 => drawn(rng, turns, [2, 30], [200, 1, 60], u32::from(MAX_WORTH)),
         _ => gen::shift(rng, turns),
     }
@@ -111,9 +111,10 @@ fn all_equal(rng: &mut Rng, turns: usize) -> Shift {
     }
 }
 
-/// Each groomer's turns follow each other without a gap and without an
-/// overlap, as far as the shift goes; then they start over.
-fn end_to_start(rng: &mut Rng, turns: usize) -> Shift {
+/// Each groomer's turns follow each other without an overlap, as far as the
+/// shift goes; then they start over. It has just the time to drive over, a
+/// minute less or more, or none.
+fn one_after_the_other(rng: &mut Rng, turns: usize) -> Shift {
     let groomers = rng.between(1, MAX_GROOMERS);
     let slopes = rng.between(1, MAX_SLOPES);
     let mut next = [0; MAX_GROOMERS as usize + 1];
@@ -125,7 +126,8 @@ fn end_to_start(rng: &mut Rng, turns: usize) -> Shift {
             *start = 0;
         }
         let from = *start;
-        *start += length;
+        let minutes = rng.pick(&[0, DRIVE_OVER - 1, DRIVE_OVER, DRIVE_OVER, DRIVE_OVER + 1]);
+        *start += length + minutes;
         [
             rng.between(1, slopes) as u16,
             groomer as u16,
@@ -141,18 +143,19 @@ fn end_to_start(rng: &mut Rng, turns: usize) -> Shift {
     }
 }
 
-/// No groomer has an overlap, and on each slope the worths rise with the
-/// ends: so every turn is still open when its end is the earliest.
+/// Every groomer has the time to drive over, and on each slope the worths rise
+/// with the ends: so every turn is still open when its end is the earliest.
 fn a_step_a_turn(rng: &mut Rng, turns: usize) -> Shift {
     let each = turns.max(1).div_ceil(MAX_GROOMERS as usize) as u32;
-    let length = LAST_END / each;
+    let from_start_to_start = LAST_END / each;
+    let length = from_start_to_start - DRIVE_OVER;
     let slopes = (turns as u32 / 4).clamp(1, MAX_SLOPES);
     let worth = rng.between(1, 1000);
     let turn = |number: u32| {
         [
             (number % slopes + 1) as u16,
             (number % MAX_GROOMERS + 1) as u16,
-            (number / MAX_GROOMERS * length) as u16,
+            (number / MAX_GROOMERS * from_start_to_start) as u16,
             length as u16,
             (worth + number) as u16,
         ]

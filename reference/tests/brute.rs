@@ -11,8 +11,8 @@ use slopeboard_reference::naive::turns::{turns_of, Turn};
 use slopeboard_reference::naive::{best_worth, open, steps};
 use slopeboard_reference::shapes;
 
-/// Few turns on few slopes and in few minutes, so that conflicts
-/// of both kinds, touching turns and equal ends abound.
+/// Few turns on few slopes and in few minutes, so that conflicts of both
+/// kinds, turns about ten minutes apart and equal ends abound.
 fn small_shift(rng: &mut Rng, most: u32) -> Shift {
     let groomers = rng.between(1, 3);
     let slopes = rng.between(1, 6);
@@ -22,8 +22,8 @@ fn small_shift(rng: &mut Rng, most: u32) -> Shift {
             [
                 rng.between(1, slopes) as u16,
                 rng.between(1, groomers) as u16,
-                rng.below(12) as u16,
-                rng.between(1, 8) as u16,
+                rng.below(36) as u16,
+                rng.between(1, 10) as u16,
                 rng.between(1, most_worth) as u16,
             ]
         })
@@ -83,6 +83,34 @@ fn passing_boards_bound_every_set() {
         }
     }
     assert!(foreign > 1000, "{foreign}");
+}
+
+/// Where no slope has two turns, no set is worth more than a board that
+/// passes.
+#[test]
+fn boards_of_one_turn_a_slope_are_the_best() {
+    let mut rng = Rng::new(18);
+    let mut fuller = 0;
+    for _ in 0..1500 {
+        let mut shift = small_shift(&mut rng, 10);
+        shift.slopes = 10;
+        for (turn, slope) in shift.turns.iter_mut().zip(1..) {
+            turn[0] = slope;
+        }
+        let sheet = gen::encode(&mut rng, &shift, 20).bytes;
+        let best = best_worth(&turns_in(&shift));
+        let own = planned(&sheet, shift.turns.len());
+        assert_eq!(check(&sheet, &own).map(|(_, worth)| worth), Ok(best));
+        for _ in 0..4 {
+            let board = boards::right(&mut rng, &shift.turns).bytes();
+            assert_eq!(check(&sheet, &board), Ok((best, best)));
+            let board = boards::full(&mut rng, &shift.turns);
+            let passes = assert_bounds(&sheet, &board.bytes(), best);
+            assert!(!passes || board.worth == best);
+            fuller += u32::from(!passes);
+        }
+    }
+    assert!(fuller > 500, "{fuller}");
 }
 
 /// Checks a board and a few of its neighbours.

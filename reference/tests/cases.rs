@@ -12,6 +12,12 @@ const SHEET: [u8; 39] = [
 ];
 
 const BOARD: [u8; 28] = [
+    0x47, 0x52, 0x42, 0x00, 0x04, 0x00, 0x03, 0x00, 0x00, 0x00, 0xF0, 0x00, 0x00, 0x00, 0xF0, 0x0A,
+    0x00, 0x00, 0x00, 0x64, 0x00, 0x01, 0x00, 0x32, 0x00, 0x03, 0x00, 0x5A,
+];
+
+/// The board that leaves groomer 2 no time between turns 2 and 3.
+const TOO_CLOSE_BOARD: [u8; 28] = [
     0x47, 0x52, 0x42, 0x00, 0x04, 0x00, 0x03, 0x00, 0x00, 0x00, 0xF0, 0x00, 0x00, 0x01, 0x40, 0x0E,
     0x00, 0x00, 0x00, 0x64, 0x00, 0x01, 0x00, 0x32, 0x00, 0x03, 0x00, 0x5A,
 ];
@@ -21,7 +27,7 @@ const TABLE: [u16; 20] = [
 ];
 
 const LISTING: &str = "groomer 1\n30-90 slope 2 worth 150\ngroomer 2\n\
-    0-120 slope 1 worth 80\n120-180 slope 3 worth 90\nworth 320 tally 240\n";
+    120-180 slope 3 worth 90\nworth 240 tally 240\n";
 
 /// What untouched places hold.
 const KEPT: u16 = 0xA5A5;
@@ -84,7 +90,8 @@ fn example_is_opened_and_checked() {
     assert_eq!(open(&BOARD), 0);
     assert_eq!(steps(&BOARD).as_ptr(), BOARD[16..].as_ptr());
     assert_eq!(steps(&BOARD).len(), 12);
-    assert_eq!(check(&SHEET, &BOARD), Ok((240, 320)));
+    assert_eq!(check(&SHEET, &BOARD), Ok((240, 240)));
+    assert_eq!(check(&SHEET, &TOO_CLOSE_BOARD), Err(13));
 }
 
 #[test]
@@ -236,7 +243,7 @@ fn board_shape() {
     let mut longer = BOARD.to_vec();
     longer.push(0);
     assert_eq!(open(&longer), 12);
-    for (place, value) in [(0, 0x67), (2, 0x4D), (4, 9), (6, 2), (6, 5), (15, 0x1E)] {
+    for (place, value) in [(0, 0x67), (2, 0x4D), (4, 9), (6, 2), (6, 5), (15, 0x1A)] {
         let mut board = BOARD.to_vec();
         board[place] = value;
         assert_eq!(open(&board), 12, "{place}");
@@ -262,9 +269,9 @@ const NO_TURNS: [usize; 6] = [65_535, 65_536, 65_537, 131_070, usize::MAX - 7, u
 
 #[test]
 fn example_is_counted() {
-    assert_eq!(count(&BOARD), Ok(3));
+    assert_eq!(count(&BOARD), Ok(2));
     let chosen = [0, 1, 2, 3].map(|turn| is_chosen(&BOARD, turn));
-    assert_eq!(chosen, [false, true, true, true]);
+    assert_eq!(chosen, [false, true, false, true]);
     for turn in [4, 5, 7, 8, 9, 15, 16].into_iter().chain(NO_TURNS) {
         assert!(!is_chosen(&BOARD, turn), "{turn}");
     }
@@ -326,7 +333,10 @@ fn check_judges_the_sheet_before_the_board() {
 #[test]
 fn check_of_choices() {
     assert_eq!(check(&SHEET, &board_with(0b1001, 190)), Err(17));
-    assert_eq!(check(&SHEET, &board_with(0b1010, 240)), Err(14));
+    assert_eq!(check(&SHEET, &board_with(0b1010, 240)), Ok((240, 240)));
+    assert_eq!(check(&SHEET, &board_with(0b1010, 239)), Err(17));
+    assert_eq!(check(&SHEET, &board_with(0b1000, 90)), Err(14));
+    assert_eq!(check(&SHEET, &board_with(0b0010, 150)), Err(14));
     assert_eq!(check(&SHEET, &board_with(0b1111, 0)), Err(13));
     assert_eq!(check(&SHEET, &board_with(0b1011, 0)), Err(13));
     assert_eq!(check(&SHEET, &board_with(0, 0)), Err(14));
@@ -349,7 +359,7 @@ fn check_of_steps() {
     assert_eq!(changed(16, &[0, 3, 0, 90]), Err(15));
     // Wrong sums alone.
     assert_eq!(changed(10, &[0xF1]), Err(17));
-    assert_eq!(changed(14, &[0x41]), Err(17));
+    assert_eq!(changed(14, &[0xF1]), Err(17));
     assert_eq!(changed(7, &[1]), Err(17));
     assert_eq!(changed(11, &[1]), Err(17));
     // The last step left out, then all of them.
@@ -366,5 +376,16 @@ fn another_order_of_steps_passes() {
     let mut board = BOARD.to_vec();
     // Turn 3 may come before turn 1: only its own groomer's ends count.
     board[20..28].copy_from_slice(&[0, 3, 0, 90, 0, 1, 0, 50]);
-    assert_eq!(check(&SHEET, &board), Ok((240, 320)));
+    assert_eq!(check(&SHEET, &board), Ok((240, 240)));
+}
+
+/// Turn 2 first: it ends as turn 3 starts, so that step takes from turn 3.
+#[test]
+fn a_step_takes_from_a_turn_that_starts_as_its_own_ends() {
+    let mut board = [&BOARD[..16], &[0; 16]].concat();
+    board[6] = 4;
+    for (last, answer) in [(10, Ok((240, 240))), (90, Err(15))] {
+        board[16..].copy_from_slice(&[0, 2, 0, 80, 0, 0, 0, 20, 0, 1, 0, 130, 0, 3, 0, last]);
+        assert_eq!(check(&SHEET, &board), answer);
+    }
 }

@@ -19,7 +19,7 @@ pub use refusal::Refusal;
 
 /// The number of this interface, as `SLOPEBOARD_VERSION` in the header: each
 /// change that a caller can see raises it.
-pub const VERSION: u32 = 3;
+pub const VERSION: u32 = 4;
 
 /// Numbers that a turn takes in a turn table: slope, groomer, start, length,
 /// worth.
@@ -44,7 +44,9 @@ pub struct Counts {
 }
 
 /// The sums of a board that passed. No set of the sheet's turns without a
-/// conflict is worth more than twice the tally.
+/// conflict is worth more than twice the tally. Two turns conflict if they
+/// have the same slope, or if they have the same groomer and neither starts
+/// ten minutes or more after the end of the other.
 #[derive(Clone, Copy, Debug, PartialEq, Eq)]
 pub struct Sums {
     pub tally: u32,

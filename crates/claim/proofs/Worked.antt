@@ -66,4 +66,5 @@ worked-cases =
       dear-read = refl;
       wrong-worth = refl;
       leaves-room = refl;
+      touching-turns = refl;
     }

@@ -18,7 +18,7 @@ use Rattle.board.specs.Chosen.{counted, countOf, turnChosen}
 use Rattle.audit.specs.Check.{checkOf, checked}
 use Rattle.planner.specs.Plan.{planOf}
 use Rattle.listing.specs.List.{listOf}
-use Rattle.claim.specs.Shift.{shift, shiftTable, shiftWritten, shiftBoard, shiftSteps, shiftListing, wrongWorth, leavesRoom, header, emptyBoard, lateTurn}
+use Rattle.claim.specs.Shift.{shift, shiftTable, shiftWritten, shiftBoard, shiftSteps, shiftListing, wrongWorth, leavesRoom, touchingTurns, header, emptyBoard, lateTurn}
 
 -- lent places hold 9 before
 abbrev pub lent : ℕ → List ℕ
@@ -40,16 +40,16 @@ pub record WorkedCases : Type 0 where
   pub shift-planned : planOf shift (lent 33) ≡ record { refusal = 0; bytes = 28; lent = shiftBoard ++ lent 5 }
   pub shift-opened : openOf shiftBoard ≡ 0
   pub shift-steps : stepsPart shiftBoard ≡ shiftSteps
-  pub shift-counted : countOf shiftBoard ≡ counted 0 3
+  pub shift-counted : countOf shiftBoard ≡ counted 0 2
   pub shift-chosen : turnChosen shiftBoard 1 ≡ true
   pub shift-not-chosen : turnChosen shiftBoard 0 ≡ false
   pub shift-no-turn : turnChosen shiftBoard 4 ≡ false
-  pub shift-checked : checkOf shift shiftBoard ≡ checked 0 240 320
-  -- its first step leaves 0, 50, -20 and 90; going back over its steps chooses 3 and 1, and filling adds 2
+  pub shift-checked : checkOf shift shiftBoard ≡ checked 0 240 240
+  -- its first step leaves 0, 50, -20 and 90; going back over its steps chooses 3 and 1, and filling adds none: turn 2 ends just where turn 3 starts
   pub shift-stepped : afterStep shiftTurns (initial shiftTurns) (record { turn = 0; amount = 100 }) ≡ pos 0 ∷ pos 50 ∷ negsuc 19 ∷ pos 90 ∷ []
   pub shift-gone-back : goBack shiftTurns (steps shiftTurns) ≡ false ∷ true ∷ false ∷ true ∷ []
-  pub shift-filled : choice shiftTurns ≡ false ∷ true ∷ true ∷ true ∷ []
-  pub shift-listed : listOf shift (lent 113) ≡ record { refusal = 0; bytes = 112; lent = shiftListing ++ lent 1 }
+  pub shift-filled : choice shiftTurns ≡ false ∷ true ∷ false ∷ true ∷ []
+  pub shift-listed : listOf shift (lent 90) ≡ record { refusal = 0; bytes = 89; lent = shiftListing ++ lent 1 }
   -- no bytes
   pub nothing-read : readOf [] (lent 3) ≡ outcome (readRefused 1) (lent 3)
   pub nothing-planned : planOf [] (lent 3) ≡ record { refusal = 1; bytes = 0; lent = lent 3 }
@@ -73,3 +73,4 @@ pub record WorkedCases : Type 0 where
   -- other choices with the shift's steps
   pub wrong-worth : checkOf shift wrongWorth ≡ checked 17 0 0
   pub leaves-room : checkOf shift leavesRoom ≡ checked 14 0 0
+  pub touching-turns : checkOf shift touchingTurns ≡ checked 13 0 0

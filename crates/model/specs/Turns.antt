@@ -50,6 +50,12 @@ pub data Conflict (T : Turns) (x y : ℕ) : Type 0 where
   same-slope : T .slope x ≡ T .slope y → Conflict T x y
   same-groomer : T .groomer x ≡ T .groomer y → (minute : ℕ) → Holds T x minute → Holds T y minute → Conflict T x y
 
+-- the same minutes without lengthening a turn: x and y share a minute of their own, or one starts when the other has ended, fewer minutes after that than the gap
+pub data Near (T : Turns) (x y : ℕ) : Type 0 where
+  shared : (minute : ℕ) → T .start x ≤ minute → minute < T .end x → T .start y ≤ minute → minute < T .end y → Near T x y
+  after : (free : ℕ) → free < T .gap → T .start y ≡ T .end x + free → Near T x y
+  before : (free : ℕ) → free < T .gap → T .start x ≡ T .end y + free → Near T x y
+
 -- every turn is at least a minute long
 abbrev pub PositiveLengths : Turns → Type 0
 PositiveLengths T = (t : ℕ) → t < T .count → T .start t < T .end t

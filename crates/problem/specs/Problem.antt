@@ -25,7 +25,7 @@ problemOf gap ts =
 
 -- the free minutes that a groomer needs between two turns of a shift
 abbrev pub shiftGap : ℕ
-shiftGap = 0
+shiftGap = 10
 
 -- a sheet's turns, as the model speaks of them
 unfoldable pub sheetTurns : List ℕ → Turns

@@ -10,6 +10,7 @@ use slopeboard_reference::naive::turns::turns_of;
 
 use crate::foreign;
 use crate::report::{show, Report};
+use crate::sheets;
 
 const SHEETS: u32 = 7500;
 
@@ -30,8 +31,8 @@ struct Run {
     report: Report,
 }
 
-/// Few slopes, groomers and minutes, so that conflicts of both kinds, touching
-/// turns and equal ends abound.
+/// Few slopes, groomers and minutes, so that conflicts of both kinds, turns
+/// about ten minutes apart and equal ends abound.
 fn small_shift(rng: &mut Rng) -> Shift {
     let (groomers, slopes) = (rng.between(1, 3), rng.between(1, 6));
     let worth = rng.pick(&[3, 20, 60_000]);
@@ -39,8 +40,8 @@ fn small_shift(rng: &mut Rng) -> Shift {
         [
             rng.between(1, slopes) as u16,
             rng.between(1, groomers) as u16,
-            rng.below(12) as u16,
-            rng.between(1, 8) as u16,
+            rng.below(36) as u16,
+            rng.between(1, 10) as u16,
             rng.between(1, worth) as u16,
         ]
     });
@@ -83,8 +84,10 @@ impl Run {
         }
         let turns = &shift.turns;
         let sheet = gen::encode(&mut self.rng, &shift, 20).bytes;
+        let all = turns_of(&turns.concat());
+        sheets::note_minutes_apart(&mut self.report, &all);
         let best = Best {
-            worth: best_worth(&turns_of(&turns.concat())),
+            worth: best_worth(&all),
             one_a_slope: slopes_differ(turns),
         };
         for round in 0..10 {

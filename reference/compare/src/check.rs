@@ -105,11 +105,11 @@ impl Run {
             turns: turns.to_vec(),
         };
         let sheet = gen::encode(&mut self.rng, &shift, 0).bytes;
-        let named = [(2, 80), (0, 20), (1, 130), (3, 90)];
-        let chosen = vec![false, true, true, true];
+        let named = [(2, 80), (0, 20), (1, 130), (3, 10)];
+        let chosen = vec![false, true, false, true];
         let board = Draft::new(&turns, chosen, named.to_vec());
         let passes = self.case(&sheet, &board.bytes()) == 0;
-        if !passes || (board.tally, board.worth) != (320, 320) {
+        if !passes || (board.tally, board.worth) != (240, 240) {
             let text = || "the example's other order must pass".to_string();
             self.report.differs(text);
         }

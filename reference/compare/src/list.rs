@@ -33,8 +33,9 @@ pub fn run() -> bool {
     run.report.finish(1..=11)
 }
 
-/// A turn on each of 120 slopes, for each groomer one behind the other, with
-/// as many digits as a start, an end and a worth can have.
+/// A turn on each of 120 slopes, for each groomer one behind the other with
+/// ten minutes or more between them, with as many digits as a start, an end
+/// and a worth can have.
 fn longest(rng: &mut Rng) -> Shift {
     let slopes = rng.shuffled(120);
     let turns = slopes.iter().enumerate().map(|(turn, slope)| {
@@ -43,7 +44,7 @@ fn longest(rng: &mut Rng) -> Shift {
             *slope as u16 + 1,
             turn as u16 % 16 + 1,
             start as u16,
-            rng.between(1, 50) as u16,
+            rng.between(1, 41) as u16,
             rng.between(10_000, 60_000) as u16,
         ]
     });

@@ -1,7 +1,7 @@
 //! Planning a board.
 
 use slopeboard_reference::gen::{self, Rng};
-use slopeboard_reference::naive;
+use slopeboard_reference::naive::{self, sheet::accept};
 
 use crate::bytes::{answer, Lent};
 use crate::foreign;
@@ -48,6 +48,8 @@ impl Run {
         let answer = self.lent.compare(rng, report, calls, room, sheet);
         if answer.refusal == 0 {
             note_properties(report, self.lent.written(answer.bytes as usize));
+            let accepted = accept(sheet).unwrap_or_else(|_| unreachable!("the sheet was planned"));
+            sheets::note_minutes_apart(report, &accepted.turns);
         }
         answer.refusal == 0
     }

@@ -1,13 +1,34 @@
-//! The sheets on which planning and listing are compared.
+//! The sheets on which planning and listing are compared, and what must occur
+//! in them.
 
 use slopeboard_reference::gen::{self, Rng};
+use slopeboard_reference::naive::turns::Turn;
 use slopeboard_reference::shapes;
+
+use crate::report::Report;
 
 /// Hands every sheet to the function: about half of them accepted ones.
 pub fn each(rng: &mut Rng, mut run: impl FnMut(&mut Rng, &[u8])) {
     shaped(rng, &mut run);
     refused(rng, &mut run);
     edges(rng, &mut run);
+}
+
+/// Notes whether a groomer has turns just as many minutes apart as it needs
+/// to drive over, or a minute less or more.
+pub fn note_minutes_apart(report: &mut Report, turns: &[Turn]) {
+    let apart = |minutes: u32| {
+        let after = |a: &Turn, b: &Turn| a.groomer == b.groomer && a.start == b.end() + minutes;
+        turns.iter().any(|a| turns.iter().any(|b| after(a, b)))
+    };
+    for (minutes, name) in [
+        (0, "a groomer's turns 0 minutes apart"),
+        (9, "a groomer's turns 9 minutes apart"),
+        (10, "a groomer's turns 10 minutes apart"),
+        (11, "a groomer's turns 11 minutes apart"),
+    ] {
+        report.property(name, apart(minutes));
+    }
 }
 
 /// Sheets of every shape: mostly few turns, at times many.

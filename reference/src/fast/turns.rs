@@ -1,7 +1,7 @@
 //! Turns, their limits, and which of them may stand on a board together.
 
 use super::refusal;
-use crate::limits::{FIELDS, LAST_END, MAX_GROOMERS, MAX_SLOPES, MAX_WORTH};
+use crate::limits::{DRIVE_OVER, FIELDS, LAST_END, MAX_GROOMERS, MAX_SLOPES, MAX_WORTH};
 
 /// One turn; the fields stand in the order of the turn table.
 #[derive(Clone, Copy, Debug, Default, PartialEq, Eq)]
@@ -41,18 +41,19 @@ impl Turn {
         u32::from(self.start) + u32::from(self.length)
     }
 
-    /// Whether the groomer and minutes of the two turns overlap.
-    fn same_groomer_at_once(&self, other: &Turn) -> bool {
+    /// Whether the two turns have one groomer, and it could not drive from
+    /// one to the other in time.
+    fn too_close_on_groomer(&self, other: &Turn) -> bool {
         (self.groomer == other.groomer)
-            & (u32::from(self.start) < other.end())
-            & (u32::from(other.start) < self.end())
+            & (u32::from(self.start) < other.end() + DRIVE_OVER)
+            & (u32::from(other.start) < self.end() + DRIVE_OVER)
     }
 
     /// Whether the two turns exclude each other. True for a turn and itself:
     /// callers that mean two different turns compare numbers first, the
     /// others rely on it.
     pub fn conflicts(&self, other: &Turn) -> bool {
-        (self.slope == other.slope) | self.same_groomer_at_once(other)
+        (self.slope == other.slope) | self.too_close_on_groomer(other)
     }
 
     /// Judges the turn's values, slope first and worth last.
@@ -106,7 +107,7 @@ impl Selection {
     /// Whether the turn is in conflict with no chosen one. A turn already
     /// chosen does not fit again, since it shares its own slope.
     pub fn fits(&self, turn: &Turn) -> bool {
-        let busy = |other: &Turn| other.same_groomer_at_once(turn);
+        let busy = |other: &Turn| other.too_close_on_groomer(turn);
         !self.slope_taken[usize::from(turn.slope)] && !self.chosen().iter().any(busy)
     }
 

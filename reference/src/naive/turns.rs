@@ -80,9 +80,20 @@ pub fn share_a_minute(a: &Turn, b: &Turn) -> bool {
     (a.start..a.end()).any(|minute| b.holds(minute))
 }
 
+/// Whether the first turn starts 0 to 9 minutes after the end of the second.
+pub fn starts_soon_after(a: &Turn, b: &Turn) -> bool {
+    (0..=9).any(|minutes| a.start == b.end() + minutes)
+}
+
+/// Whether one groomer cannot do both turns: they share a minute, or one of
+/// them starts too soon after the other for driving over.
+pub fn too_close(a: &Turn, b: &Turn) -> bool {
+    share_a_minute(a, b) || starts_soon_after(a, b) || starts_soon_after(b, a)
+}
+
 /// Whether the turns with these numbers conflict: they are two, and they have
-/// the same slope, or the same groomer and a minute that both hold.
+/// the same slope, or the same groomer and too little time between them.
 pub fn conflict(turns: &[Turn], a: usize, b: usize) -> bool {
     let (x, y) = (&turns[a], &turns[b]);
-    a != b && (x.slope == y.slope || (x.groomer == y.groomer && share_a_minute(x, y)))
+    a != b && (x.slope == y.slope || (x.groomer == y.groomer && too_close(x, y)))
 }

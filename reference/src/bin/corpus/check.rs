@@ -1,11 +1,11 @@
 //! Cases for checking a board against its sheet.
 
-use slopeboard_reference::boards::{self, Order};
+use slopeboard_reference::boards::{self, Draft, Order};
 use slopeboard_reference::gen::{self, Rng};
 use slopeboard_reference::naive::check;
 use slopeboard_reference::shapes;
 
-use crate::planning::named_sheets;
+use crate::planning::{close_shifts, named_sheets};
 use crate::{planned, Corpus, EXAMPLE, EXAMPLE_BOARD};
 
 const ENTRY: u8 = 5;
@@ -15,6 +15,7 @@ pub fn add(corpus: &mut Corpus) {
     example_cases(corpus);
     choice_cases(corpus);
     step_cases(corpus);
+    close_cases(corpus);
     sheet_cases(corpus);
     seeded_cases(corpus);
     large_cases(corpus);
@@ -68,20 +69,27 @@ fn choice_cases(corpus: &mut Corpus) {
     for map in 0..16 {
         let chosen = (0..4).filter(|turn| map >> turn & 1 != 0);
         let worth: u32 = chosen.map(|turn| worths[turn]).sum();
-        for worth in [worth, worth + 1, 320] {
+        for worth in [worth, worth + 1, 240, 320] {
             case(corpus, &EXAMPLE, &board_with(map, 240, worth, &STEPS));
         }
     }
-    // A tally equal to the worth, and one above it, with steps to match.
-    let other = [(2, 80), (0, 20), (1, 130), (3, 90)];
-    case(corpus, &EXAMPLE, &board_with(0x0E, 320, 320, &other));
-    case(corpus, &EXAMPLE, &board_with(0x09, 320, 190, &other));
+    // Steps that begin with turn 2 and take from turn 3, which starts as turn
+    // 2 ends; then as if they took nothing from it.
+    for last in [10, 90] {
+        let other = [(2, 80), (0, 20), (1, 130), (3, last)];
+        let tally = 230 + u32::from(last);
+        for (map, worth) in [(0x0A, 240), (0x0E, 320), (0x09, 190)] {
+            case(corpus, &EXAMPLE, &board_with(map, tally, worth, &other));
+        }
+    }
 }
 
 /// Other steps for the example: right orders, wrong ones, and made-up ones.
 fn step_cases(corpus: &mut Corpus) {
-    let lists: [&[(u16, u16)]; 16] = [
+    let lists: [&[(u16, u16)]; 18] = [
         &[(0, 100), (3, 90), (1, 50)],
+        &[(2, 80), (0, 20), (3, 10), (1, 130)],
+        &[(2, 80), (3, 10), (0, 20), (1, 130)],
         &[(2, 80), (0, 20), (3, 90), (1, 130)],
         &[(2, 80), (3, 90), (0, 20), (1, 130)],
         &[(3, 90), (0, 100), (1, 50)],
@@ -101,7 +109,24 @@ fn step_cases(corpus: &mut Corpus) {
     for steps in lists {
         let tally = steps.iter().map(|step| u32::from(step.1)).sum();
         for tally in [tally, 240] {
-            case(corpus, &EXAMPLE, &board_with(0x0E, tally, 320, steps));
+            case(corpus, &EXAMPLE, &board_with(0x0A, tally, 240, steps));
+        }
+    }
+}
+
+/// Two turns 8 to 11 minutes apart, under every choice and both amounts that
+/// the second step can have.
+fn close_cases(corpus: &mut Corpus) {
+    for shift in close_shifts() {
+        let turns = &shift.turns;
+        let sheet = gen::encode(&mut Rng::new(0), &shift, 0).bytes;
+        let first = u16::from(turns[0][2] > turns[1][2]);
+        for amount in [30, 100] {
+            for map in 0..4 {
+                let chosen = [0, 1].map(|turn| map >> turn & 1 == 1).to_vec();
+                let steps = vec![(first, 70), (1 - first, amount)];
+                case(corpus, &sheet, &Draft::new(turns, chosen, steps).bytes());
+            }
         }
     }
 }

@@ -1,6 +1,6 @@
 //! Cases for planning a board, and the sheets that other entries share.
 
-use slopeboard_reference::gen::{self, Rng};
+use slopeboard_reference::gen::{self, Rng, Shift};
 use slopeboard_reference::naive::plan;
 use slopeboard_reference::shapes;
 
@@ -16,6 +16,10 @@ pub fn add(corpus: &mut Corpus) {
     }
     for sheet in named_sheets() {
         case_with_rooms(corpus, &sheet);
+    }
+    for shift in close_shifts() {
+        let sheet = gen::encode(&mut Rng::new(0), &shift, 0).bytes;
+        case(corpus, &sheet, 24);
     }
     for sheet in seeded_sheets(3, 60) {
         case_with_rooms(corpus, &sheet);
@@ -67,6 +71,26 @@ pub fn named_sheets() -> Vec<Vec<u8>> {
         sheets.push(sheet);
     }
     sheets
+}
+
+/// Two turns on two slopes, of one groomer and of two, the second up to 11
+/// minutes after the first, in both orders.
+pub fn close_shifts() -> Vec<Shift> {
+    let mut shifts = Vec::new();
+    for groomer in [1, 2] {
+        for minutes in [0, 1, 8, 9, 10, 11] {
+            let first = [1, 1, 100, 50, 70];
+            let second = [2, groomer, 150 + minutes, 40, 100];
+            for turns in [[first, second], [second, first]] {
+                shifts.push(Shift {
+                    groomers: 2,
+                    slopes: 3,
+                    turns: turns.to_vec(),
+                });
+            }
+        }
+    }
+    shifts
 }
 
 /// Seeded sheets of every shape, among them faulty ones.
