@@ -39,7 +39,7 @@ extern "C" {
 #endif
 
 /* The number of this interface. Each change that a caller can see raises it. */
-#define SLOPEBOARD_VERSION 4
+#define SLOPEBOARD_VERSION 5
 
 /* The refusals. */
 enum {
@@ -132,6 +132,8 @@ slopeboard_write_answer slopeboard_write(uint32_t groomers, uint32_t slopes, con
                                          uint8_t *bytes, size_t bytes_len);
 
 /* Plans the turns of a sheet and writes the board, which may come out shorter than the room asked for.
+ * Each step is for the open turn that ends first; of several that end in the same minute, for the one of
+ * which the most remains, then for the lowest number. (slopeboard_check takes such turns in any order.)
  *
  * Refusals: those of slopeboard_read up to 10, in their order; then 11 if board_len is below
  * SLOPEBOARD_BOARD_BYTES of the sheet's turns. */

@@ -6,6 +6,9 @@ use crate::limits::{DRIVE_OVER, FIELDS, LAST_END, MAX_GROOMERS, MAX_SLOPES, MAX_
 /// How many shapes there are.
 pub const SHAPES: u32 = 10;
 
+/// Few ends for all turns.
+pub const EQUAL_ENDS: u32 = 7;
+
 /// Nothing but equal turns.
 pub const ALL_EQUAL: u32 = 4;
 
@@ -21,7 +24,7 @@ pub fn shift(rng: &mut Rng, shape: u32, turns: usize) -> Shift {
         ALL_EQUAL => all_equal(rng, turns),
         5 => one_after_the_other(rng, turns),
         A_STEP_A_TURN => a_step_a_turn(rng, turns),
-        7 => equal_ends(rng, turns),
+        EQUAL_ENDS => equal_ends(rng, turns),
         8 => drawn(rng, turns, [3, 8], [40, 1, 8], 3),
         9 => drawn(rng, turns, [2, 30], [200, 1, 60], u32::from(MAX_WORTH)),
         _ => gen::shift(rng, turns),
@@ -143,13 +146,14 @@ fn one_after_the_other(rng: &mut Rng, turns: usize) -> Shift {
     }
 }
 
-/// Every groomer has the time to drive over, and on each slope the worths rise
-/// with the ends: so every turn is still open when its end is the earliest.
+/// Every groomer has the time to drive over, no slope has two turns with one
+/// end, and on each slope the worths rise with the ends: so every turn is
+/// still open when its end is the earliest.
 fn a_step_a_turn(rng: &mut Rng, turns: usize) -> Shift {
     let each = turns.max(1).div_ceil(MAX_GROOMERS as usize) as u32;
     let from_start_to_start = LAST_END / each;
     let length = from_start_to_start - DRIVE_OVER;
-    let slopes = (turns as u32 / 4).clamp(1, MAX_SLOPES);
+    let slopes = (turns as u32 / 4).clamp(MAX_GROOMERS, MAX_SLOPES);
     let worth = rng.between(1, 1000);
     let turn = |number: u32| {
         [
@@ -168,9 +172,11 @@ fn a_step_a_turn(rng: &mut Rng, turns: usize) -> Shift {
     }
 }
 
-/// Few ends and many starts: turn numbers decide.
+/// Few ends and many starts: what remains of the turns decides, or their
+/// numbers.
 fn equal_ends(rng: &mut Rng, turns: usize) -> Shift {
-    let mut shift = drawn(rng, turns, [4, 40], [LAST_END, 1, 120], 400);
+    let worth = rng.pick(&[5, 400]);
+    let mut shift = drawn(rng, turns, [4, 40], [LAST_END, 1, 120], worth);
     for turn in &mut shift.turns {
         let end = rng.pick(&[300, 300, 301, LAST_END]);
         turn[2] = (end - u32::from(turn[3])) as u16;

@@ -18,7 +18,7 @@ use Rattle.model.specs.IntervalSelection.{neighbour, w₁, w₂, AllPosi
 use Rattle.lists.proofs.Bools.{not-both, fails, up-to}
 use Rattle.model.proofs.Choices.{put-keeps, choose-cases, choose-set, choose-not}
 use Rattle.model.proofs.Filled.{apart-fits, put-apart, goBack-apart, goBack-length, goBack-earns, goBack-none, goBack-goes}
-use Rattle.model.proofs.Picks.{pick-picked, picked-pick, pick-count, pick-none, nextStep-right}
+use Rattle.model.proofs.Picks.{precedes-same, pick-picked, picked-pick, pick-count, pick-none, nextStep-right}
 use Rattle.model.proofs.Planned.{opens, opens-fall, opens-some, opens-most, plan-goes, plan-stops, plan-right}
 use Rattle.model.proofs.Readings.{apart-reads}
 use Rattle.model.proofs.Minutes
@@ -71,6 +71,10 @@ module _ (T : Turns) where
     unfolding isOpen
     member-open t l e = ap above (sym (a .same t l e))
 
+    member-left : (t : ℕ) → t < T .count → has A t ≡ true → part (w t) ≡ left s t
+    unfolding left
+    member-left t l e = ap part (a .same t l e)
+
     open-member : (t : ℕ) → t < T .count → isOpen s t ≡ true → has A t ≡ true
     open-member t l e = go (has A t) refl
       where
@@ -87,20 +91,20 @@ module _ (T : Turns) where
         go t m f (no q) = a .gone t m (sym (getD-set-other A i t false false q) ∙ f)
 
     -- line 5 picks the planner's turn
-    ends-first-picked : (j : ℕ) → AllPositive T A w → EndsFirst T A j → Picked T s j
+    ends-first-picked : (j : ℕ) → AllPositive T A w → EndsFirst T A w j → Picked T s j
     ends-first-picked j h e =
         record {
           inside = e .inside;
           live = member-open j (e .inside) (e .member) ∙ h j (e .inside) (e .member);
-          earliest = λ t l o d. e .earliest t l (open-member t l o) d;
+          earliest = λ t l o d. precedes-same T (λ I. part (w I)) j t (member-left j (e .inside) (e .member)) (member-left t l (open-member t l o)) (e .earliest t l (open-member t l o) d);
         }
 
-    picked-ends-first : (j : ℕ) → AllPositive T A w → Picked T s j → EndsFirst T A j
+    picked-ends-first : (j : ℕ) → AllPositive T A w → Picked T s j → EndsFirst T A w j
     picked-ends-first j h p =
         record {
           inside = p .inside;
           member = open-member j (p .inside) (p .live);
-          earliest = λ t l m d. p .earliest t l (member-open t l m ∙ h t l m) d;
+          earliest = λ t l m d. precedes-same T (left s) j t (sym (member-left j (p .inside) (open-member j (p .inside) (p .live)))) (sym (member-left t l m)) (p .earliest t l (member-open t l m ∙ h t l m) d);
         }
 
     -- the weight of J is the step's amount
@@ -148,7 +152,7 @@ module _ (T : Turns) where
     Returned S xs k s = (S ≡ goBack T (plan T k s)) × (xs ≡ plan T k s)
 
     -- lines 5 to 7: the call for the weights that stay has returned S
-    called : {A S : List Bool} {w : ℕ → ℤ} {xs : List Step} (j amount : ℕ) → AllPositive T A w → EndsFirst T A j → w j ≡ pos amount → (k : ℕ) (s : List ℤ) → opens T s ≤ k → Agrees T A w s →
+    called : {A S : List Bool} {w : ℕ → ℤ} {xs : List Step} (j amount : ℕ) → AllPositive T A w → EndsFirst T A w j → w j ≡ pos amount → (k : ℕ) (s : List ℤ) → opens T s ≤ k → Agrees T A w s →
         ((k : ℕ) (s : List ℤ) → opens T s ≤ k → Agrees T A (w₂ T w j) s → Returned S xs k s) →
         (fits T S j ≡ true ↔ Independent T (set S j true)) × (choose (fits T) S j ≡ goBack T (plan T k s)) × (_≡_ {A = List Step} (record { turn = j; amount = amount } ∷ xs) (plan T k s))
     unfolding nextStep

@@ -1,13 +1,14 @@
 -- Algorithm IS of the source document, section 5.2.1, line by line, with the machines of 5.2.4: an interval is a turn, its activity the slope, its machine the groomer. Two intervals of a machine intersect where the turns overlap, with the gap between turns counted to each; the source's own case is a gap of 0. Sets of intervals are lists of Bool. Assumes nothing.
 use mathlib.Core.Path.{_≡_}
-use mathlib.Core.Logic.{_≢_, _⊎_}
+use mathlib.Core.Logic.{_≢_}
 use mathlib.Core.Bool.{Bool, true, false, not, cond, _&&_, _||_}
 use mathlib.Core.List.{List, [], _∷_}
 use Prim.Native.Nat.{ℕ, _<_}
 use lib.IntN.{ℤ, pos, _-ℤ_}
 use lib.ListN.{set, replicate}
 use Rattle.model.specs.Turns.{Turns, bySlope, byGroomer}
-use Rattle.model.specs.Steps.{Step, above}
+use Rattle.model.specs.Steps.{Step, above, part}
+use Rattle.model.specs.Pick.{Precedes}
 use Rattle.model.specs.Choice.{has}
 use Rattle.model.specs.Rules.{Independent}
 
@@ -31,11 +32,11 @@ Empty T A = (I : ℕ) → I < T .count → has A I ≡ false
 abbrev pub AllPositive : Turns → List Bool → (ℕ → ℤ) → Type 0
 AllPositive T A w = (I : ℕ) → I < T .count → has A I ≡ true → above (w I) ≡ true
 
--- line 5: J has the earliest end in A; of equals, which the source leaves open, the lowest turn number is taken
-pub record EndsFirst (T : Turns) (A : List Bool) (J : ℕ) : Type 0 where
+-- line 5: J has the earliest end in A; of equals, which the source leaves open, the greatest weight at this call is taken, then the lowest turn number
+pub record EndsFirst (T : Turns) (A : List Bool) (w : ℕ → ℤ) (J : ℕ) : Type 0 where
   pub inside : J < T .count
   pub member : has A J ≡ true
-  pub earliest : (I : ℕ) → I < T .count → has A I ≡ true → I ≢ J → (T .end J < T .end I) ⊎ ((T .end J ≡ T .end I) × (J < I))
+  pub earliest : (I : ℕ) → I < T .count → has A I ≡ true → I ≢ J → Precedes T (λ K. part (w K)) J I
 
 -- a call with the intervals A and the weights w returns S; it and the calls that it makes have split off these steps, in order: each time J and the weight of J
 pub data IS (T : Turns) : List Bool → (ℕ → ℤ) → List Bool → List Step → Type 0 where
@@ -43,10 +44,10 @@ pub data IS (T : Turns) : List Bool → (ℕ → ℤ) → List Bool → List Ste
   -- lines 2 and 3: any interval without weight may be the one removed
   line3 : {A S : List Bool} {w : ℕ → ℤ} {xs : List Step} (I : ℕ) → I < T .count → has A I ≡ true → above (w I) ≡ false → IS T (set A I false) w S xs → IS T A w S xs
   -- lines 4 to 9: J is added, if that is feasible: no two then conflict
-  line9 : {A S : List Bool} {w : ℕ → ℤ} {xs : List Step} (J amount : ℕ) → AllPositive T A w → EndsFirst T A J → w J ≡ pos amount → IS T A (w₂ T w J) S xs → Independent T (set S J true)
+  line9 : {A S : List Bool} {w : ℕ → ℤ} {xs : List Step} (J amount : ℕ) → AllPositive T A w → EndsFirst T A w J → w J ≡ pos amount → IS T A (w₂ T w J) S xs → Independent T (set S J true)
       → IS T A w (set S J true) (record { turn = J; amount = amount } ∷ xs)
   -- lines 10 and 11: it is not
-  line11 : {A S : List Bool} {w : ℕ → ℤ} {xs : List Step} (J amount : ℕ) → AllPositive T A w → EndsFirst T A J → w J ≡ pos amount → IS T A (w₂ T w J) S xs → (Independent T (set S J true) → ⊥)
+  line11 : {A S : List Bool} {w : ℕ → ℤ} {xs : List Step} (J amount : ℕ) → AllPositive T A w → EndsFirst T A w J → w J ≡ pos amount → IS T A (w₂ T w J) S xs → (Independent T (set S J true) → ⊥)
       → IS T A w S (record { turn = J; amount = amount } ∷ xs)
 
 -- the first call: all intervals, with their own weights

@@ -1,3 +1,3 @@
 pub mod Bounds
 pub mod Below
-pub mod Ends
+pub mod Keys

@@ -77,12 +77,17 @@ impl Run {
         for round in 0..25_000 {
             let turns = self.turn_count();
             let (shift, sheet) = self.sheet_of(round % shapes::SHAPES, turns);
-            let board = boards::right(&mut self.rng, &shift.turns).bytes();
+            let draft = boards::right(&mut self.rng, &shift.turns);
+            let board = draft.bytes();
             let passes = self.case(&sheet, &board) == 0;
             self.report.property("right boards that pass", passes);
             let other = passes && turns > 0 && board != planned(&sheet);
             self.report
                 .property("right boards not the planner's", other);
+            let by_number = boards::steps(&mut self.rng, &shift.turns, Order::ByNumber);
+            let other = other && draft.steps == by_number;
+            self.report
+                .property("right boards with equal ends by number", other);
             let full = boards::full(&mut self.rng, &shift.turns).bytes();
             let passes = self.case(&sheet, &full) == 0;
             self.report.property("full choices that pass", passes);
@@ -114,7 +119,7 @@ impl Run {
             self.report.differs(text);
         }
         for round in 0..640 {
-            let order = [Order::Planned, Order::Allowed, Order::Free][round % 3];
+            let order = [Order::Planned, Order::ByNumber, Order::Allowed, Order::Free][round % 4];
             let steps = boards::steps(&mut self.rng, &turns, order);
             let chosen = (0..4).map(|turn| round >> turn & 1 != 0).collect();
             let board = Draft::new(&turns, chosen, steps);

@@ -1,7 +1,8 @@
 //! Planning a board.
 
 use slopeboard_reference::gen::{self, Rng};
-use slopeboard_reference::naive::{self, sheet::accept};
+use slopeboard_reference::naive::planning::{earliest, pick, take, worths};
+use slopeboard_reference::naive::{self, sheet::accept, turns::Turn};
 
 use crate::bytes::{answer, Lent};
 use crate::foreign;
@@ -50,9 +51,34 @@ impl Run {
             note_properties(report, self.lent.written(answer.bytes as usize));
             let accepted = accept(sheet).unwrap_or_else(|_| unreachable!("the sheet was planned"));
             sheets::note_minutes_apart(report, &accepted.turns);
+            note_ties(report, &accepted.turns);
         }
         answer.refusal == 0
     }
+}
+
+/// Most turns for which the steps are gone through once more.
+const FEW_TURNS: usize = 40;
+
+/// Notes how a step was picked from several turns with the earliest end.
+fn note_ties(report: &mut Report, turns: &[Turn]) {
+    if turns.len() > FEW_TURNS {
+        return;
+    }
+    let (mut by_rest, mut by_number, mut by_change) = (false, false, false);
+    let mut left = worths(turns);
+    while let Some(j) = pick(turns, &left) {
+        for other in earliest(turns, &left) {
+            by_rest |= other < j;
+            by_number |= other > j && left[other] == left[j];
+            by_change |= turns[other].worth > turns[j].worth;
+        }
+        let amount = left[j];
+        take(turns, &mut left, j, amount);
+    }
+    report.property("a richer turn before a lower number", by_rest);
+    report.property("the lowest number of equally rich turns", by_number);
+    report.property("a turn of less worth of which more remains", by_change);
 }
 
 /// Notes which of the shapes that must occur this board has.

@@ -5,7 +5,7 @@ use slopeboard_reference::gen::{self, Rng};
 use slopeboard_reference::naive::check;
 use slopeboard_reference::shapes;
 
-use crate::planning::{close_shifts, named_sheets};
+use crate::planning::{close_shifts, named_sheets, tied_shifts};
 use crate::{planned, Corpus, EXAMPLE, EXAMPLE_BOARD};
 
 const ENTRY: u8 = 5;
@@ -16,6 +16,7 @@ pub fn add(corpus: &mut Corpus) {
     choice_cases(corpus);
     step_cases(corpus);
     close_cases(corpus);
+    tied_cases(corpus);
     sheet_cases(corpus);
     seeded_cases(corpus);
     large_cases(corpus);
@@ -127,6 +128,22 @@ fn close_cases(corpus: &mut Corpus) {
                 let steps = vec![(first, 70), (1 - first, amount)];
                 case(corpus, &sheet, &Draft::new(turns, chosen, steps).bytes());
             }
+        }
+    }
+}
+
+/// Steps with equal ends by what remains, by number and in any order: all of
+/// these boards pass.
+fn tied_cases(corpus: &mut Corpus) {
+    let mut rng = Rng::new(51);
+    for shift in tied_shifts() {
+        let turns = &shift.turns;
+        let sheet = gen::encode(&mut rng, &shift, 0).bytes;
+        for order in [Order::Planned, Order::ByNumber, Order::Allowed] {
+            let steps = boards::steps(&mut rng, turns, order);
+            let back = steps.iter().rev().map(|step| usize::from(step.0));
+            let chosen = boards::choose(turns, back.chain(0..turns.len()));
+            case(corpus, &sheet, &Draft::new(turns, chosen, steps).bytes());
         }
     }
 }

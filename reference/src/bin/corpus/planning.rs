@@ -21,6 +21,11 @@ pub fn add(corpus: &mut Corpus) {
         let sheet = gen::encode(&mut Rng::new(0), &shift, 0).bytes;
         case(corpus, &sheet, 24);
     }
+    for shift in tied_shifts() {
+        let sheet = gen::encode(&mut Rng::new(0), &shift, 0).bytes;
+        let turns = shift.turns.len();
+        case(corpus, &sheet, 15 + turns.div_ceil(8) + 4 * turns);
+    }
     for sheet in seeded_sheets(3, 60) {
         case_with_rooms(corpus, &sheet);
     }
@@ -89,6 +94,39 @@ pub fn close_shifts() -> Vec<Shift> {
                 });
             }
         }
+    }
+    shifts
+}
+
+/// Turns that end in the same minute: the one of which the most remains comes
+/// first, then the lowest number.
+pub fn tied_shifts() -> Vec<Shift> {
+    let mut lists = Vec::new();
+    // One slope, one groomer, and nothing in common.
+    for (slope, groomer) in [(1, 2), (2, 1), (2, 2)] {
+        for worth in [49, 50, 51] {
+            lists.push(vec![[1, 1, 0, 60, 50], [slope, groomer, 30, 30, worth]]);
+        }
+    }
+    // A first step that takes 60 from the turn of greater worth, by its slope
+    // or by its groomer: it is then the poorer one, the richer one or neither.
+    for (slope, groomer) in [(1, 3), (4, 1)] {
+        for worth in [50, 109, 110, 111] {
+            let first = [1, 1, 0, 30, 60];
+            let (changed, other) = ([slope, groomer, 20, 70, worth], [3, 2, 30, 60, 50]);
+            lists.push(vec![first, changed, other]);
+            lists.push(vec![other, changed, first]);
+        }
+    }
+    let shift = |turns| Shift {
+        groomers: 3,
+        slopes: 4,
+        turns,
+    };
+    let mut shifts: Vec<Shift> = lists.into_iter().map(shift).collect();
+    let mut rng = Rng::new(33);
+    for turns in 2..14 {
+        shifts.push(shapes::shift(&mut rng, shapes::EQUAL_ENDS, turns));
     }
     shifts
 }

@@ -99,7 +99,7 @@ fn seeded_cases(corpus: &mut Corpus) {
             case_with_tables(corpus, &sheet.bytes);
         }
     }
-    for kind in 0..100 {
+    for kind in 0..30 {
         let turns = rng.between(1, 25) as usize;
         let sheet = faulty(&mut rng, turns, kind % 5);
         case_with_tables(corpus, &sheet);
