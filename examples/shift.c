@@ -1,6 +1,6 @@
 /* Takes a small shift through the whole library: writes its sheet from a turn table, reads the sheet
  * back, plans it, opens and checks the board, and prints its steps, its choice, its sums and the
- * drivers' listing.
+ * drivers' listing; then how many groomers it takes to do all turns, and which does which.
  *
  * With the library in target/staticlib (rt staticlib slopeboard), at the top of the repository:
  *
@@ -78,5 +78,11 @@ int main(void) {
     slopeboard_list_answer listed = slopeboard_list(sheet, written.bytes, text, sizeof text);
     if (listed.refusal != 0) return refused("list", listed.refusal);
     fwrite(text, 1, listed.bytes, stdout);
+
+    uint16_t groomers[TURNS];
+    slopeboard_assign_answer assigned = slopeboard_assign(sheet, written.bytes, groomers, TURNS);
+    if (assigned.refusal != 0) return refused("assign", assigned.refusal);
+    printf("all turns take %u groomers\n", (unsigned)assigned.groomers);
+    for (unsigned turn = 0; turn < TURNS; turn++) printf("turn %u by groomer %u\n", turn, (unsigned)groomers[turn]);
     return 0;
 }

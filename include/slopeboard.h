@@ -1,6 +1,7 @@
-/* Slope board: reads and writes shift sheets, plans boards, opens and checks them, and writes the
- * drivers' listing. Link libslopeboard.a; all that it asks for beside is memcpy and memset. The archive is
- * for x86-64: its functions are called as the System V ABI says, their structs laid out as it says.
+/* Slope board: reads and writes shift sheets, plans boards, opens and checks them, writes the drivers'
+ * listing, and assigns groomers where all turns must be done. Link libslopeboard.a; all that it asks for
+ * beside is memcpy and memset. The archive is for x86-64: its functions are called as the System V ABI says,
+ * their structs laid out as it says.
  *
  * What holds for every function:
  *
@@ -9,7 +10,7 @@
  *   (and, for a lent buffer, writable) during the call.
  * - A lent buffer, which is one without 'const', overlaps no other slice of the same call. Two slices
  *   that are only read may overlap.
- * - A table of 16-bit numbers is aligned as uint16_t.
+ * - A slice of 16-bit numbers is aligned as uint16_t.
  * - No pointer is kept. There is no heap, no lock, no global state and no input or output, so
  *   calls in several threads do not disturb each other as long as their lent buffers differ.
  * - Any bytes are taken: no content of a slice leads to anything but an answer.
@@ -18,8 +19,8 @@
  *   the order under each function says which is given.
  * - On success, the places of a lent buffer past the last one written hold what they held before.
  * - All working space is on the caller's stack, and no function calls itself. In bytes, read off the compiled
- *   code: slopeboard_list 16,160, slopeboard_plan 12,304, slopeboard_check 9,784, slopeboard_read 4,136, each
- *   of the others fewer than 100. What memcpy and memset need comes on top.
+ *   code: slopeboard_list 16,160, slopeboard_plan 12,304, slopeboard_check 9,784, slopeboard_assign 8,936,
+ *   slopeboard_write 6,568, slopeboard_read 4,136, each of the others fewer than 100. What memcpy and memset need comes on top.
  *
  * In sheets and boards, a number of several bytes begins with its high byte. Turns are numbered from 0
  * in the order of the sheet, slopes and groomers from 1.
@@ -39,7 +40,7 @@ extern "C" {
 #endif
 
 /* The number of this interface. Each change that a caller can see raises it. */
-#define SLOPEBOARD_VERSION 5
+#define SLOPEBOARD_VERSION 6
 
 /* The refusals. */
 enum {
@@ -113,6 +114,11 @@ typedef struct {
     uint32_t worth;
 } slopeboard_check_answer;
 
+typedef struct {
+    uint8_t refusal;
+    uint16_t groomers; /* how many groomers do all the turns */
+} slopeboard_assign_answer;
+
 /* Reads a sheet into a turn table: five numbers a turn, which are slope, groomer, start, length and
  * worth. The answer has the counts of the sheet's header.
  *
@@ -174,6 +180,17 @@ slopeboard_check_answer slopeboard_check(const uint8_t *sheet, size_t sheet_len,
  * the bytes of this very listing. On a refusal nothing is written, not even a part of the listing.
  * SLOPEBOARD_MOST_TEXT_BYTES are enough for every sheet. */
 slopeboard_list_answer slopeboard_list(const uint8_t *sheet, size_t sheet_len, uint8_t *text, size_t text_len);
+
+/* Assigns groomers to all turns of a sheet, as if any groomer could do any turn: the groomers and slopes that
+ * the sheet names do not count, and the numbers, from 1, may pass 16. Turn by turn, the earliest start first
+ * and of equal starts the lowest turn number, writes at the turn's place the smallest groomer number that
+ * leaves ten minutes between this turn and every other that has this number. The answer has the number of
+ * groomers used, 0 for no turns. It is the greatest number of turns that hold one minute together when each is
+ * lengthened by ten minutes, and no assignment that leaves ten minutes between has fewer.
+ *
+ * Refusals: those of slopeboard_read up to 10, in their order; then 11 if places_len is below the sheet's
+ * turns. */
+slopeboard_assign_answer slopeboard_assign(const uint8_t *sheet, size_t sheet_len, uint16_t *places, size_t places_len);
 
 #ifdef __cplusplus
 }

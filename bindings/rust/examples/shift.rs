@@ -1,5 +1,6 @@
 //! Takes a small shift through the whole library and prints the board's
-//! steps, its choice, its sums and the drivers' listing.
+//! steps, its choice, its sums and the drivers' listing; then how many groomers
+//! it takes to do all turns, and which does which.
 
 use std::io::{self, Write};
 
@@ -49,5 +50,12 @@ fn main() -> Result<(), Box<dyn std::error::Error>> {
     let mut text = [0; slopeboard::MOST_TEXT_BYTES];
     let len = slopeboard::list(sheet, &mut text)?;
     io::stdout().write_all(&text[..len])?;
+
+    let mut groomers = [0; TURNS.len()];
+    let count = slopeboard::assign(sheet, &mut groomers)?;
+    println!("all turns take {count} groomers");
+    for (turn, groomer) in groomers.iter().enumerate() {
+        println!("turn {turn} by groomer {groomer}");
+    }
     Ok(())
 }

@@ -1,10 +1,10 @@
 //! Safe functions over the C interface of the slope board library.
 //!
 //! The library reads and writes shift sheets, plans boards, opens and checks
-//! them, and writes the drivers' listing. Every buffer is the caller's: on a
-//! refusal it holds what it held before, and on success so do its places past
-//! the last one written. The order in which refusals are looked for is in
-//! `include/slopeboard.h`.
+//! them, writes the drivers' listing, and assigns groomers where all turns must
+//! be done. Every buffer is the caller's: on a refusal it holds what it held
+//! before, and on success so do its places past the last one written. The order
+//! in which refusals are looked for is in `include/slopeboard.h`.
 //!
 //! To build, the environment variable `SLOPEBOARD_LIB_DIR` names the folder of
 //! `libslopeboard.a`, an archive for x86-64. Nothing here needs an operating
@@ -19,7 +19,7 @@ pub use refusal::Refusal;
 
 /// The number of this interface, as `SLOPEBOARD_VERSION` in the header: each
 /// change that a caller can see raises it.
-pub const VERSION: u32 = 5;
+pub const VERSION: u32 = 6;
 
 /// Numbers that a turn takes in a turn table: slope, groomer, start, length,
 /// worth.
@@ -131,6 +131,17 @@ pub fn check(sheet: &[u8], board: &[u8]) -> Result<Sums, Refusal> {
 pub fn list(sheet: &[u8], text: &mut [u8]) -> Result<usize, Refusal> {
     let (text, text_len) = (text.as_mut_ptr(), text.len());
     length(unsafe { raw::slopeboard_list(sheet.as_ptr(), sheet.len(), text, text_len) })
+}
+
+/// Assigns groomers to all turns of a sheet, whatever groomers and slopes it
+/// names, so that each groomer has ten minutes between its turns. Writes the
+/// groomer of each turn, from 1, at the turn's place, and gives how many
+/// groomers there are: no assignment has fewer. Asks for a place a turn.
+pub fn assign(sheet: &[u8], places: &mut [u16]) -> Result<u16, Refusal> {
+    let (places, places_len) = (places.as_mut_ptr(), places.len());
+    let answer = unsafe { raw::slopeboard_assign(sheet.as_ptr(), sheet.len(), places, places_len) };
+    refusal::none(answer.refusal)?;
+    Ok(answer.groomers)
 }
 
 fn length(answer: raw::BytesAnswer) -> Result<usize, Refusal> {

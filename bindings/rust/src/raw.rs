@@ -44,6 +44,14 @@ pub struct CheckAnswer {
     pub worth: u32,
 }
 
+/// What assigning groomers to all turns gives; 0 groomers on a refusal.
+#[repr(C)]
+#[derive(Clone, Copy, Debug, PartialEq, Eq)]
+pub struct AssignAnswer {
+    pub refusal: u8,
+    pub groomers: u16,
+}
+
 extern "C" {
     pub fn slopeboard_read(
         sheet: *const u8,
@@ -89,4 +97,11 @@ extern "C" {
         text: *mut u8,
         text_len: usize,
     ) -> BytesAnswer;
+
+    pub fn slopeboard_assign(
+        sheet: *const u8,
+        sheet_len: usize,
+        places: *mut u16,
+        places_len: usize,
+    ) -> AssignAnswer;
 }

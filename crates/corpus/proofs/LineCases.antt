@@ -17,10 +17,12 @@ use Rattle.writer.specs.Write.{countsOf, writeOf}
 use Rattle.board.specs.Open.{openOf, stepsPart}
 use Rattle.audit.specs.declared.judge.CheckAnswer.{CheckAnswer}
 use Rattle.audit.specs.Check.{checkOf}
+use Rattle.partition.specs.declared.PartitionAnswer.{PartitionAnswer}
+use Rattle.partition.specs.Partition.{Partition, partitioned, partitionOf}
 use Rattle.corpus.specs.declared.tools.Counts.{Counts}
 use Rattle.corpus.specs.declared.entries.Line.{Line}
 use Rattle.corpus.specs.declared.entries.ReadLine.{ReadLine}
-use Rattle.corpus.specs.Line.{numberOr, countsHeld, unpacked, heldBefore, mixed, sumFrom, sumOf, writtenLine, readLine}
+use Rattle.corpus.specs.Line.{numberOr, countsHeld, unpacked, heldBefore, mixed, sumFrom, sumOf, writtenLine, readLine, partitionLine}
 
 -- ---- a number that may not be there
 
@@ -140,6 +142,14 @@ module _ (s lent : List ℕ) {a : ReadAnswer} {t : List ℕ} (e : outcome a t �
   pub read-table : t ≡ readOf s lent .table
   read-table = ap (λ (o : Outcome). o .table) e
 
+module _ (s lent : List ℕ) {a : PartitionAnswer} {l : List ℕ} (e : partitioned a l ≡ partitionOf s lent) where
+  pub partition-line : {sum : ℕ} → sum ≡ sumOf l → _≡_ {A = Line} (record { refusal = a .refusal; value = a .groomers; last = sum }) (partitionLine (partitionOf s lent))
+  unfolding partitionLine
+  partition-line f = rw (f, ← e)
+
+  pub partition-places : l ≡ partitionOf s lent .places
+  partition-places = ap (λ (o : Partition). o .places) e
+
 pub open-line : (b : List ℕ) {r sum : ℕ} {steps : List ℕ} → r ≡ openOf b → steps ≡ stepsPart b → sum ≡ sumOf steps → _≡_ {A = Line} (record { refusal = r; value = length steps; last = sum }) (record { refusal = openOf b; value = length (stepsPart b); last = sumOf (stepsPart b) })
 open-line b e f g = rw (e, g, f)
 
@@ -158,4 +168,4 @@ module _ (counts table lent : List ℕ) {c : Counts} (f : c ≡ countsHeld count
 
 pub ruleset write-cases = (write-line, write-lent)
 
-pub ruleset line-cases = (held-counts, line-is, lent-is, read-line, read-table, open-line, check-line)
+pub ruleset line-cases = (held-counts, line-is, lent-is, read-line, read-table, partition-line, partition-places, open-line, check-line)

@@ -8,6 +8,7 @@ use Rattle.wire.specs.Number.{valueAt}
 use Rattle.lists.specs.Lists.{tab}
 use Rattle.refusal.specs.Written.{Written}
 use Rattle.sheet.specs.Read.{Outcome}
+use Rattle.partition.specs.Partition.{Partition}
 use Rattle.corpus.specs.declared.tools.Counts.{Counts}
 use Rattle.corpus.specs.declared.entries.Line.{Line}
 use Rattle.corpus.specs.declared.entries.ReadLine.{ReadLine}
@@ -54,3 +55,7 @@ writtenLine w = record { refusal = w .refusal; value = w .bytes; last = sumOf (w
 -- the reader's line: the refusal, the counts, the checksum of the lent table
 unfoldable pub readLine : Outcome → ReadLine
 readLine o = record { refusal = o .answer .refusal; groomers = o .answer .groomers; slopes = o .answer .slopes; turns = o .answer .turns; last = sumOf (o .table) }
+
+-- the line of the groomers for all turns: the refusal, how many are used, the checksum of the lent places
+unfoldable pub partitionLine : Partition → Line
+partitionLine o = record { refusal = o .answer .refusal; value = o .answer .groomers; last = sumOf (o .places) }

@@ -8,7 +8,8 @@ ghost use Rattle.board.specs.Chosen.{countOf, turnChosen};
 ghost use Rattle.audit.specs.Check.{checkOf};
 ghost use Rattle.planner.specs.Plan.{planOf};
 ghost use Rattle.listing.specs.List.{listOf};
-ghost use Rattle.corpus.specs.Line.{countsHeld, unpacked, sumOf, writtenLine, readLine};
+ghost use Rattle.partition.specs.Partition.{partitionOf};
+ghost use Rattle.corpus.specs.Line.{countsHeld, unpacked, sumOf, writtenLine, readLine, partitionLine};
 use super::tools;
 use board::CountAnswer;
 
@@ -131,5 +132,18 @@ pub fn list(sheet: &[u8], text: &mut [u8]) -> Line
         refusal: answer.refusal,
         value: answer.bytes as u64,
         last: tools::byte_sum(&*text),
+    }
+}
+
+// The groomers of all turns of a sheet, into the lent places.
+pub fn assign(sheet: &[u8], places: &mut [u16]) -> Line
+    ensures { λ r. ⌜ (r ≡ partitionLine (partitionOf (now (sheet .entry)) (now (places .entry))))
+        × (now (places .exit) ≡ partitionOf (now (sheet .entry)) (now (places .entry)) .places) ⌝ }
+{
+    let answer = partition::assign(sheet, &mut *places);
+    Line {
+        refusal: answer.refusal,
+        value: answer.groomers as u64,
+        last: tools::number_sum(&*places),
     }
 }

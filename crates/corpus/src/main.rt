@@ -20,7 +20,7 @@ const MOST_BYTES: usize = 8192;
 // How many bytes of input follow a case's head.
 fn input_size(entry: u8, first: u16, second: u16) -> usize {
     match entry {
-        1 | 3 | 4 | 6 | 7 | 8 => second as usize,
+        1 | 3 | 4 | 6 | 7 | 8 | 9 => second as usize,
         2 => 8 + 2 * (second as usize),
         5 => first as usize + second as usize,
         _ => 0,
@@ -31,17 +31,18 @@ fn input_size(entry: u8, first: u16, second: u16) -> usize {
 // board to be checked, or the numbers of the writer's table.
 fn front_size(entry: u8, first: u16, second: u16) -> usize {
     match entry {
-        1 | 3 | 4 | 6 | 7 | 8 => second as usize,
+        1 | 3 | 4 | 6 | 7 | 8 | 9 => second as usize,
         2 => 8,
         5 => first as usize,
         _ => 0,
     }
 }
 
-// How many places of the table of numbers are lent: the reader's, or those of the table to be written.
+// How many places of the table of numbers are lent: the reader's, those of the table to be written, or
+// those for the turns' groomers.
 fn numbers_lent(entry: u8, first: u16, second: u16) -> usize {
     match entry {
-        1 => first as usize,
+        1 | 9 => first as usize,
         2 => second as usize,
         _ => 0,
     }
@@ -116,6 +117,7 @@ fn run_entry(
         6 => print_line(b"list", entries::list(front, &mut *bytes)),
         7 => print_count(entries::count(front)),
         8 => print_chosen(entries::chosen(front, first)),
+        9 => print_line(b"assign", entries::assign(front, &mut *numbers)),
         _ => {
             return false;
         }

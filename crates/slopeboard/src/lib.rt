@@ -11,10 +11,12 @@ ghost use Rattle.planner.specs.Answer.{planned};
 ghost use Rattle.planner.specs.Plan.{planOf};
 ghost use Rattle.listing.specs.Answer.{listed};
 ghost use Rattle.listing.specs.List.{listOf};
+ghost use Rattle.partition.specs.Partition.{partitioned, partitionOf};
 ghost use Rattle.slopeboard.specs.Part.{stepsPartAt};
 use audit::CheckAnswer;
 use board::CountAnswer;
 use listing::ListAnswer;
+use partition::PartitionAnswer;
 use planner::PlanAnswer;
 use sheet::ReadAnswer;
 use writer::WriteAnswer;
@@ -105,4 +107,11 @@ pub extern "C" fn slopeboard_list(sheet: &[u8], text: &mut [u8]) -> ListAnswer
     ensures { λ r. ⌜ listed r (now (text .exit)) ≡ listOf (now (sheet .entry)) (now (text .entry)) ⌝ }
 {
     listing::list(sheet, &mut *text)
+}
+
+#[no_mangle]
+pub extern "C" fn slopeboard_assign(sheet: &[u8], places: &mut [u16]) -> PartitionAnswer
+    ensures { λ r. ⌜ partitioned r (now (places .exit)) ≡ partitionOf (now (sheet .entry)) (now (places .entry)) ⌝ }
+{
+    partition::assign(sheet, &mut *places)
 }

@@ -57,6 +57,13 @@ impl Job {
     fn steps(&self) -> usize {
         naive::steps(&self.board).len() / 4
     }
+
+    /// How many groomers it takes to do all turns.
+    fn groomers(&self) -> usize {
+        let mut places = vec![0; self.numbers.len() / 5];
+        let count = fast::assign(&self.sheet, &mut places);
+        count.expect("the sheet is accepted").into()
+    }
 }
 
 /// One entry, called in both versions. A call says whether it was accepted.
@@ -94,6 +101,13 @@ const WRITE: Entry = Entry {
     name: "write",
     library: |job| slopeboard::write(job.groomers, job.slopes, &job.table, &mut job.bytes).is_ok(),
     reference: |job| fast::write(job.groomers, job.slopes, &job.table, &mut job.bytes).is_ok(),
+};
+
+/// The entry whose time goes by the groomers that it takes.
+const ASSIGN: Entry = Entry {
+    name: "assign",
+    library: |job| slopeboard::assign(&job.sheet, &mut job.numbers).is_ok(),
+    reference: |job| fast::assign(&job.sheet, &mut job.numbers).is_ok(),
 };
 
 /// Best and median time of one call, in nanoseconds.
@@ -164,7 +178,7 @@ fn print_row(name: &str, label: &str, [library, reference]: [Times; 2], growth: 
     let micros = |time: f64| format!("{:.2}", time / 1000.0);
     let growth = growth.map_or(String::new(), |growth| format!("{growth:.2}"));
     println!(
-        "{name:6}{label:14}{:>10}{:>10}{:>12}{:>10}{:>8.2}{growth:>8}",
+        "{name:7}{label:14}{:>9}{:>10}{:>12}{:>10}{:>8.2}{growth:>8}",
         micros(library.best),
         micros(library.median),
         micros(reference.best),
@@ -190,6 +204,11 @@ const ORDERS: [(&str, Kind); 4] = [
     }),
 ];
 
+/// Sheets whose turns take few groomers or many.
+const CROWDS: [Kind; 3] = [shapes::usual, shapes::widest, |rng, turns| {
+    shapes::shift(rng, shapes::ALL_EQUAL, turns)
+}];
+
 /// Jobs for sheets of so many turns, drawn from the same kind of shift.
 fn jobs(rng: &mut Rng, kind: Kind, turns: usize) -> Vec<Job> {
     let job = |_| {
@@ -199,10 +218,18 @@ fn jobs(rng: &mut Rng, kind: Kind, turns: usize) -> Vec<Job> {
     (0..SHEETS).map(job).collect()
 }
 
+/// The mean of a number, over all jobs.
+fn mean(jobs: &[Job], number: fn(&Job) -> usize) -> usize {
+    jobs.iter().map(number).sum::<usize>() / jobs.len()
+}
+
 /// The numbers of turns and steps; of the steps the mean.
 fn size(jobs: &[Job]) -> String {
-    let steps = jobs.iter().map(Job::steps).sum::<usize>() / jobs.len();
-    format!("n={} m={steps}", jobs[0].numbers.len() / 5)
+    format!(
+        "n={} m={}",
+        jobs[0].numbers.len() / 5,
+        mean(jobs, Job::steps)
+    )
 }
 
 fn main() {
@@ -213,10 +240,11 @@ fn main() {
     assert_eq!(most_steps[0].steps(), 400);
     let mut widest = jobs(&mut rng, shapes::widest, 400);
 
-    println!("times of one call in microseconds; m is the number of steps, n of turns;");
+    println!("times of one call in microseconds; n is the number of turns, m of steps,");
+    println!("g of groomers that do all turns;");
     println!("w: 16 groomers, 120 slopes, lengths 30 to 90, worths 1 to 60,000");
     println!("                     library             reference");
-    println!("entry sheet               best    median        best    median   ratio  growth");
+    println!("entry  sheet              best    median        best    median   ratio  growth");
     for entry in &ENTRIES {
         let mut before: Option<f64> = None;
         for jobs in &mut usual {
@@ -236,6 +264,22 @@ fn main() {
             let times = measure_all(&WRITE, &mut jobs(&mut rng, kind, turns));
             let growth = before.map(|before| times[0].median / before);
             print_row(WRITE.name, &format!("n={turns} {order}"), times, growth);
+            before = Some(times[0].median);
+        }
+    }
+    for kind in CROWDS {
+        let mut before: Option<f64> = None;
+        for turns in [200, 400] {
+            let mut jobs = jobs(&mut rng, kind, turns);
+            let groomers = mean(&jobs, Job::groomers);
+            let times = measure_all(&ASSIGN, &mut jobs);
+            let growth = before.map(|before| times[0].median / before);
+            print_row(
+                ASSIGN.name,
+                &format!("n={turns} g={groomers}"),
+                times,
+                growth,
+            );
             before = Some(times[0].median);
         }
     }

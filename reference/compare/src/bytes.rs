@@ -1,62 +1,97 @@
-//! Comparing two calls that write into lent bytes.
+//! Comparing two calls that write into lent places: bytes, or 16-bit numbers.
+
+use std::fmt::Debug;
 
 use slopeboard_reference::gen::Rng;
 
-use crate::foreign::BytesAnswer;
+use crate::foreign::{AssignAnswer, BytesAnswer};
 use crate::report::{show, Report};
 
-/// Bytes before and after the lent ones that must stay as they are.
+/// Places before and after the lent ones that must stay as they are.
 const GUARD: usize = 32;
 
-/// Two equal stretches of noise, one for each version, with the lent bytes in
-/// the middle of each.
-#[derive(Default)]
-pub struct Lent {
-    ours: Vec<u8>,
-    theirs: Vec<u8>,
-    before: Vec<u8>,
+/// What a place holds: a byte or a 16-bit number.
+pub trait Place: Copy + PartialEq {
+    /// Adds as many places as the noise fills.
+    fn add(places: &mut Vec<Self>, noise: u64);
 }
 
-/// The call of one version: its input is known to it.
-pub type Call<'a> = &'a dyn Fn(&mut [u8]) -> BytesAnswer;
+impl Place for u8 {
+    fn add(places: &mut Vec<u8>, noise: u64) {
+        places.extend(noise.to_be_bytes());
+    }
+}
 
-impl Lent {
-    /// Makes both calls with so many lent bytes. The answers and everything
-    /// in and around the lent bytes must agree; on a refusal, all of it must
-    /// be as before. Gives the judge's answer.
-    pub fn compare(
+impl Place for u16 {
+    fn add(places: &mut Vec<u16>, noise: u64) {
+        places.extend([0, 16, 32, 48].map(|by| (noise >> by) as u16));
+    }
+}
+
+/// What a call gives beside the places that it writes.
+pub trait Answer: PartialEq + Debug {
+    fn refusal(&self) -> u8;
+}
+
+impl Answer for BytesAnswer {
+    fn refusal(&self) -> u8 {
+        self.refusal
+    }
+}
+
+impl Answer for AssignAnswer {
+    fn refusal(&self) -> u8 {
+        self.refusal
+    }
+}
+
+/// Two equal stretches of noise, one for each version, with the lent places in
+/// the middle of each.
+#[derive(Default)]
+pub struct Lent<P> {
+    ours: Vec<P>,
+    theirs: Vec<P>,
+    before: Vec<P>,
+}
+
+impl<P: Place> Lent<P> {
+    /// Makes both calls, the judge's and the library's, with so many lent
+    /// places; the input is known to them. The answers and everything in and
+    /// around the lent places must agree; on a refusal, all of it must be as
+    /// before. Gives the judge's answer.
+    pub fn compare<A: Answer>(
         &mut self,
         rng: &mut Rng,
         report: &mut Report,
-        calls: [Call; 2],
+        calls: (impl Fn(&mut [P]) -> A, impl Fn(&mut [P]) -> A),
         room: usize,
         input: &[u8],
-    ) -> BytesAnswer {
+    ) -> A {
         self.fill(rng, room);
         let lent = GUARD..GUARD + room;
-        let ours = calls[0](&mut self.ours[lent.clone()]);
-        let theirs = calls[1](&mut self.theirs[lent]);
-        report.count(ours.refusal);
+        let ours = calls.0(&mut self.ours[lent.clone()]);
+        let theirs = calls.1(&mut self.theirs[lent]);
+        report.count(ours.refusal());
         if ours != theirs {
             report.differs(|| format!("{ours:?} but {theirs:?}: {}", show(input, room)));
         } else if let Some(place) = first_difference(&self.ours, &self.theirs) {
             let place = place as isize - GUARD as isize;
-            report.differs(|| format!("at byte {place}: {}", show(input, room)));
-        } else if ours.refusal != 0 && self.theirs != self.before {
+            report.differs(|| format!("at place {place}: {}", show(input, room)));
+        } else if ours.refusal() != 0 && self.theirs != self.before {
             report.differs(|| format!("a refusal wrote: {}", show(input, room)));
         }
         ours
     }
 
-    /// What the judge wrote at the front of its lent bytes.
-    pub fn written(&self, bytes: usize) -> &[u8] {
-        &self.ours[GUARD..GUARD + bytes]
+    /// What the judge wrote at the front of its lent places.
+    pub fn written(&self, places: usize) -> &[P] {
+        &self.ours[GUARD..GUARD + places]
     }
 
     fn fill(&mut self, rng: &mut Rng, room: usize) {
         self.before.clear();
         while self.before.len() < room + 2 * GUARD {
-            self.before.extend(rng.draw().to_be_bytes());
+            P::add(&mut self.before, rng.draw());
         }
         self.before.truncate(room + 2 * GUARD);
         self.ours.clone_from(&self.before);
@@ -64,7 +99,7 @@ impl Lent {
     }
 }
 
-/// The judge's result in the form that the library gives.
+/// The judge's number of bytes in the form that the library gives.
 pub fn answer(result: Result<usize, u8>) -> BytesAnswer {
     match result {
         Ok(len) => BytesAnswer {
@@ -75,6 +110,6 @@ pub fn answer(result: Result<usize, u8>) -> BytesAnswer {
     }
 }
 
-fn first_difference(ours: &[u8], theirs: &[u8]) -> Option<usize> {
+fn first_difference<P: Place>(ours: &[P], theirs: &[P]) -> Option<usize> {
     ours.iter().zip(theirs).position(|(a, b)| a != b)
 }

@@ -2,7 +2,7 @@
 //! `bindings/rust`.
 
 use slopeboard::raw;
-pub use slopeboard::raw::{BytesAnswer, CheckAnswer, CountAnswer, Part, ReadAnswer};
+pub use slopeboard::raw::{AssignAnswer, BytesAnswer, CheckAnswer, CountAnswer, Part, ReadAnswer};
 
 /// A slice as the library takes it. An empty one may come with any pointer,
 /// so it comes with the worst.
@@ -77,4 +77,10 @@ pub fn check(sheet: &[u8], board: &[u8]) -> CheckAnswer {
 pub fn list(sheet: &[u8], out: &mut [u8]) -> BytesAnswer {
     let ((sheet, sheet_len), (out, out_len)) = (parts(sheet), parts_mut(out));
     unsafe { raw::slopeboard_list(sheet, sheet_len, out, out_len) }
+}
+
+/// Assigns groomers to all turns of a sheet.
+pub fn assign(sheet: &[u8], places: &mut [u16]) -> AssignAnswer {
+    let ((sheet, sheet_len), (places, places_len)) = (parts(sheet), parts_mut(places));
+    unsafe { raw::slopeboard_assign(sheet, sheet_len, places, places_len) }
 }

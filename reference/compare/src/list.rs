@@ -58,7 +58,7 @@ fn longest(rng: &mut Rng) -> Shift {
 
 struct Run {
     report: Report,
-    lent: Lent,
+    lent: Lent<u8>,
     placed: Placed,
 }
 
@@ -81,7 +81,7 @@ impl Run {
         let sheet = self.placed.input();
         let ours = |out: &mut [u8]| answer(naive::listing(sheet, out));
         let theirs = |out: &mut [u8]| foreign::list(sheet, out);
-        let (report, calls) = (&mut self.report, [&ours as _, &theirs as _]);
+        let (report, calls) = (&mut self.report, (ours, theirs));
         let answer = self.lent.compare(rng, report, calls, room, sheet);
         let len = answer.bytes as usize;
         if answer.refusal == 0 {

@@ -11,6 +11,7 @@ mod choice;
 mod foreign;
 mod list;
 mod open;
+mod partition;
 mod placed;
 mod plan;
 mod read;
@@ -30,6 +31,7 @@ fn main() -> ExitCode {
         check::run,
         bound::run,
         list::run,
+        partition::run,
     ];
     let mut good = true;
     for run in entries {

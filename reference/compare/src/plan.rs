@@ -24,7 +24,7 @@ pub fn run() -> bool {
 
 struct Run {
     report: Report,
-    lent: Lent,
+    lent: Lent<u8>,
     placed: Placed,
 }
 
@@ -45,7 +45,7 @@ impl Run {
         let sheet = self.placed.input();
         let ours = |out: &mut [u8]| answer(naive::plan(sheet, out));
         let theirs = |out: &mut [u8]| foreign::plan(sheet, out);
-        let (report, calls) = (&mut self.report, [&ours as _, &theirs as _]);
+        let (report, calls) = (&mut self.report, (ours, theirs));
         let answer = self.lent.compare(rng, report, calls, room, sheet);
         if answer.refusal == 0 {
             note_properties(report, self.lent.written(answer.bytes as usize));

@@ -62,7 +62,7 @@ pub fn run() -> bool {
 struct Run {
     rng: Rng,
     report: Report,
-    lent: Lent,
+    lent: Lent<u8>,
     /// The input as bytes, for messages and for the table's address.
     show: Vec<u8>,
     table: Vec<u16>,
@@ -252,7 +252,7 @@ impl Run {
         let ours = |out: &mut [u8]| answer(naive::write(groomers, slopes, table, out));
         let theirs = |out: &mut [u8]| foreign::write(groomers, slopes, table, out);
         let (rng, report) = (&mut self.rng, &mut self.report);
-        let calls = [&ours as _, &theirs as _];
+        let calls = (ours, theirs);
         let answer = self.lent.compare(rng, report, calls, room, &self.show);
         if answer.refusal == 0 {
             let turns = table.len() / 5;

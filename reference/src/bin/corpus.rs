@@ -10,7 +10,7 @@
 //! repository, with the entries that the crate runs:
 //!
 //! ```text
-//! cargo run --release --manifest-path reference/Cargo.toml --bin corpus -- crates/corpus read write plan open check list count chosen
+//! cargo run --release --manifest-path reference/Cargo.toml --bin corpus -- crates/corpus read write plan open check list count chosen assign
 //! ```
 //!
 //! A case is five bytes and an input. Byte 0 is the entry's number, bytes 1
@@ -27,6 +27,7 @@
 //! | 6 list | bytes lent | bytes of the sheet | the sheet |
 //! | 7 count | 0 | bytes of the board | the board |
 //! | 8 chosen | a turn's number | bytes of the board | the board |
+//! | 9 assign | numbers lent | bytes of the sheet | the sheet |
 //!
 //! Before the call each lent number is A5A5 and each lent byte A5. The line
 //! has the entry's name, the refusal, the values returned (0 on a refusal) and
@@ -50,6 +51,8 @@ mod choice;
 mod list;
 #[path = "corpus/open.rs"]
 mod open;
+#[path = "corpus/partition.rs"]
+mod partition;
 #[path = "corpus/planning.rs"]
 mod planning;
 #[path = "corpus/read.rs"]
@@ -76,10 +79,13 @@ const EXAMPLE_BOARD: [u8; 28] = [
 /// What every lent byte holds before a call.
 const FILL: u8 = 0xA5;
 
+/// What every lent number holds before a call.
+const NUMBER_FILL: u16 = 0xA5A5;
+
 /// An entry's name and what adds its cases.
 type Entry = (&'static str, fn(&mut Corpus));
 
-const ENTRIES: [Entry; 8] = [
+const ENTRIES: [Entry; 9] = [
     ("read", read::add),
     ("write", write::add),
     ("plan", planning::add),
@@ -88,6 +94,7 @@ const ENTRIES: [Entry; 8] = [
     ("list", list::add),
     ("count", choice::add_counts),
     ("chosen", choice::add_turns),
+    ("assign", partition::add),
 ];
 
 /// The two files as they grow.
@@ -127,9 +134,16 @@ impl Corpus {
 
 /// Sums up bytes, so that a change of any one shows.
 pub fn byte_sum(bytes: &[u8]) -> u32 {
-    bytes
-        .iter()
-        .fold(1, |sum, &value| (sum * 31 + u32::from(value)) % 65_521)
+    sum(bytes.iter().map(|&byte| byte.into()))
+}
+
+/// The same for 16-bit numbers.
+pub fn number_sum(numbers: &[u16]) -> u32 {
+    sum(numbers.iter().map(|&number| number.into()))
+}
+
+fn sum(values: impl Iterator<Item = u32>) -> u32 {
+    values.fold(1, |sum, value| (sum * 31 + value) % 65_521)
 }
 
 /// The judge's board of an accepted sheet.

@@ -1,9 +1,11 @@
-//! The baseline of the bench: reading, writing, planning, checking and listing,
-//! made to be fast. It judges nothing; the tests hold it to [`crate::naive`].
+//! The baseline of the bench: reading, writing, planning, checking, listing and
+//! assigning, made to be fast. It judges nothing; the tests hold it to
+//! [`crate::naive`].
 
 mod board;
 mod check;
 mod listing;
+mod partition;
 mod plan;
 mod refusal;
 mod sheet;
@@ -12,6 +14,7 @@ mod write;
 
 pub use check::check;
 pub use listing::listing;
+pub use partition::assign;
 pub use plan::plan;
 pub use sheet::{read, Header};
 pub use write::write;

@@ -8,6 +8,7 @@
 pub mod board;
 mod check;
 mod listing;
+pub mod partition;
 pub mod planning;
 mod sets;
 pub mod sheet;
@@ -16,6 +17,7 @@ pub mod turns;
 pub use board::{count, is_chosen, open, steps};
 pub use check::check;
 pub use listing::{listing, refused_line};
+pub use partition::assign;
 pub use planning::plan;
 pub use sets::best_worth;
 pub use sheet::{read, write, Counts};

@@ -43,6 +43,14 @@ pub fn check(sheet: &[u8], board: &[u8]) -> Result<(u32, u32), u8> {
     answer
 }
 
+pub fn assign(sheet: &[u8], places: &mut [u16]) -> Result<u16, u8> {
+    let mut other = places.to_vec();
+    let answer = naive::assign(sheet, places);
+    assert_eq!(fast::assign(sheet, &mut other), answer, "{sheet:?}");
+    assert_eq!(other, places, "{sheet:?}");
+    answer
+}
+
 /// A function from a sheet to bytes that are lent.
 type Writes = fn(&[u8], &mut [u8]) -> Result<usize, u8>;
 

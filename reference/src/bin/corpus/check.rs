@@ -162,7 +162,7 @@ fn sheet_cases(corpus: &mut Corpus) {
 
 fn seeded_cases(corpus: &mut Corpus) {
     let mut rng = Rng::new(5);
-    for round in 0..100 {
+    for round in 0..80 {
         let turns = rng.between(1, if round % 10 == 9 { 40 } else { 12 }) as usize;
         let shift = shapes::shift(&mut rng, round % shapes::SHAPES, turns);
         let sheet = gen::encode(&mut rng, &shift, 10).bytes;

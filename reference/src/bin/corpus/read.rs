@@ -3,14 +3,11 @@
 use slopeboard_reference::gen::{self, Rng};
 use slopeboard_reference::naive::read;
 
-use crate::{Corpus, EXAMPLE};
+use crate::{number_sum, Corpus, EXAMPLE, NUMBER_FILL};
 
 const ENTRY: u8 = 1;
 const MOST_PLACES: usize = 2004;
 const LONGEST_SHEET: usize = 4000;
-
-/// What every place holds before the call.
-const FILL: u16 = 0xA5A5;
 
 /// Where the last record of the example has its map.
 const EXAMPLE_LAST_MAP: usize = 31;
@@ -22,21 +19,14 @@ pub fn add(corpus: &mut Corpus) {
     seeded_cases(corpus);
 }
 
-/// Sums up the whole table, so that a write to any place shows.
-fn checksum(table: &[u16]) -> u32 {
-    table
-        .iter()
-        .fold(1, |sum, &value| (sum * 31 + u32::from(value)) % 65_521)
-}
-
 fn case(corpus: &mut Corpus, sheet: &[u8], places: usize) {
     assert!(places <= MOST_PLACES && sheet.len() <= LONGEST_SHEET);
-    let mut table = vec![FILL; places];
+    let mut table = vec![NUMBER_FILL; places];
     let (refusal, [groomers, slopes, turns]) = match read(sheet, &mut table) {
         Ok(counts) => (0, [counts.groomers, counts.slopes, counts.turns]),
         Err(number) => (number, [0; 3]),
     };
-    let sum = checksum(&table);
+    let sum = number_sum(&table);
     let line = format!("read {refusal} {groomers} {slopes} {turns} {sum}");
     corpus.push(ENTRY, places, sheet, &line);
 }
@@ -92,7 +82,7 @@ fn sweeps(corpus: &mut Corpus) {
 
 fn seeded_cases(corpus: &mut Corpus) {
     let mut rng = Rng::new(1);
-    for (sheets, low, high) in [(50, 1, 20), (16, 20, 90), (2, 100, 399), (2, 400, 400)] {
+    for (sheets, low, high) in [(50, 1, 20), (8, 20, 90), (2, 100, 399), (2, 400, 400)] {
         for _ in 0..sheets {
             let turns = rng.between(low, high) as usize;
             let sheet = gen::typical(&mut rng, turns);
