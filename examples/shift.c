@@ -16,20 +16,20 @@
 #define TURNS 4
 #define NUMBERS (SLOPEBOARD_NUMBERS_PER_TURN * TURNS)
 
-/* Slope, groomer, start, length, worth: as they were typed, in any order. */
+/* Slope, groomer, start, length, worth, driver (0 for none): as they were typed, in any order. */
 static const uint16_t typed[NUMBERS] = {
-    1, 1, 0,   60,  100,
-    2, 1, 30,  60,  150,
-    1, 2, 0,   120, 80,
-    3, 2, 120, 60,  90,
+    1, 1, 0,   60,  100, 0,
+    2, 1, 30,  60,  150, 0,
+    1, 2, 0,   120, 80,  0,
+    3, 2, 120, 60,  90,  0,
 };
 
 /* The same turns as the sheet has them, where they also get their numbers. */
 static const uint16_t turns[NUMBERS] = {
-    1, 1, 0,   60,  100, /* turn 0 */
-    1, 2, 0,   120, 80,  /* turn 1 */
-    2, 1, 30,  60,  150, /* turn 2 */
-    3, 2, 120, 60,  90,  /* turn 3 */
+    1, 1, 0,   60,  100, 0, /* turn 0 */
+    1, 2, 0,   120, 80,  0, /* turn 1 */
+    2, 1, 30,  60,  150, 0, /* turn 2 */
+    3, 2, 120, 60,  90,  0, /* turn 3 */
 };
 
 /* Says on standard error where things went wrong; gives the program's exit status. */

@@ -19,14 +19,15 @@
  *   the order under each function says which is given.
  * - On success, the places of a lent buffer past the last one written hold what they held before.
  * - All working space is on the caller's stack, and no function calls itself. In bytes, read off the compiled
- *   code: slopeboard_list 16,160, slopeboard_plan 12,304, slopeboard_check 9,784, slopeboard_assign 8,936,
- *   slopeboard_write 6,568, slopeboard_read 4,136, each of the others fewer than 100. What memcpy and memset need comes on top.
+ *   code: slopeboard_list 18,592, slopeboard_plan 14,736, slopeboard_check 11,400, slopeboard_assign 10,536,
+ *   slopeboard_write 6,616, slopeboard_read 4,936, each of the others fewer than 100. What memcpy and memset need comes on top.
  *
  * In sheets and boards, a number of several bytes begins with its high byte. Turns are numbered from 0
  * in the order of the sheet, slopes and groomers from 1.
  *
  * A turn ends at its start plus its length. Two different turns exclude each other if they have the same
- * slope, or if they have the same groomer and neither starts ten minutes or more after the end of the other.
+ * slope, or if they have the same groomer or the same driver and neither starts ten minutes or more after the
+ * end of the other. Driver 0 is none, and never the same.
  */
 #ifndef SLOPEBOARD_H
 #define SLOPEBOARD_H
@@ -40,7 +41,7 @@ extern "C" {
 #endif
 
 /* The number of this interface. Each change that a caller can see raises it. */
-#define SLOPEBOARD_VERSION 6
+#define SLOPEBOARD_VERSION 7
 
 /* The refusals. */
 enum {
@@ -48,7 +49,7 @@ enum {
     SLOPEBOARD_BAD_MAGIC = 2,         /* the sheet does not open with GRM */
     SLOPEBOARD_BAD_COUNTS = 3,        /* groomers outside 1 to 16, or slopes outside 1 to 120 */
     SLOPEBOARD_TOO_MANY_TURNS = 4,    /* more than 400 turns */
-    SLOPEBOARD_BAD_MAP = 5,           /* a map above 1F, or a first map that is not 1F */
+    SLOPEBOARD_BAD_MAP = 5,           /* a map above 3F, or a first map that is neither 1F nor 3F */
     SLOPEBOARD_BAD_SLOPE = 6,         /* a turn's slope is 0 or above the count */
     SLOPEBOARD_BAD_GROOMER = 7,       /* a turn's groomer is 0 or above the count */
     SLOPEBOARD_BAD_TIME = 8,          /* a turn has length 0 or ends after minute 960 */
@@ -61,17 +62,19 @@ enum {
     SLOPEBOARD_WRONG_STEP = 15,       /* a step is not right at its place */
     SLOPEBOARD_TURN_LEFT_OPEN = 16,   /* the steps leave a turn open */
     SLOPEBOARD_WRONG_SUMS = 17,       /* tally or worth is not its sum, or the worth is below the tally */
-    SLOPEBOARD_PARTIAL_TURN = 18      /* a turn table's length is no multiple of five */
+    SLOPEBOARD_PARTIAL_TURN = 18,     /* a turn table's length is no multiple of six */
+    SLOPEBOARD_BAD_DRIVER = 19        /* a turn's driver is above 40 */
 };
 
 /* The limits, and what buffers can need at most. */
 #define SLOPEBOARD_MOST_GROOMERS 16
 #define SLOPEBOARD_MOST_SLOPES 120
 #define SLOPEBOARD_MOST_TURNS 400
-#define SLOPEBOARD_NUMBERS_PER_TURN 5
+#define SLOPEBOARD_MOST_DRIVER 40
+#define SLOPEBOARD_NUMBERS_PER_TURN 6
 #define SLOPEBOARD_MOST_NUMBERS (SLOPEBOARD_NUMBERS_PER_TURN * SLOPEBOARD_MOST_TURNS)
-/* A header of 7 bytes and records of at most 9. */
-#define SLOPEBOARD_MOST_SHEET_BYTES (7 + 9 * SLOPEBOARD_MOST_TURNS)
+/* A header of 7 bytes and records of at most 10. */
+#define SLOPEBOARD_MOST_SHEET_BYTES (7 + 10 * SLOPEBOARD_MOST_TURNS)
 /* What slopeboard_plan asks for, for a sheet of so many turns. */
 #define SLOPEBOARD_BOARD_BYTES(turns) (15 + ((turns) + 7) / 8 + 4 * (turns))
 #define SLOPEBOARD_MOST_BOARD_BYTES SLOPEBOARD_BOARD_BYTES(SLOPEBOARD_MOST_TURNS)
@@ -119,21 +122,21 @@ typedef struct {
     uint16_t groomers; /* how many groomers do all the turns */
 } slopeboard_assign_answer;
 
-/* Reads a sheet into a turn table: five numbers a turn, which are slope, groomer, start, length and
- * worth. The answer has the counts of the sheet's header.
+/* Reads a sheet into a turn table: six numbers a turn, which are slope, groomer, start, length, worth and
+ * driver, the last 0 where the turn names none. The answer has the counts of the sheet's header.
  *
  * Refusals, in this order: 1 for fewer than 7 bytes, 2, 3, 4; then, record by record, 1 for a missing
- * map, 5, 1 for missing fields, 6, 7, 8, 9; then 10; then 11 if table_len is below five times the
+ * map, 5, 1 for missing fields, 6, 7, 8, 9, 19; then 10; then 11 if table_len is below six times the
  * turns. */
 slopeboard_read_answer slopeboard_read(const uint8_t *sheet, size_t sheet_len, uint16_t *table, size_t table_len);
 
 /* Writes the sheet that has these counts and the turns of the table. In the sheet the turns stand by
- * slope, then by groomer, start, length and worth, each rising, whatever order the table has; each comes as
- * often as in the table. It is the shortest sheet with the turns in that order. Turns are numbered as the
+ * slope, then by groomer, start, length, worth and driver, each rising, whatever order the table has; each
+ * comes as often as in the table. It is the shortest sheet with the turns in that order. Turns are numbered as the
  * sheet has them, so reading it back tells which turn a number means.
  *
- * Refusals, in this order: 18, 3, 4; then, turn by turn as the table has them, 6, 7, 8, 9; then 11 if the
- * sheet is longer than bytes_len. */
+ * Refusals, in this order: 18, 3, 4; then, turn by turn as the table has them, 6, 7, 8, 9, 19; then 11 if
+ * the sheet is longer than bytes_len. */
 slopeboard_write_answer slopeboard_write(uint32_t groomers, uint32_t slopes, const uint16_t *table, size_t table_len,
                                          uint8_t *bytes, size_t bytes_len);
 
@@ -141,7 +144,7 @@ slopeboard_write_answer slopeboard_write(uint32_t groomers, uint32_t slopes, con
  * Each step is for the open turn that ends first; of several that end in the same minute, for the one of
  * which the most remains, then for the lowest number. (slopeboard_check takes such turns in any order.)
  *
- * Refusals: those of slopeboard_read up to 10, in their order; then 11 if board_len is below
+ * Refusals: those of slopeboard_read but 11, in their order; then 11 if board_len is below
  * SLOPEBOARD_BOARD_BYTES of the sheet's turns. */
 slopeboard_plan_answer slopeboard_plan(const uint8_t *sheet, size_t sheet_len, uint8_t *board, size_t board_len);
 
@@ -164,9 +167,11 @@ slopeboard_count_answer slopeboard_count(const uint8_t *board, size_t board_len)
 bool slopeboard_is_chosen(const uint8_t *board, size_t board_len, size_t turn);
 
 /* Checks a board, whoever made it, against a sheet. The answer has the board's tally and worth. If
- * nothing is refused, no set of turns in which no two exclude each other is worth more than twice that tally.
+ * nothing is refused, no set of turns in which no two exclude each other is worth more than twice that tally;
+ * where a turn names a driver and a slope has two turns, more than three times that tally. If no slope has two
+ * turns and no turn names a driver, no such set is worth more than the board.
  *
- * Refusals: those of slopeboard_read up to 10, in their order; then 12 if the board does not open or is
+ * Refusals: those of slopeboard_read but 11, in their order; then 12 if the board does not open or is
  * not for as many turns as the sheet has; then 13, 14, 15, 16, 17. */
 slopeboard_check_answer slopeboard_check(const uint8_t *sheet, size_t sheet_len, const uint8_t *board, size_t board_len);
 
@@ -176,19 +181,19 @@ slopeboard_check_answer slopeboard_check(const uint8_t *sheet, size_t sheet_len,
  * its chosen turns, the earliest start first, with start and end, slope and worth: "30-90 slope 2 worth
  * 150". The last line has the board's worth and tally: "worth 240 tally 240".
  *
- * Refusals: those of slopeboard_read up to 10, in their order; then, last of all, 11 if text_len is below
+ * Refusals: those of slopeboard_read but 11, in their order; then, last of all, 11 if text_len is below
  * the bytes of this very listing. On a refusal nothing is written, not even a part of the listing.
  * SLOPEBOARD_MOST_TEXT_BYTES are enough for every sheet. */
 slopeboard_list_answer slopeboard_list(const uint8_t *sheet, size_t sheet_len, uint8_t *text, size_t text_len);
 
-/* Assigns groomers to all turns of a sheet, as if any groomer could do any turn: the groomers and slopes that
- * the sheet names do not count, and the numbers, from 1, may pass 16. Turn by turn, the earliest start first
+/* Assigns groomers to all turns of a sheet, as if any groomer could do any turn: the groomers, drivers and
+ * slopes that the sheet names do not count, and the numbers, from 1, may pass 16. Turn by turn, the earliest start first
  * and of equal starts the lowest turn number, writes at the turn's place the smallest groomer number that
  * leaves ten minutes between this turn and every other that has this number. The answer has the number of
  * groomers used, 0 for no turns. It is the greatest number of turns that hold one minute together when each is
  * lengthened by ten minutes, and no assignment that leaves ten minutes between has fewer.
  *
- * Refusals: those of slopeboard_read up to 10, in their order; then 11 if places_len is below the sheet's
+ * Refusals: those of slopeboard_read but 11, in their order; then 11 if places_len is below the sheet's
  * turns. */
 slopeboard_assign_answer slopeboard_assign(const uint8_t *sheet, size_t sheet_len, uint16_t *places, size_t places_len);
 

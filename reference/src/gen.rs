@@ -1,7 +1,13 @@
 //! Seeded inputs for tests, corpus and comparison. The same seed always
 //! gives the same bytes.
 
-use crate::limits::{DRIVE_OVER, FIELDS, LAST_END, MAX_GROOMERS, MAX_SLOPES, MAX_TURNS, MAX_WORTH};
+use crate::limits::{
+    DRIVE_OVER, FIELDS, LAST_END, MAX_DRIVER, MAX_GROOMERS, MAX_SLOPES, MAX_TURNS, MAX_WORTH,
+};
+
+/// A turn as a turn table has it: slope, groomer, start, length, worth,
+/// driver.
+pub type Row = [u16; FIELDS];
 
 /// Bytes before the first record.
 pub const HEADER_LEN: usize = 7;
@@ -64,7 +70,7 @@ impl Rng {
 pub struct Shift {
     pub groomers: u8,
     pub slopes: u8,
-    pub turns: Vec<[u16; FIELDS]>,
+    pub turns: Vec<Row>,
 }
 
 /// A sheet's bytes and the place of each record's map in them.
@@ -74,7 +80,51 @@ pub struct Encoded {
     pub maps: Vec<usize>,
 }
 
-/// A shift that every reader must take.
+/// The drivers that a shift may name: half of the shifts name none, the
+/// others few or many.
+#[derive(Clone, Copy)]
+pub struct Drivers {
+    count: u32,
+    /// How many turns of a hundred name none all the same.
+    without: u32,
+}
+
+impl Drivers {
+    pub fn drawn(rng: &mut Rng) -> Drivers {
+        match rng.percent(50) {
+            true => Drivers::some(rng),
+            false => Drivers::few(0),
+        }
+    }
+
+    fn some(rng: &mut Rng) -> Drivers {
+        Drivers {
+            count: rng.pick(&[1, 2, 3, 10, u32::from(MAX_DRIVER)]),
+            without: rng.pick(&[0, 30, 70]),
+        }
+    }
+
+    /// So many drivers; a few turns name none.
+    pub fn few(count: u32) -> Drivers {
+        Drivers { count, without: 20 }
+    }
+
+    /// The driver of a turn; 0 for none.
+    pub fn driver(&self, rng: &mut Rng) -> u16 {
+        if self.count == 0 || rng.percent(self.without) {
+            return 0;
+        }
+        // The highest numbers as well, however few drivers there are.
+        let from = if rng.percent(5) {
+            u32::from(MAX_DRIVER) - self.count
+        } else {
+            0
+        };
+        (from + rng.between(1, self.count)) as u16
+    }
+}
+
+/// A shift that every reader must take. Half of them name drivers.
 pub fn shift(rng: &mut Rng, turns: usize) -> Shift {
     let few_slopes = (turns as u32 / 3).clamp(1, MAX_SLOPES);
     let most_slopes = if rng.percent(70) {
@@ -87,8 +137,11 @@ pub fn shift(rng: &mut Rng, turns: usize) -> Shift {
         slopes: rng.between(1, most_slopes) as u8,
         turns: Vec::with_capacity(turns),
     };
+    let drivers = Drivers::drawn(rng);
     for _ in 0..turns {
-        let turn = next_turn(rng, &shift);
+        let mut fresh = fresh_turn(rng, &shift);
+        fresh[5] = drivers.driver(rng);
+        let turn = next_turn(rng, &shift, fresh);
         shift.turns.push(turn);
     }
     shift
@@ -96,8 +149,7 @@ pub fn shift(rng: &mut Rng, turns: usize) -> Shift {
 
 /// One more turn, often close to the one before it: equal, soon after it, or
 /// with some of its values.
-fn next_turn(rng: &mut Rng, shift: &Shift) -> [u16; FIELDS] {
-    let fresh = fresh_turn(rng, shift);
+fn next_turn(rng: &mut Rng, shift: &Shift, fresh: Row) -> Row {
     let Some(&old) = shift.turns.last() else {
         return fresh;
     };
@@ -109,7 +161,8 @@ fn next_turn(rng: &mut Rng, shift: &Shift) -> [u16; FIELDS] {
     }
 }
 
-fn fresh_turn(rng: &mut Rng, shift: &Shift) -> [u16; FIELDS] {
+/// A turn without a driver.
+fn fresh_turn(rng: &mut Rng, shift: &Shift) -> Row {
     let slopes = u32::from(shift.slopes);
     let groomers = u32::from(shift.groomers);
     let (start, length) = match rng.below(12) {
@@ -142,24 +195,27 @@ fn fresh_turn(rng: &mut Rng, shift: &Shift) -> [u16; FIELDS] {
         start as u16,
         length as u16,
         worth as u16,
+        0,
     ]
 }
 
-/// A turn of the old one's groomer that starts as the old one ends, or about
-/// as many minutes later as it takes to drive over.
-fn following_turn(rng: &mut Rng, old: [u16; FIELDS], fresh: [u16; FIELDS]) -> [u16; FIELDS] {
+/// A turn of the old one's groomer or driver that starts as the old one ends,
+/// or about as many minutes later as it takes to drive over.
+fn following_turn(rng: &mut Rng, old: Row, fresh: Row) -> Row {
     let minutes = rng.pick(&[0, 0, 1, DRIVE_OVER - 1, DRIVE_OVER, DRIVE_OVER + 1]);
     let start = u32::from(old[2]) + u32::from(old[3]) + minutes;
     if start >= LAST_END {
         return fresh;
     }
     let length = rng.between(1, (LAST_END - start).min(90));
-    [fresh[0], old[1], start as u16, length as u16, fresh[4]]
+    let (groomer, driver) = rng.pick(&[(old[1], fresh[5]), (fresh[1], old[5]), (old[1], old[5])]);
+    let (start, length) = (start as u16, length as u16);
+    [fresh[0], groomer, start, length, fresh[4], driver]
 }
 
 /// A turn with some values of the old one; the fresh times come back if the
 /// mixture would end too late.
-fn mixed_turn(rng: &mut Rng, old: [u16; FIELDS], fresh: [u16; FIELDS]) -> [u16; FIELDS] {
+fn mixed_turn(rng: &mut Rng, old: Row, fresh: Row) -> Row {
     let mut turn = fresh;
     for (value, old) in turn.iter_mut().zip(old) {
         if rng.percent(50) {
@@ -181,19 +237,22 @@ pub fn encode(rng: &mut Rng, shift: &Shift, redundant: u32) -> Encoded {
     bytes.push(shift.slopes);
     bytes.extend((shift.turns.len() as u16).to_be_bytes());
     let mut maps = Vec::with_capacity(shift.turns.len());
-    let mut old: Option<[u16; FIELDS]> = None;
+    let mut old: Option<Row> = None;
     for turn in &shift.turns {
         maps.push(bytes.len());
         bytes.push(0);
         let mut map = 0;
         for (field, &value) in turn.iter().enumerate() {
-            let same = old.is_some_and(|old| old[field] == value);
+            let same = match old {
+                Some(old) => old[field] == value,
+                None => field == 5 && value == 0,
+            };
             if same && !rng.percent(redundant) {
                 continue;
             }
             map |= 1 << field;
             let [high, low] = value.to_be_bytes();
-            if field >= 2 {
+            if (2..5).contains(&field) {
                 bytes.push(high);
             }
             bytes.push(low);
@@ -227,6 +286,7 @@ pub fn turn_count(rng: &mut Rng) -> usize {
 const SLOPES_AT_BOUND: [u16; 5] = [1, 3, 0, 4, 255];
 const GROOMERS_AT_BOUND: [u16; 5] = [1, 2, 0, 3, 255];
 const WORTHS_AT_BOUND: [u16; 5] = [100, 60_000, 0, 60_001, 65_535];
+const DRIVERS_AT_BOUND: [u16; 5] = [0, 1, 40, 41, 255];
 const TIMES_AT_BOUND: [(u16, u16); 14] = [
     (900, 60),
     (0, 960),
@@ -252,8 +312,10 @@ pub fn bound_grid(second: bool) -> Vec<Vec<u8>> {
         for groomer in GROOMERS_AT_BOUND {
             for (start, length) in TIMES_AT_BOUND {
                 for worth in WORTHS_AT_BOUND {
-                    let turn = [slope, groomer, start, length, worth];
-                    sheets.push(bound_sheet(turn, second));
+                    for driver in [0, 40, 41] {
+                        let turn = [slope, groomer, start, length, worth, driver];
+                        sheets.push(bound_sheet(turn, second));
+                    }
                 }
             }
         }
@@ -263,12 +325,13 @@ pub fn bound_grid(second: bool) -> Vec<Vec<u8>> {
 
 /// A sheet for each bound on its own, all other values being inner ones.
 pub fn single_bounds() -> Vec<Vec<u8>> {
-    let inner = [1, 1, 900, 60, 100];
+    let inner = [1, 1, 900, 60, 100, 0];
     let mut turns = Vec::new();
     for (field, values) in [
         (0, SLOPES_AT_BOUND),
         (1, GROOMERS_AT_BOUND),
         (4, WORTHS_AT_BOUND),
+        (5, DRIVERS_AT_BOUND),
     ] {
         for value in values {
             let mut turn = inner;
@@ -277,7 +340,7 @@ pub fn single_bounds() -> Vec<Vec<u8>> {
         }
     }
     for (start, length) in TIMES_AT_BOUND {
-        turns.push([inner[0], inner[1], start, length, inner[4]]);
+        turns.push([inner[0], inner[1], start, length, inner[4], inner[5]]);
     }
     let sheets = turns.into_iter();
     sheets
@@ -285,12 +348,12 @@ pub fn single_bounds() -> Vec<Vec<u8>> {
         .collect()
 }
 
-fn bound_sheet(turn: [u16; FIELDS], second: bool) -> Vec<u8> {
+fn bound_sheet(turn: Row, second: bool) -> Vec<u8> {
     let mut turns = vec![turn];
     if second {
         // The times of the good turn are those of the first bound, so that
         // some sheets leave out the start or the length.
-        turns.insert(0, [2, 2, 900, 60, 100]);
+        turns.insert(0, [2, 2, 900, 60, 100, 0]);
     }
     let shift = Shift {
         groomers: 2,
@@ -306,11 +369,12 @@ pub fn with_bound(rng: &mut Rng, shift: &Shift) -> Vec<u8> {
     let place = rng.below(shift.turns.len() as u32) as usize;
     let (groomers, slopes) = (u16::from(shift.groomers), u16::from(shift.slopes));
     let turn = &mut shift.turns[place];
-    match rng.below(4) {
+    match rng.below(5) {
         0 => turn[0] = rng.pick(&[0, slopes, slopes + 1, 255]),
         1 => turn[1] = rng.pick(&[0, groomers, groomers + 1, 255]),
         2 => (turn[2], turn[3]) = rng.pick(&TIMES_AT_BOUND),
-        _ => turn[4] = rng.pick(&WORTHS_AT_BOUND),
+        3 => turn[4] = rng.pick(&WORTHS_AT_BOUND),
+        _ => turn[5] = rng.pick(&DRIVERS_AT_BOUND),
     }
     encode(rng, &shift, 20).bytes
 }
@@ -354,6 +418,8 @@ pub fn trailing(rng: &mut Rng, sheet: &[u8]) -> Vec<u8> {
     let mut bytes = sheet.to_vec();
     if rng.percent(30) {
         bytes.extend([0x1F, 1, 1, 0, 0, 0, 1, 0, 1]);
+    } else if rng.percent(10) {
+        bytes.extend([0x20, 1]);
     } else {
         for _ in 0..rng.between(1, 9) {
             bytes.push(rng.below(256) as u8);
@@ -393,12 +459,17 @@ fn with_fault(rng: &mut Rng, mut bytes: Vec<u8>) -> Vec<u8> {
     bytes
 }
 
-/// Numbers that a reader of these bytes may want in its table: by the count
-/// in the header, as long as that is one a reader would take.
-pub fn places_wanted(sheet: &[u8]) -> usize {
+/// Turns that these bytes say they have, by the count in the header, as long
+/// as that is one a reader would take.
+pub fn turns_claimed(sheet: &[u8]) -> usize {
     if sheet.len() < HEADER_LEN {
         return 0;
     }
     let turns = usize::from(u16::from_be_bytes([sheet[5], sheet[6]]));
-    turns.min(MAX_TURNS) * FIELDS
+    turns.min(MAX_TURNS)
+}
+
+/// Numbers that a reader of these bytes may want in its table.
+pub fn places_wanted(sheet: &[u8]) -> usize {
+    turns_claimed(sheet) * FIELDS
 }

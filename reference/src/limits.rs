@@ -11,4 +11,7 @@ pub const MAX_WORTH: u16 = 60_000;
 pub const DRIVE_OVER: u32 = 10;
 
 /// Numbers that a turn takes in a turn table.
-pub const FIELDS: usize = 5;
+pub const FIELDS: usize = 6;
+
+/// The highest number of a driver; 0 is none.
+pub const MAX_DRIVER: u16 = 40;

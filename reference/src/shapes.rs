@@ -1,6 +1,6 @@
 //! Seeded shifts of named shapes, all of which a reader must take.
 
-use crate::gen::{self, Rng, Shift};
+use crate::gen::{self, Drivers, Rng, Row, Shift};
 use crate::limits::{DRIVE_OVER, FIELDS, LAST_END, MAX_GROOMERS, MAX_SLOPES, MAX_TURNS, MAX_WORTH};
 
 /// How many shapes there are.
@@ -15,8 +15,50 @@ pub const ALL_EQUAL: u32 = 4;
 /// The shape with the most steps: one for every turn.
 pub const A_STEP_A_TURN: u32 = 6;
 
-/// A shift of this shape with so many turns.
+/// A shift of this shape with so many turns. Half of them name drivers.
 pub fn shift(rng: &mut Rng, shape: u32, turns: usize) -> Shift {
+    let shift = drawn_by_shape(rng, shape, turns);
+    match shape {
+        ALL_EQUAL => with_one_driver(rng, shift),
+        A_STEP_A_TURN => with_a_driver_a_groomer(rng, shift),
+        1..SHAPES => {
+            let drivers = Drivers::drawn(rng);
+            with_drivers(rng, shift, drivers)
+        }
+        _ => shift,
+    }
+}
+
+/// Draws a driver for each turn.
+fn with_drivers(rng: &mut Rng, mut shift: Shift, drivers: Drivers) -> Shift {
+    for turn in &mut shift.turns {
+        turn[5] = drivers.driver(rng);
+    }
+    shift
+}
+
+/// The same driver, or none, in all turns.
+fn with_one_driver(rng: &mut Rng, mut shift: Shift) -> Shift {
+    let driver = Drivers::drawn(rng).driver(rng);
+    for turn in &mut shift.turns {
+        turn[5] = driver;
+    }
+    shift
+}
+
+/// A driver for each groomer, or none at all: no two turns come to conflict
+/// that would not without.
+fn with_a_driver_a_groomer(rng: &mut Rng, mut shift: Shift) -> Shift {
+    let named = rng.percent(50);
+    for turn in &mut shift.turns {
+        turn[5] = if named { turn[1] } else { 0 };
+    }
+    shift
+}
+
+/// A shift of this shape before drivers are put in; only shape 0 has them
+/// already.
+fn drawn_by_shape(rng: &mut Rng, shape: u32, turns: usize) -> Shift {
     match shape {
         1 => drawn(rng, turns, [2, 12], [LAST_END, 1, 400], 300),
         2 => drawn(rng, turns, [1, MAX_SLOPES], [LAST_END, 1, 90], 500),
@@ -36,6 +78,16 @@ pub fn usual(rng: &mut Rng, turns: usize) -> Shift {
     drawn(rng, turns, [12, 80], [LAST_END, 1, 90], 500)
 }
 
+/// The usual shift with drivers: somewhat more of them than groomers, most
+/// turns with one.
+pub fn usual_with_drivers(rng: &mut Rng, turns: usize) -> Shift {
+    let mut shift = usual(rng, turns);
+    for turn in &mut shift.turns {
+        turn[5] = rng.below(16) as u16;
+    }
+    shift
+}
+
 /// A shift with the most groomers and slopes, no short turn, and worths of
 /// every size.
 pub fn widest(rng: &mut Rng, turns: usize) -> Shift {
@@ -43,10 +95,55 @@ pub fn widest(rng: &mut Rng, turns: usize) -> Shift {
     drawn(rng, turns, counts, [LAST_END, 30, 90], MAX_WORTH.into())
 }
 
+/// Up to so many turns on few slopes and in few minutes, so that conflicts of
+/// every kind, turns about ten minutes apart and equal ends abound. Half of
+/// the shifts name drivers.
+pub fn small(rng: &mut Rng, most: u32) -> Shift {
+    let counts = [rng.between(1, 3), rng.between(1, 6)];
+    let worth = rng.pick(&[3, 20, u32::from(MAX_WORTH)]);
+    let turns = rng.between(0, most) as usize;
+    let shift = drawn(rng, turns, counts, [45, 1, 10], worth);
+    let (named, drivers) = (rng.percent(50), rng.pick(&[1, 1, 2, 3]));
+    let drivers = if named { drivers } else { 0 };
+    with_drivers(rng, shift, Drivers::few(drivers))
+}
+
+/// Four turns and up to so many more at one time, of much the same worth, with
+/// drivers: one of the four conflicts with one turn by slope, with another by
+/// groomer and with a third by driver, while these three get along.
+pub fn crossed(rng: &mut Rng, more: u32) -> Shift {
+    let counts = [rng.between(3, 5), rng.between(3, 5)];
+    let worth = rng.between(1, 3);
+    let turns = rng.between(0, more) as usize;
+    let shift = drawn(rng, turns, counts, [12, 1, 3], worth);
+    let drivers = rng.between(1, 3);
+    let mut shift = with_drivers(rng, shift, Drivers::few(drivers));
+    let worth = rng.between(1, 9) as u16;
+    shift.turns.extend([
+        [1, 1, 3, 1, worth, 1],
+        [1, 2, 3, 2, worth, 0],
+        [2, 1, 3, 2, worth, 2],
+        [3, 3, 3, 3, worth, 1],
+    ]);
+    shuffled(rng, &shift)
+}
+
+/// The shift with a slope of its own for each turn.
+pub fn one_turn_a_slope(shift: &Shift) -> Shift {
+    let mut shift = shift.clone();
+    shift.slopes = shift.turns.len().max(1) as u8;
+    for (turn, slope) in shift.turns.iter_mut().zip(1..) {
+        turn[0] = slope;
+    }
+    shift
+}
+
 /// A shift in which few turns come again and again, some of them with all
 /// values but one alike.
 pub fn few_kinds(rng: &mut Rng, turns: usize) -> Shift {
-    let mut kinds = drawn(rng, 3, [4, 9], [LAST_END, 1, 120], MAX_WORTH.into());
+    let kinds = drawn(rng, 3, [4, 9], [LAST_END, 1, 120], MAX_WORTH.into());
+    let drivers = Drivers::drawn(rng);
+    let mut kinds = with_drivers(rng, kinds, drivers);
     for kind in 0..3 {
         let mut other = kinds.turns[kind];
         let field = rng.below(FIELDS as u32) as usize;
@@ -60,7 +157,8 @@ pub fn few_kinds(rng: &mut Rng, turns: usize) -> Shift {
     }
 }
 
-/// The shift with its turns by slope, groomer, start, length and worth.
+/// The shift with its turns by slope, groomer, start, length, worth and
+/// driver.
 pub fn sorted(shift: &Shift) -> Shift {
     let mut shift = shift.clone();
     shift.turns.sort();
@@ -84,7 +182,7 @@ pub fn shuffled(rng: &mut Rng, shift: &Shift) -> Shift {
     }
 }
 
-/// Turns drawn evenly. The counts are those of groomers and slopes, the times
+/// Turns drawn evenly, without drivers. The counts are those of groomers and slopes, the times
 /// the last end, the shortest length and the longest.
 fn drawn(rng: &mut Rng, turns: usize, counts: [u32; 2], times: [u32; 3], worth: u32) -> Shift {
     let [groomers, slopes] = counts;
@@ -97,6 +195,7 @@ fn drawn(rng: &mut Rng, turns: usize, counts: [u32; 2], times: [u32; 3], worth: 
             rng.below(last_end - length + 1) as u16,
             length as u16,
             rng.between(1, worth) as u16,
+            0,
         ]
     };
     Shift {
@@ -121,7 +220,7 @@ fn one_after_the_other(rng: &mut Rng, turns: usize) -> Shift {
     let groomers = rng.between(1, MAX_GROOMERS);
     let slopes = rng.between(1, MAX_SLOPES);
     let mut next = [0; MAX_GROOMERS as usize + 1];
-    let turn = |number: u32| -> [u16; FIELDS] {
+    let turn = |number: u32| -> Row {
         let groomer = number % groomers + 1;
         let start = &mut next[groomer as usize];
         let length = rng.between(1, 60);
@@ -137,6 +236,7 @@ fn one_after_the_other(rng: &mut Rng, turns: usize) -> Shift {
             from as u16,
             length as u16,
             rng.between(1, 900) as u16,
+            0,
         ]
     };
     Shift {
@@ -162,6 +262,7 @@ fn a_step_a_turn(rng: &mut Rng, turns: usize) -> Shift {
             (number / MAX_GROOMERS * from_start_to_start) as u16,
             length as u16,
             (worth + number) as u16,
+            0,
         ]
     };
     assert!(turns <= MAX_TURNS);

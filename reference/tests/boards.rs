@@ -4,11 +4,11 @@ mod both;
 
 use both::{check, plan};
 use slopeboard_reference::boards::{self, Draft, Order};
-use slopeboard_reference::gen::{self, Rng};
+use slopeboard_reference::gen::{self, Rng, Row};
 use slopeboard_reference::naive::{count, is_chosen};
 use slopeboard_reference::shapes;
 
-fn sheet_of(rng: &mut Rng, shape: u32, turns: usize) -> (Vec<[u16; 5]>, Vec<u8>) {
+fn sheet_of(rng: &mut Rng, shape: u32, turns: usize) -> (Vec<Row>, Vec<u8>) {
     let shift = shapes::shift(rng, shape, turns);
     let sheet = gen::encode(rng, &shift, 20).bytes;
     (shift.turns, sheet)

@@ -22,8 +22,8 @@ const TOO_CLOSE_BOARD: [u8; 28] = [
     0x00, 0x00, 0x00, 0x64, 0x00, 0x01, 0x00, 0x32, 0x00, 0x03, 0x00, 0x5A,
 ];
 
-const TABLE: [u16; 20] = [
-    1, 1, 0, 60, 100, 2, 1, 30, 60, 150, 1, 2, 0, 120, 80, 3, 2, 120, 60, 90,
+const TABLE: [u16; 24] = [
+    1, 1, 0, 60, 100, 0, 2, 1, 30, 60, 150, 0, 1, 2, 0, 120, 80, 0, 3, 2, 120, 60, 90, 0,
 ];
 
 const LISTING: &str = "groomer 1\n30-90 slope 2 worth 150\ngroomer 2\n\
@@ -33,11 +33,11 @@ const LISTING: &str = "groomer 1\n30-90 slope 2 worth 150\ngroomer 2\n\
 const KEPT: u16 = 0xA5A5;
 
 fn refusal_of(sheet: &[u8]) -> u8 {
-    let mut table = [KEPT; 2000];
+    let mut table = [KEPT; 2400];
     match read(sheet, &mut table) {
         Ok(_) => 0,
         Err(number) => {
-            assert_eq!(table, [KEPT; 2000]);
+            assert_eq!(table, [KEPT; 2400]);
             number
         }
     }
@@ -61,16 +61,16 @@ fn board_with(map: u8, worth: u8) -> Vec<u8> {
 
 #[test]
 fn example_is_read() {
-    let mut table = [KEPT; 22];
+    let mut table = [KEPT; 26];
     let counts = Counts {
         groomers: 2,
         slopes: 3,
         turns: 4,
     };
     assert_eq!(read(&SHEET, &mut table), Ok(counts));
-    assert_eq!(table[..20], TABLE);
-    assert_eq!(table[20..], [KEPT; 2]);
-    assert_eq!(read(&SHEET, &mut [0; 19]), Err(11));
+    assert_eq!(table[..24], TABLE);
+    assert_eq!(table[24..], [KEPT; 2]);
+    assert_eq!(read(&SHEET, &mut [0; 23]), Err(11));
 }
 
 #[test]
@@ -173,13 +173,15 @@ fn record_cases() {
     assert_eq!(refusal_of(&one_turn(0, 0, 0, 0, 0)[..15]), 1);
     // The map counts before the fields it announces.
     assert_eq!(refusal_of(b"GRM\x02\x03\0\x01\x0F"), 5);
-    assert_eq!(refusal_of(b"GRM\x02\x03\0\x01\x3F"), 5);
+    assert_eq!(refusal_of(b"GRM\x02\x03\0\x01\x7F"), 5);
     let mut two = good;
     two[6] = 2;
     assert_eq!(refusal_of(&two), 1);
     for (map, fields, number) in [
         (0, [].as_slice(), 0),
-        (0x20, &[], 5),
+        (0x20, &[], 1),
+        (0x20, &[40], 0),
+        (0x20, &[41], 19),
         (0x40, &[], 5),
         (0x80, &[], 5),
         (1, &[], 1),
@@ -200,21 +202,22 @@ fn record_cases() {
 
 #[test]
 fn writer_order() {
-    let good = [1, 1, 0, 1, 1];
+    let good = [1, 1, 0, 1, 1, 0];
     let mut out = [0xA5; 4000];
-    assert_eq!(write(0, 0, &[0; 4], &mut []), Err(18));
-    assert_eq!(write(0, 1, &[0; 2005], &mut []), Err(3));
+    assert_eq!(write(0, 0, &[0; 5], &mut []), Err(18));
+    assert_eq!(write(0, 1, &[0; 2406], &mut []), Err(3));
     assert_eq!(write(256, 1, &good, &mut []), Err(3));
     assert_eq!(write(257, 1, &good, &mut out), Err(3));
     assert_eq!(write(1, 121, &good, &mut out), Err(3));
     assert_eq!(write(1, u32::MAX, &good, &mut out), Err(3));
-    assert_eq!(write(1, 1, &[0; 2005], &mut []), Err(4));
-    assert_eq!(write(1, 1, &[2, 2, 0, 0, 0], &mut []), Err(6));
-    assert_eq!(write(1, 1, &[257, 1, 0, 1, 1], &mut out), Err(6));
-    assert_eq!(write(1, 1, &[1, 257, 0, 0, 0], &mut []), Err(7));
-    assert_eq!(write(1, 1, &[1, 1, 900, 61, 0], &mut []), Err(8));
-    assert_eq!(write(1, 1, &[1, 1, 900, 60, 60_001], &mut []), Err(9));
-    let late = [1, 1, 0, 1, 0, 0, 1, 0, 1, 1];
+    assert_eq!(write(1, 1, &[0; 2406], &mut []), Err(4));
+    assert_eq!(write(1, 1, &[2, 2, 0, 0, 0, 0], &mut []), Err(6));
+    assert_eq!(write(1, 1, &[257, 1, 0, 1, 1, 0], &mut out), Err(6));
+    assert_eq!(write(1, 1, &[1, 257, 0, 0, 0, 0], &mut []), Err(7));
+    assert_eq!(write(1, 1, &[1, 1, 900, 61, 0, 0], &mut []), Err(8));
+    assert_eq!(write(1, 1, &[1, 1, 900, 60, 60_001, 0], &mut []), Err(9));
+    let late = [1, 1, 0, 1, 0, 0, 0, 1, 0, 1, 1, 0];
+    assert_eq!(write(1, 1, &[1, 1, 900, 60, 1, 41], &mut []), Err(19));
     assert_eq!(write(1, 1, &late, &mut []), Err(9));
     assert_eq!(write(1, 1, &good, &mut [0; 15]), Err(11));
     assert_eq!(out, [0xA5; 4000]);
@@ -224,7 +227,7 @@ fn writer_order() {
 
 #[test]
 fn most_turns_are_written_and_planned() {
-    let table = [1, 1, 0, 1, 60_000].repeat(400);
+    let table = [1, 1, 0, 1, 60_000, 0].repeat(400);
     let mut sheet = [0; 7 + 9 + 399];
     assert_eq!(write(1, 1, &table, &mut sheet), Ok(415));
     assert_eq!(refusal_of(&sheet), 0);

@@ -5,17 +5,15 @@ mod both;
 
 use both::{check, plan};
 use slopeboard_reference::boards::Draft;
-use slopeboard_reference::gen::{self, Rng, Shift};
+use slopeboard_reference::gen::{self, Rng, Row, Shift};
 use slopeboard_reference::naive::best_worth;
 use slopeboard_reference::naive::turns::{conflict, turns_of};
-
-type Row = [u16; 5];
 
 /// Two turns on two slopes, the second as many minutes after the first, both
 /// in this order and the other way round.
 fn pairs(minutes: u16, groomers: [u16; 2]) -> [[Row; 2]; 2] {
-    let first = [1, groomers[0], 100, 50, 70];
-    let second = [2, groomers[1], 150 + minutes, 40, 100];
+    let first = [1, groomers[0], 100, 50, 70, 0];
+    let second = [2, groomers[1], 150 + minutes, 40, 100, 0];
     [[first, second], [second, first]]
 }
 
@@ -55,7 +53,7 @@ fn nine_minutes_are_too_few_and_ten_are_enough() {
 #[test]
 fn overlaps_conflict_as_before() {
     for start in 0..300 {
-        let turns = turns_of(&[1, 1, 120, 30, 1, 2, 1, start, 15, 1]);
+        let turns = turns_of(&[1, 1, 120, 30, 1, 0, 2, 1, start, 15, 1, 0]);
         // From ten minutes before the first turn to ten minutes after it.
         let close = start + 15 + 10 > 120 && start < 150 + 10;
         assert_eq!(conflict(&turns, 0, 1), close, "{start}");

@@ -4,15 +4,13 @@
 mod both;
 
 use both::assign;
-use slopeboard_reference::gen::{self, Rng, Shift};
+use slopeboard_reference::gen::{self, Rng, Row, Shift};
 use slopeboard_reference::naive::partition::{assigned, most_at_once, used};
 use slopeboard_reference::naive::turns::{too_close, turns_of, Turn};
 use slopeboard_reference::shapes;
 
 /// What untouched places hold.
 const KEPT: u16 = 0xA5A5;
-
-type Row = [u16; 5];
 
 fn sheet_of(turns: &[Row]) -> Vec<u8> {
     let shift = Shift {
@@ -27,7 +25,7 @@ fn sheet_of(turns: &[Row]) -> Vec<u8> {
 fn turns_at(times: &[(u16, u16)]) -> Vec<Row> {
     let turns = times.iter();
     turns
-        .map(|&(start, length)| [1, 1, start, length, 1])
+        .map(|&(start, length)| [1, 1, start, length, 1, 0])
         .collect()
 }
 
@@ -35,7 +33,7 @@ fn turns_at(times: &[(u16, u16)]) -> Vec<Row> {
 fn groomers(sheet: &[u8]) -> (Vec<u16>, u16) {
     let mut places = [KEPT; 402];
     let count = assign(sheet, &mut places).unwrap();
-    let turns = gen::places_wanted(sheet) / 5;
+    let turns = gen::turns_claimed(sheet);
     assert!(places[turns..].iter().all(|&place| place == KEPT));
     (places[..turns].to_vec(), count)
 }
@@ -49,10 +47,10 @@ fn assert_groomers(times: &[(u16, u16)], expected: &[u16]) {
 #[test]
 fn example_is_assigned() {
     let turns = [
-        [1, 1, 0, 60, 100],
-        [2, 1, 30, 60, 150],
-        [1, 2, 0, 120, 80],
-        [3, 2, 120, 60, 90],
+        [1, 1, 0, 60, 100, 0],
+        [2, 1, 30, 60, 150, 0],
+        [1, 2, 0, 120, 80, 0],
+        [3, 2, 120, 60, 90, 0],
     ];
     // By start and number: turns 0, 2, 1, 3.
     assert_eq!(groomers(&sheet_of(&turns)), (vec![1, 3, 2, 1], 3));
@@ -96,10 +94,10 @@ fn no_turns_use_no_groomer() {
 
 #[test]
 fn numbers_pass_sixteen() {
-    let sheet = sheet_of(&[[1, 1, 0, 960, 1]; 400]);
+    let sheet = sheet_of(&[[1, 1, 0, 960, 1, 0]; 400]);
     let all: Vec<u16> = (1..=400).collect();
     assert_eq!(groomers(&sheet), (all, 400));
-    let sheet = sheet_of(&[[1, 1, 7, 1, 1]; 17]);
+    let sheet = sheet_of(&[[1, 1, 7, 1, 1, 0]; 17]);
     assert_eq!(groomers(&sheet).1, 17);
 }
 
@@ -131,7 +129,7 @@ fn fewer_places_than_turns_are_refused_last() {
 }
 
 #[test]
-fn slopes_groomers_and_worths_do_not_count() {
+fn slopes_groomers_worths_and_drivers_do_not_count() {
     let mut rng = Rng::new(51);
     for round in 0..400 {
         let mut shift = shapes::shift(&mut rng, round % shapes::SHAPES, 30);
@@ -140,6 +138,7 @@ fn slopes_groomers_and_worths_do_not_count() {
             turn[0] = rng.between(1, 120) as u16;
             turn[1] = rng.between(1, 16) as u16;
             turn[4] = rng.between(1, 60_000) as u16;
+            turn[5] = rng.below(41) as u16;
         }
         assert_eq!(groomers(&sheet_of(&shift.turns)), before);
     }
@@ -224,7 +223,7 @@ fn refused_sheets_agree() {
         let shift = gen::shift(&mut rng, turns);
         let faults = rng.between(1, 3);
         let sheet = gen::with_faults(&mut rng, &shift, faults);
-        let number = both::read(&sheet, &mut [0; 2000]).err();
+        let number = both::read(&sheet, &mut [0; 2400]).err();
         let mut places = vec![KEPT; 402];
         assert_eq!(assign(&sheet, &mut places).err(), number);
         assert!(number.is_none() || places.iter().all(|&place| place == KEPT));

@@ -5,12 +5,10 @@ mod both;
 
 use both::{check, plan};
 use slopeboard_reference::boards::{self, Draft, Order};
-use slopeboard_reference::gen::{self, Rng, Shift};
+use slopeboard_reference::gen::{self, Rng, Row, Shift};
 use slopeboard_reference::naive::planning::{pick, worths};
 use slopeboard_reference::naive::turns::turns_of;
 use slopeboard_reference::shapes;
-
-type Row = [u16; 5];
 
 fn sheet_of(turns: &[Row]) -> Vec<u8> {
     let shift = Shift {
@@ -44,29 +42,33 @@ fn assert_steps(turns: &[Row], steps: &[(u16, u16)]) {
 #[test]
 fn the_richer_of_two_comes_first() {
     // One slope, two groomers: the poorer one has nothing left.
-    let (poor, rich) = ([1, 1, 0, 60, 50], [1, 2, 30, 30, 80]);
+    let (poor, rich) = ([1, 1, 0, 60, 50, 0], [1, 2, 30, 30, 80, 0]);
     assert_steps(&[poor, rich], &[(1, 80)]);
     assert_steps(&[rich, poor], &[(0, 80)]);
     // One groomer, two slopes.
-    let (poor, rich) = ([1, 1, 0, 60, 50], [2, 1, 59, 1, 51]);
+    let (poor, rich) = ([1, 1, 0, 60, 50, 0], [2, 1, 59, 1, 51, 0]);
     assert_steps(&[poor, rich], &[(1, 51)]);
     // No conflict: the order alone shows it.
-    let (poor, rich) = ([1, 1, 0, 60, 1], [2, 2, 0, 60, 60_000]);
+    let (poor, rich) = ([1, 1, 0, 60, 1, 0], [2, 2, 0, 60, 60_000, 0]);
     assert_steps(&[poor, rich], &[(1, 60_000), (0, 1)]);
 }
 
 #[test]
 fn an_earlier_end_goes_before_a_greater_worth() {
-    let (early, rich) = ([1, 1, 0, 59, 1], [1, 2, 0, 60, 60_000]);
+    let (early, rich) = ([1, 1, 0, 59, 1, 0], [1, 2, 0, 60, 60_000, 0]);
     assert_steps(&[rich, early], &[(1, 1), (0, 59_999)]);
 }
 
 #[test]
 fn equally_rich_turns_go_by_number() {
-    let turns = [5, 3, 9, 1, 7].map(|slope| [slope, slope, 0, 60, 40]);
+    let turns = [5, 3, 9, 1, 7].map(|slope| [slope, slope, 0, 60, 40, 0]);
     let steps = [0, 1, 2, 3, 4].map(|turn| (turn, 40));
     assert_steps(&turns, &steps);
-    let turns = [[1, 1, 0, 60, 39], [2, 2, 0, 60, 40], [3, 3, 0, 60, 40]];
+    let turns = [
+        [1, 1, 0, 60, 39, 0],
+        [2, 2, 0, 60, 40, 0],
+        [3, 3, 0, 60, 40, 0],
+    ];
     assert_steps(&turns, &[(1, 40), (2, 40), (0, 39)]);
 }
 
@@ -79,10 +81,18 @@ fn what_remains_decides_and_not_the_worth() {
         (110, [(0, 60), (1, 50), (2, 50)]),
         (111, [(0, 60), (1, 51), (2, 50)]),
     ] {
-        let turns = [[1, 1, 0, 30, 60], [2, 1, 20, 70, worth], [3, 2, 30, 60, 50]];
+        let turns = [
+            [1, 1, 0, 30, 60, 0],
+            [2, 1, 20, 70, worth, 0],
+            [3, 2, 30, 60, 50, 0],
+        ];
         assert_steps(&turns, &steps);
         // The same by the slope, with the numbers the other way round.
-        let turns = [[3, 2, 30, 60, 50], [1, 3, 20, 70, worth], [1, 1, 0, 30, 60]];
+        let turns = [
+            [3, 2, 30, 60, 50, 0],
+            [1, 3, 20, 70, worth, 0],
+            [1, 1, 0, 30, 60, 0],
+        ];
         let mut steps = steps.map(|(turn, amount)| (2 - turn, amount));
         if worth == 110 {
             steps.swap(1, 2);
@@ -94,7 +104,11 @@ fn what_remains_decides_and_not_the_worth() {
 /// Turns that have no more left are not picked, however much they were worth.
 #[test]
 fn a_closed_turn_is_not_picked() {
-    let turns = [[1, 1, 0, 30, 60], [1, 2, 0, 90, 60], [3, 2, 100, 1, 1]];
+    let turns = [
+        [1, 1, 0, 30, 60, 0],
+        [1, 2, 0, 90, 60, 0],
+        [3, 2, 100, 1, 1, 0],
+    ];
     assert_steps(&turns, &[(0, 60), (2, 1)]);
     let table = turns_of(&turns.concat());
     assert_eq!(pick(&table, &[0, 0, 0]), None);

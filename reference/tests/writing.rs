@@ -4,15 +4,16 @@
 mod both;
 
 use both::{read, write};
-use slopeboard_reference::gen::{self, Rng, Shift};
+use slopeboard_reference::gen::{self, Rng, Row, Shift};
+use slopeboard_reference::limits::FIELDS;
 use slopeboard_reference::shapes;
 
 /// The worked example's turns.
-const TURNS: [[u16; 5]; 4] = [
-    [1, 1, 0, 60, 100],
-    [2, 1, 30, 60, 150],
-    [1, 2, 0, 120, 80],
-    [3, 2, 120, 60, 90],
+const TURNS: [Row; 4] = [
+    [1, 1, 0, 60, 100, 0],
+    [2, 1, 30, 60, 150, 0],
+    [1, 2, 0, 120, 80, 0],
+    [3, 2, 120, 60, 90, 0],
 ];
 
 /// The sheet of the example as the writer has it: turns 0, 2, 1, 3.
@@ -23,7 +24,7 @@ const SHEET: [u8; 38] = [
 ];
 
 fn written(shift: &Shift) -> Vec<u8> {
-    let mut out = vec![0xA5; 4000];
+    let mut out = vec![0xA5; 4010];
     let (groomers, slopes) = (shift.groomers.into(), shift.slopes.into());
     let len = write(groomers, slopes, &shift.turns.concat(), &mut out).unwrap();
     assert!(out[len..].iter().all(|&byte| byte == 0xA5));
@@ -32,10 +33,10 @@ fn written(shift: &Shift) -> Vec<u8> {
 }
 
 /// The turns of a sheet, as the reader has them.
-fn turns_of(sheet: &[u8]) -> Vec<[u16; 5]> {
+fn turns_of(sheet: &[u8]) -> Vec<Row> {
     let mut table = vec![0; gen::places_wanted(sheet)];
     read(sheet, &mut table).unwrap();
-    let rows = table.chunks(5);
+    let rows = table.chunks(FIELDS);
     rows.map(|row| row.try_into().unwrap()).collect()
 }
 
@@ -91,7 +92,7 @@ fn every_order_of_a_table_gives_one_sheet() {
         let read_back = turns_of(&sheet);
         assert!(read_back.is_sorted());
         for turn in &shift.turns {
-            let times = |turns: &[[u16; 5]]| turns.iter().filter(|&other| other == turn).count();
+            let times = |turns: &[Row]| turns.iter().filter(|&other| other == turn).count();
             assert_eq!(times(&read_back), times(&shift.turns));
         }
         assert_eq!(read_back.len(), turns);
@@ -104,10 +105,10 @@ fn every_order_of_a_table_gives_one_sheet() {
 
 #[test]
 fn each_field_decides_where_those_before_it_are_equal() {
-    let least = [1, 1, 1, 1, 1];
-    for field in 0..5 {
+    let least = [1; FIELDS];
+    for field in 0..FIELDS {
         // Greater in this field and less in all behind it.
-        let (mut lesser, mut greater) = ([2; 5], least);
+        let (mut lesser, mut greater) = ([2; FIELDS], least);
         lesser[..field].fill(3);
         greater[..field].fill(3);
         greater[field] = 3;
@@ -122,7 +123,7 @@ fn each_field_decides_where_those_before_it_are_equal() {
 
 #[test]
 fn equal_turns_stay_as_often() {
-    let (a, b) = ([1, 1, 0, 1, 1], [1, 1, 0, 1, 2]);
+    let (a, b) = ([1, 1, 0, 1, 1, 0], [1, 1, 0, 1, 2, 0]);
     let shift = Shift {
         groomers: 1,
         slopes: 1,
@@ -141,19 +142,21 @@ fn equal_turns_stay_as_often() {
 #[test]
 fn refusals_go_by_the_table() {
     let bad = [
-        [0, 1, 0, 1, 1],
-        [4, 1, 0, 1, 1],
-        [1, 0, 0, 1, 1],
-        [2, 3, 0, 1, 1],
-        [3, 1, 0, 0, 1],
-        [1, 1, 960, 1, 1],
-        [1, 1, 0, 1, 0],
-        [3, 2, 0, 1, 60_001],
+        [0, 1, 0, 1, 1, 0],
+        [4, 1, 0, 1, 1, 0],
+        [1, 0, 0, 1, 1, 0],
+        [2, 3, 0, 1, 1, 0],
+        [3, 1, 0, 0, 1, 0],
+        [1, 1, 960, 1, 1, 0],
+        [1, 1, 0, 1, 0, 0],
+        [3, 2, 0, 1, 60_001, 0],
+        [1, 1, 0, 1, 1, 41],
+        [3, 2, 959, 1, 1, 65_535],
     ];
-    let numbers = [6, 6, 7, 7, 8, 8, 9, 9];
+    let numbers = [6, 6, 7, 7, 8, 8, 9, 9, 19, 19];
     for first in 0..bad.len() {
         for second in 0..bad.len() {
-            for good in [[1, 1, 0, 1, 1], [3, 2, 959, 1, 60_000]] {
+            for good in [[1, 1, 0, 1, 1, 0], [3, 2, 959, 1, 60_000, 40]] {
                 for table in [
                     [bad[first], bad[second], good],
                     [good, bad[first], bad[second]],
@@ -196,22 +199,22 @@ fn eleven_goes_by_the_written_sheet() {
 #[test]
 fn faulty_tables_agree() {
     let mut rng = Rng::new(33);
-    let mut seen = [0; 19];
+    let mut seen = [0; 20];
     for _ in 0..6000 {
         let turns = rng.between(1, 12) as usize;
         let shift = gen::shift(&mut rng, turns);
         let mut table = shift.turns.concat();
         for _ in 0..rng.below(4) {
             let place = rng.below(table.len() as u32) as usize;
-            table[place] = rng.pick(&[0, 1, 121, 257, 960, 961, 60_000, 60_001, 65_535]);
+            table[place] = rng.pick(&[0, 1, 40, 41, 121, 257, 960, 961, 60_000, 60_001, 65_535]);
         }
-        table.truncate(table.len() - rng.pick(&[0, 0, 0, 0, 0, 0, 1, 4, 5]));
+        table.truncate(table.len() - rng.pick(&[0, 0, 0, 0, 0, 0, 1, 5, 6]));
         let groomers = rng.pick(&[u32::from(shift.groomers), 16, 16, 16, 17, 256]);
-        let mut out = vec![0xA5; rng.pick(&[0, 7, 16, 110, 110])];
+        let mut out = vec![0xA5; rng.pick(&[0, 7, 16, 130, 130])];
         let answer = write(groomers, shift.slopes.into(), &table, &mut out);
         seen[usize::from(answer.err().unwrap_or(0))] += 1;
     }
-    for number in [0, 3, 6, 7, 8, 9, 11, 18] {
+    for number in [0, 3, 6, 7, 8, 9, 11, 18, 19] {
         assert!(seen[number] > 50, "{number}: {seen:?}");
     }
 }

@@ -4,12 +4,13 @@
 
 use std::io::{self, Write};
 
-/// Slope, groomer, start, length, worth of each turn, in any order.
+/// Slope, groomer, start, length, worth and driver of each turn, in any order.
+/// Driver 0 is none.
 const TURNS: [[u16; slopeboard::NUMBERS_PER_TURN]; 4] = [
-    [1, 1, 0, 60, 100],
-    [2, 1, 30, 60, 150],
-    [1, 2, 0, 120, 80],
-    [3, 2, 120, 60, 90],
+    [1, 1, 0, 60, 100, 0],
+    [2, 1, 30, 60, 150, 0],
+    [1, 2, 0, 120, 80, 0],
+    [3, 2, 120, 60, 90, 0],
 ];
 
 fn main() -> Result<(), Box<dyn std::error::Error>> {
@@ -17,7 +18,7 @@ fn main() -> Result<(), Box<dyn std::error::Error>> {
     let len = slopeboard::write(2, 3, TURNS.as_flattened(), &mut sheet)?;
     let sheet = &sheet[..len];
 
-    let mut table = [0; 5 * TURNS.len()];
+    let mut table = [0; slopeboard::NUMBERS_PER_TURN * TURNS.len()];
     let counts = slopeboard::read(sheet, &mut table)?;
     assert_eq!(usize::from(counts.turns), TURNS.len());
     // The sheet has the turns sorted, and from here on they are numbered as

@@ -19,14 +19,14 @@ pub use refusal::Refusal;
 
 /// The number of this interface, as `SLOPEBOARD_VERSION` in the header: each
 /// change that a caller can see raises it.
-pub const VERSION: u32 = 6;
+pub const VERSION: u32 = 7;
 
 /// Numbers that a turn takes in a turn table: slope, groomer, start, length,
-/// worth.
-pub const NUMBERS_PER_TURN: usize = 5;
+/// worth, driver. Driver 0 is none.
+pub const NUMBERS_PER_TURN: usize = 6;
 pub const MOST_TURNS: usize = 400;
 /// Bytes that hold any sheet.
-pub const MOST_SHEET_BYTES: usize = 7 + 9 * MOST_TURNS;
+pub const MOST_SHEET_BYTES: usize = 7 + 10 * MOST_TURNS;
 /// Bytes that hold any listing: no listing has more than 3,806.
 pub const MOST_TEXT_BYTES: usize = 4096;
 
@@ -44,9 +44,11 @@ pub struct Counts {
 }
 
 /// The sums of a board that passed. No set of the sheet's turns without a
-/// conflict is worth more than twice the tally. Two turns conflict if they
-/// have the same slope, or if they have the same groomer and neither starts
-/// ten minutes or more after the end of the other.
+/// conflict is worth more than twice the tally or, on a sheet that names any
+/// driver and has two turns on one slope, three times the tally. Two turns
+/// conflict if they have the same slope, or if they have the same groomer or
+/// the same driver (other than 0) and neither starts ten minutes or more after
+/// the end of the other.
 #[derive(Clone, Copy, Debug, PartialEq, Eq)]
 pub struct Sums {
     pub tally: u32,
@@ -71,7 +73,8 @@ pub fn read(sheet: &[u8], table: &mut [u16]) -> Result<Counts, Refusal> {
 }
 
 /// Writes the shortest sheet with these counts and the turns of the table,
-/// sorted by slope, groomer, start, length and worth, and gives its length.
+/// sorted by slope, groomer, start, length, worth and driver, and gives its
+/// length.
 pub fn write(
     groomers: u32,
     slopes: u32,
@@ -133,8 +136,8 @@ pub fn list(sheet: &[u8], text: &mut [u8]) -> Result<usize, Refusal> {
     length(unsafe { raw::slopeboard_list(sheet.as_ptr(), sheet.len(), text, text_len) })
 }
 
-/// Assigns groomers to all turns of a sheet, whatever groomers and slopes it
-/// names, so that each groomer has ten minutes between its turns. Writes the
+/// Assigns groomers to all turns of a sheet, whatever groomers, drivers and
+/// slopes it names, so that each groomer has ten minutes between its turns. Writes the
 /// groomer of each turn, from 1, at the turn's place, and gives how many
 /// groomers there are: no assignment has fewer. Asks for a place a turn.
 pub fn assign(sheet: &[u8], places: &mut [u16]) -> Result<u16, Refusal> {

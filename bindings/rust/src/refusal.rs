@@ -41,12 +41,14 @@ pub enum Refusal {
     TurnLeftOpen = 16,
     /// Tally or worth is not its sum, or the worth is below the tally.
     WrongSums = 17,
-    /// A turn table's length is no multiple of five.
+    /// A turn table's length is no multiple of six.
     PartialTurn = 18,
+    /// A turn's driver is above 40.
+    BadDriver = 19,
 }
 
 /// By number, from 1.
-const ALL: [Refusal; 18] = [
+const ALL: [Refusal; 19] = [
     Refusal::Truncated,
     Refusal::BadMagic,
     Refusal::BadCounts,
@@ -65,6 +67,7 @@ const ALL: [Refusal; 18] = [
     Refusal::TurnLeftOpen,
     Refusal::WrongSums,
     Refusal::PartialTurn,
+    Refusal::BadDriver,
 ];
 
 impl Refusal {
@@ -72,7 +75,7 @@ impl Refusal {
         self as u8
     }
 
-    /// The refusal with this number; none for 0 and for numbers above 18.
+    /// The refusal with this number; none for 0 and for numbers above 19.
     pub fn from_number(number: u8) -> Option<Refusal> {
         let place = usize::from(number).checked_sub(1)?;
         ALL.get(place).copied()
@@ -84,7 +87,7 @@ pub(crate) fn none(number: u8) -> Result<(), Refusal> {
     if number == 0 {
         return Ok(());
     }
-    Err(Refusal::from_number(number).expect("the library gives the numbers 0 to 18 only"))
+    Err(Refusal::from_number(number).expect("the library gives the numbers 0 to 19 only"))
 }
 
 impl fmt::Display for Refusal {

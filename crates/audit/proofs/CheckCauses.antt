@@ -141,6 +141,7 @@ sheet-place s (Accepted.slope i l h) = omega arith
 sheet-place s (Accepted.groomer i l h) = omega arith
 sheet-place s (Accepted.time i l h) = omega arith
 sheet-place s (Accepted.worth i l h) = omega arith
+sheet-place s (Accepted.driver i l h) = omega arith
 sheet-place s (Accepted.bytes-behind h) = omega arith
 
 module _ (s b : List ℕ) where

@@ -5,14 +5,14 @@ use Rattle.refusal.specs.Written.{writtenUnless}
 use Rattle.wire.specs.Mark.{opensWith}
 use Rattle.turns.specs.Turn.{rows, turnsOfTable, outsideRange, pastShift, turnCauses}
 use Rattle.sheet.specs.Kind.{garage}
-use Rattle.sheet.specs.Record.{field, turnFrom, badMapFor, endAt, turnAt, cursorAfter, recordCauses, firstCursor}
+use Rattle.sheet.specs.Record.{widthOf, field, turnFrom, badMapFor, endAt, turnAt, cursorAfter, recordCauses, firstCursor}
 use Rattle.sheet.specs.Read.{countCauses, headerCauses, recordsCauses, turnsFrom, causesFor, sheetCauses, turnsOf, tableOf, readCausesFor, readFor, readOf}
 use Rattle.sheet.specs.Layout.{recordOf}
 use Rattle.sorting.specs.Sorting.{insertBy, sortBy}
 use Rattle.writer.specs.Order.{numbersAtMost, turnAtMost, sortedTurns}
 use Rattle.writer.specs.Write.{mapFor, recordsOf, sheetOf, turnsCauses, tableCauses, writeCauses, writeOf}
 use Rattle.lists.specs.Lists.{every, tab}
-use Rattle.model.specs.Turns.{overlapping, overlap, bySlope, oneGroomer, byGroomer, conflict}
+use Rattle.model.specs.Turns.{overlapping, overlap, bySlope, oneGroomer, byGroomer, oneDriver, byDriver, conflict}
 use Rattle.problem.specs.Problem.{problemOf, sheetTurns}
 use Rattle.model.specs.Steps.{isOpen, left, initial, reduced, change, afterStep, afterSteps, tally}
 use Rattle.model.specs.Pick.{sooner, better, best, pick, nextStep, plan, steps}
@@ -31,7 +31,7 @@ use Rattle.listing.specs.List.{listingFor, sheetListing, listCauses, listOf}
 use Rattle.claim.specs.Cases.{WorkedCases}
 
 pub worked-cases : WorkedCases
-unfolding insertBy sortBy numbersAtMost turnAtMost sortedTurns firstOf opensWith field turnFrom badMapFor endAt turnAt cursorAfter recordCauses firstCursor countCauses headerCauses recordsCauses turnsFrom rows garage causesFor sheetCauses turnsOf tableOf readCausesFor readFor readOf outsideRange pastShift turnCauses writtenUnless recordOf mapFor recordsOf sheetOf turnsOfTable turnsCauses tableCauses writeCauses writeOf problemOf sheetTurns overlapping overlap bySlope oneGroomer byGroomer conflict every tab isOpen left initial reduced change afterStep afterSteps tally sooner better best pick nextStep plan steps chosen fits choose back fill goBack choice bitOf chosenIn choiceIn clearPast byteOf mapOf boardMap boardChoice stepsIn writtenSteps stepBytes boardOf badSizes malformed openOf stepsPart boardFor plannedBoard planCauses planOf decimalIn decimal startsAt startsBelow roundFrom roundOf labelled twoLabelled headingOf lineOf linesOf groomerText groomersFrom sumsLine listingOf listingFor sheetListing listCauses listOf onesOf onesIn countOf turnChosen independent maximal noEarlier right allRight noneOpen sums choiceCauses stepCauses ruleCauses sumCauses boardCauses checkCauses checkOf
+unfolding insertBy sortBy numbersAtMost turnAtMost sortedTurns firstOf opensWith widthOf field turnFrom badMapFor endAt turnAt cursorAfter recordCauses firstCursor countCauses headerCauses recordsCauses turnsFrom rows garage causesFor sheetCauses turnsOf tableOf readCausesFor readFor readOf outsideRange pastShift turnCauses writtenUnless recordOf mapFor recordsOf sheetOf turnsOfTable turnsCauses tableCauses writeCauses writeOf problemOf sheetTurns overlapping overlap bySlope oneGroomer byGroomer oneDriver byDriver conflict every tab isOpen left initial reduced change afterStep afterSteps tally sooner better best pick nextStep plan steps chosen fits choose back fill goBack choice bitOf chosenIn choiceIn clearPast byteOf mapOf boardMap boardChoice stepsIn writtenSteps stepBytes boardOf badSizes malformed openOf stepsPart boardFor plannedBoard planCauses planOf decimalIn decimal startsAt startsBelow roundFrom roundOf labelled twoLabelled headingOf lineOf linesOf groomerText groomersFrom sumsLine listingOf listingFor sheetListing listCauses listOf onesOf onesIn countOf turnChosen independent maximal noEarlier right allRight noneOpen sums choiceCauses stepCauses ruleCauses sumCauses boardCauses checkCauses checkOf
 worked-cases =
     record {
       shift-read = refl;
@@ -64,6 +64,15 @@ worked-cases =
       late-read = refl;
       worth-read = refl;
       dear-read = refl;
+      driver-read = refl;
+      driver-refused = refl;
+      no-driver-read = refl;
+      driver-written = refl;
+      no-driver-written = refl;
+      driven-planned = refl;
+      driven-checked = refl;
+      driven-twice = refl;
+      undriven-planned = refl;
       wrong-worth = refl;
       leaves-room = refl;
       touching-turns = refl;

@@ -18,7 +18,7 @@ use Rattle.board.specs.Chosen.{counted, countOf, turnChosen}
 use Rattle.audit.specs.Check.{checkOf, checked}
 use Rattle.planner.specs.Plan.{planOf}
 use Rattle.listing.specs.List.{listOf}
-use Rattle.claim.specs.Shift.{shift, shiftTable, shiftWritten, shiftBoard, shiftSteps, shiftListing, wrongWorth, leavesRoom, touchingTurns, header, emptyBoard, lateTurn}
+use Rattle.claim.specs.Shift.{shift, shiftTable, shiftWritten, shiftBoard, shiftSteps, shiftListing, wrongWorth, leavesRoom, touchingTurns, header, emptyBoard, lateTurn, drivenTurn, drivenTable, undrivenTurn, drivenShift, twoTurns}
 
 -- lent places hold 9 before
 abbrev pub lent : ℕ → List ℕ
@@ -35,7 +35,7 @@ shiftCounts = record { groomers = 2; slopes = 3 }
 -- each case as an equation
 pub record WorkedCases : Type 0 where
   -- the shift, through every entry
-  pub shift-read : readOf shift (lent 22) ≡ outcome (record { refusal = 0; groomers = 2; slopes = 3; turns = 4 }) (shiftTable ++ lent 2)
+  pub shift-read : readOf shift (lent 26) ≡ outcome (record { refusal = 0; groomers = 2; slopes = 3; turns = 4 }) (shiftTable ++ lent 2)
   pub shift-written : writeOf shiftCounts shiftTable (lent 40) ≡ record { refusal = 0; bytes = 38; lent = shiftWritten ++ lent 2 }
   pub shift-planned : planOf shift (lent 33) ≡ record { refusal = 0; bytes = 28; lent = shiftBoard ++ lent 5 }
   pub shift-opened : openOf shiftBoard ≡ 0
@@ -66,10 +66,21 @@ pub record WorkedCases : Type 0 where
   pub many-planned : planOf (header 1 0x91) [] ≡ record { refusal = 4; bytes = 0; lent = [] }
   pub many-checked : checkOf (header 1 0x91) emptyBoard ≡ checked 4 0 0
   -- an end at minute 960, and one minute later; worth 60,000, and one more
-  pub end-read : readOf (lateTurn 60 0 1) (lent 5) ≡ outcome (record { refusal = 0; groomers = 1; slopes = 1; turns = 1 }) (1 ∷ 1 ∷ 900 ∷ 60 ∷ 1 ∷ [])
-  pub late-read : readOf (lateTurn 61 0 1) (lent 5) ≡ outcome (readRefused 8) (lent 5)
-  pub worth-read : readOf (lateTurn 60 0xEA 0x60) (lent 5) ≡ outcome (record { refusal = 0; groomers = 1; slopes = 1; turns = 1 }) (1 ∷ 1 ∷ 900 ∷ 60 ∷ 60000 ∷ [])
-  pub dear-read : readOf (lateTurn 60 0xEA 0x61) (lent 5) ≡ outcome (readRefused 9) (lent 5)
+  pub end-read : readOf (lateTurn 60 0 1) (lent 6) ≡ outcome (record { refusal = 0; groomers = 1; slopes = 1; turns = 1 }) (1 ∷ 1 ∷ 900 ∷ 60 ∷ 1 ∷ 0 ∷ [])
+  pub late-read : readOf (lateTurn 61 0 1) (lent 6) ≡ outcome (readRefused 8) (lent 6)
+  pub worth-read : readOf (lateTurn 60 0xEA 0x60) (lent 6) ≡ outcome (record { refusal = 0; groomers = 1; slopes = 1; turns = 1 }) (1 ∷ 1 ∷ 900 ∷ 60 ∷ 60000 ∷ 0 ∷ [])
+  pub dear-read : readOf (lateTurn 60 0xEA 0x61) (lent 6) ≡ outcome (readRefused 9) (lent 6)
+  -- a driver: the greatest, one more, and none, for which a first map of 1F is written
+  pub driver-read : readOf (drivenTurn 40) (lent 6) ≡ outcome (record { refusal = 0; groomers = 1; slopes = 1; turns = 1 }) (drivenTable 40)
+  pub driver-refused : readOf (drivenTurn 41) (lent 6) ≡ outcome (readRefused 19) (lent 6)
+  pub no-driver-read : readOf (drivenTurn 0) (lent 6) ≡ outcome (record { refusal = 0; groomers = 1; slopes = 1; turns = 1 }) (drivenTable 0)
+  pub driver-written : writeOf (record { groomers = 1; slopes = 1 }) (drivenTable 40) (lent 17) ≡ record { refusal = 0; bytes = 17; lent = drivenTurn 40 }
+  pub no-driver-written : writeOf (record { groomers = 1; slopes = 1 }) (drivenTable 0) (lent 17) ≡ record { refusal = 0; bytes = 16; lent = undrivenTurn ++ lent 1 }
+  -- two turns that overlap, on two slopes and two groomers: with one driver the first step takes 100 from both and the second turn alone is chosen; with driver 0 both are
+  pub driven-planned : planOf (drivenShift 7) (lent 24) ≡ record { refusal = 0; bytes = 24; lent = twoTurns 150 150 2 50 }
+  pub driven-checked : checkOf (drivenShift 7) (twoTurns 150 150 2 50) ≡ checked 0 150 150
+  pub driven-twice : checkOf (drivenShift 7) (twoTurns 150 250 3 50) ≡ checked 13 0 0
+  pub undriven-planned : planOf (drivenShift 0) (lent 24) ≡ record { refusal = 0; bytes = 24; lent = twoTurns 250 250 3 150 }
   -- other choices with the shift's steps
   pub wrong-worth : checkOf shift wrongWorth ≡ checked 17 0 0
   pub leaves-room : checkOf shift leavesRoom ≡ checked 14 0 0

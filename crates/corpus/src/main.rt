@@ -13,7 +13,7 @@ use libc::STDOUT_FILENO;
 // Most bytes of a case's input, and most places of the two lent buffers.
 const MOST_INPUT: usize = 16384;
 
-const MOST_NUMBERS: usize = 2048;
+const MOST_NUMBERS: usize = 2560;
 
 const MOST_BYTES: usize = 8192;
 

@@ -1,21 +1,21 @@
--- No feasible set earns more than the steps account for (5.2.1 with the machines of 5.2.4; 5.2.2 where no slope has two turns). The source bounds the set returned; here any right steps that leave no turn open bound every feasible set. Assumes nothing.
+-- No feasible set earns more than the steps account for (5.2.1 with the machines of 5.2.4; 5.2.2 where no slope has two turns), with a driver as a further machine. The source bounds the set returned; here any right steps that leave no turn open bound every feasible set. Assumes nothing.
 use mathlib.Core.Path.{_≡_}
 use mathlib.Core.Logic.{_≢_}
 use mathlib.Core.List.{List, [], _∷_}
-use mathlib.Core.Bool.{Bool, true, false, _&&_, or-false}
+use mathlib.Core.Bool.{Bool, true, false, _&&_}
 use Prim.Native.Nat.{ℕ, _*_, _≤_, _<_}
 use native.Mathlib.Omega.{arith}
 use lib.IntN.{ℤ}
-use lib.ListN.{length}
+use lib.ListN.{length, length-map}
 use Rattle.lists.specs.Lists.{sum, All, none, more}
-use Rattle.model.specs.Turns.{Turns, PositiveLengths, bySlope, byGroomer, conflict, Conflict}
-use Rattle.model.specs.Steps.{Step, left, initial, touches, taken, afterStep, afterSteps, final, total, tally}
+use Rattle.model.specs.Turns.{Turns, PositiveLengths, NoDrivers, bySlope, byGroomer, byDriver, conflict, Conflict}
+use Rattle.model.specs.Steps.{Step, isOpen, left, initial, touches, taken, afterStep, afterSteps, final, total, tally}
 use Rattle.model.specs.Rules.{Right}
 use Rattle.model.specs.Feasible.{Distinct, Feasible, worthOf, OneTurnASlope}
 use Rattle.lists.proofs.Bools.{and-1, and-2}
 use Rattle.lists.proofs.Sums.{sum-mono, sum-zero, all-of, all-map, all-tail}
 use Rattle.model.proofs.Account.{each-map, Covers, upper}
-use Rattle.model.proofs.Groups.{Apart, empty, other, held, Clique, Cliques, groups}
+use Rattle.model.proofs.Groups.{Apart, empty, other, held, joinedAll, HeldBy, is-j, in-first, in-later, heldBy-held, Clique, Cliques, join-all, groups}
 use Rattle.model.proofs.Conflicts
 use Rattle.model.proofs.Residuals
 use Rattle.model.proofs.Residuals.{Closed, RightSteps}
@@ -23,28 +23,30 @@ use Rattle.model.proofs.Minutes
 
 -- ---- the groups of a right step: any two turns that it touches in one of them conflict
 
-module _ (T : Turns) where
-  slope-group : (s : List ℤ) (x : Step) → Clique (λ t. t < T .count) (conflict T) (λ t. touches T s (x .turn) t && bySlope T (x .turn) t)
-  unfolding Clique
-  slope-group s x y z hy hz e f = Conflicts.slope-conflict T (x .turn) y z (search and-2) (search and-2)
+module _ (T : Turns) (s : List ℤ) (x : Step) where
+  -- any two turns of this group that are touched conflict
+  abbrev Group : (ℕ → Bool) → Type 0
+  Group G = Clique (λ t. t < T .count) (conflict T) (λ t. touches T s (x .turn) t && G t)
 
-  late : (s : List ℤ) (x : Step) → Right T s x → (t : ℕ) → t < T .count → touches T s (x .turn) t ≡ true → byGroomer T (x .turn) t ≡ true → T .end (x .turn) ≤ T .end t
-  late s x q t l e g = q .early t l (Residuals.touched-open T s x (x .turn) t e) (Conflicts.groomer-is T (x .turn) t g .0)
-
-  groomer-group : (s : List ℤ) (x : Step) → Right T s x → Clique (λ t. t < T .count) (conflict T) (λ t. touches T s (x .turn) t && byGroomer T (x .turn) t)
+  slope-group : Group (bySlope T (x .turn))
   unfolding Clique
-  groomer-group s x q y z hy hz e f =
-      Conflicts.groomer-conflict T (x .turn) y z (search and-2) (search and-2) (late s x q y hy (search and-1) (search and-2)) (late s x q z hz (search and-1) (search and-2))
+  slope-group y z hy hz e f = Conflicts.slope-conflict T (x .turn) y z (search and-2) (search and-2)
 
-  -- where no slope has two turns, all that it touches is one group (5.2.2)
-  one-group : OneTurnASlope T → (s : List ℤ) (x : Step) → Right T s x → Clique (λ t. t < T .count) (conflict T) (λ t. touches T s (x .turn) t && conflict T (x .turn) t)
+  -- a machine that J needs: of the open turns that need it in J's minutes none ends before J, and then any two conflict (5.2.1, 5.2.4)
+  machine-group : (G : ℕ → Bool) → ((t : ℕ) → t < T .count → isOpen s t ≡ true → G t ≡ true → T .end (x .turn) ≤ T .end t) →
+      ((y z : ℕ) → G y ≡ true → G z ≡ true → T .end (x .turn) ≤ T .end y → T .end (x .turn) ≤ T .end z → conflict T y z ≡ true) → Group G
   unfolding Clique
-  one-group single s x q y z hy hz e f = go (Conflicts.ways T (x .turn) y (search and-2)) (Conflicts.ways T (x .turn) z (search and-2))
+  machine-group G late k y z hy hz e f = k y z (search and-2) (search and-2) (after y hy e) (after z hz f)
     where
-      go : Conflicts.Ways T (x .turn) y → Conflicts.Ways T (x .turn) z → conflict T y z ≡ true
-      go (Conflicts.slopes h) k = rw (← single (x .turn) y (q .inside) hy (Conflicts.slope-is T (x .turn) y h)) (search and-2)
-      go (Conflicts.groomers h) (Conflicts.slopes k) = Conflicts.conflict-sym T z y (rw (← single (x .turn) z (q .inside) hz (Conflicts.slope-is T (x .turn) z k)) (search and-2))
-      go (Conflicts.groomers h) (Conflicts.groomers k) = Conflicts.groomer-conflict T (x .turn) y z h k (late s x q y hy (search and-1) h) (late s x q z hz (search and-1) k)
+      after : (t : ℕ) → t < T .count → (touches T s (x .turn) t && G t) ≡ true → T .end (x .turn) ≤ T .end t
+      after t l e = late t l (Residuals.touched-open T s x (x .turn) t (search and-1)) (search and-2)
+
+  module _ (q : Right T s x) where
+    groomer-group : Group (byGroomer T (x .turn))
+    groomer-group = machine-group (byGroomer T (x .turn)) (λ t l o g. q .early t l o (Conflicts.groomer-is T (x .turn) t g .0)) (Conflicts.groomer-conflict T (x .turn))
+
+    driver-group : Group (byDriver T (x .turn))
+    driver-group = machine-group (byDriver T (x .turn)) (λ t l o g. q .early-driver t l o (Conflicts.driver-is T (x .turn) t g .0)) (Conflicts.driver-conflict T (x .turn))
 
 -- ---- against a set in which no two conflict
 
@@ -74,23 +76,68 @@ module _ (T : Turns) (R : List ℕ) (range : All (λ t. t < T .count) R) (apart 
     pub bound-times : {xs : List Step} → RightSteps T (initial T) xs → Closed T (afterSteps T (initial T) xs) → sum (T .worth) R ≤ k * tally xs
     bound-times {xs} r p = omega (arith, totals (initial T) xs, bound-cost (λ s x. k * x .amount) h r p)
 
-  -- k groups that hold what a step touches, any two of a group in conflict: at most k times the amount
-  pub by-groups : (s : List ℤ) (x : Step) (Gs : List (ℕ → Bool)) → ((t : ℕ) → t < T .count → touches T s (x .turn) t ≡ true → held Gs t ≡ true) →
+  -- k groups, J in each, that hold what a step touches, any two of a group in conflict: at most k times the amount
+  pub by-groups : (s : List ℤ) (x : Step) (Gs : List (ℕ → Bool)) → ((t : ℕ) → t < T .count → touches T s (x .turn) t ≡ true → held (joinedAll (x .turn) Gs) t ≡ true) →
       Cliques (λ t. t < T .count) (conflict T) (touches T s (x .turn)) Gs → sum (taken T s x) R ≤ length Gs * x .amount
   unfolding taken
-  by-groups s x Gs h k = groups (λ t. t < T .count) (conflict T) (x .amount) Gs (touches T s (x .turn)) h k range apart
+  by-groups s x Gs h k =
+      rw length-map at (groups (λ t. t < T .count) (conflict T) (x .amount) (joinedAll j Gs) (touches T s j) h (join-all (λ t. t < T .count) (conflict T) j (touches T s j) near Gs k) range apart)
+    where
+      j : ℕ
+      j = x .turn
 
-  -- at most two of the turns touched are in the set: one of J's slope, and one that overlaps J on its groomer (5.2.1, 5.2.4)
-  pub two-groups : (s : List ℤ) (x : Step) → Right T s x → sum (taken T s x) R ≤ 2 * x .amount
-  unfolding held conflict
-  two-groups s x q =
-      by-groups s x (bySlope T (x .turn) ∷ byGroomer T (x .turn) ∷ []) (λ t l e. rw or-false (Residuals.touched-conflict T s x (x .turn) t e)) (slope-group T s x, (groomer-group T s x q, tt))
+      near : (t : ℕ) → touches T s j t ≡ true → (conflict T j t ≡ true) × (conflict T t j ≡ true)
+      near t e = let c = Residuals.touched-conflict T s x j t e in (c, Conflicts.conflict-sym T j t c)
 
-  -- at most one, where no slope has two turns (5.2.2)
-  pub single-group : OneTurnASlope T → (s : List ℤ) (x : Step) → Right T s x → sum (taken T s x) R ≤ 1 * x .amount
-  unfolding held
-  single-group single s x q =
-      by-groups s x (conflict T (x .turn) ∷ []) (λ t l e. rw or-false (Residuals.touched-conflict T s x (x .turn) t e)) (one-group T single s x q, tt)
+  module _ (s : List ℤ) (x : Step) (q : Right T s x) where
+    -- groups that hold each turn that conflicts with J, by whichever way
+    by-ways : (Gs : List (ℕ → Bool)) → ((t : ℕ) → t < T .count → Conflicts.Ways T (x .turn) t → HeldBy (x .turn) t Gs) →
+        Cliques (λ t. t < T .count) (conflict T) (touches T s (x .turn)) Gs → sum (taken T s x) R ≤ length Gs * x .amount
+    by-ways Gs h = by-groups s x Gs (λ t l e. heldBy-held (h t l (Conflicts.ways T (x .turn) t (Residuals.touched-conflict T s x (x .turn) t e))))
+
+    -- at most three of the turns touched are in the set: one of J's slope, and of each machine one that overlaps J (5.2.4)
+    pub three-groups : sum (taken T s x) R ≤ 3 * x .amount
+    three-groups = by-ways (bySlope T (x .turn) ∷ byGroomer T (x .turn) ∷ byDriver T (x .turn) ∷ []) go (slope-group T s x, (groomer-group T s x q, (driver-group T s x q, tt)))
+      where
+        go : (t : ℕ) → t < T .count → Conflicts.Ways T (x .turn) t → HeldBy (x .turn) t (bySlope T (x .turn) ∷ byGroomer T (x .turn) ∷ byDriver T (x .turn) ∷ [])
+        go t l (Conflicts.slopes h) = in-first h
+        go t l (Conflicts.groomers h) = in-later (in-first h)
+        go t l (Conflicts.drivers h) = in-later (in-later (in-first h))
+
+    alone : OneTurnASlope T → (t : ℕ) → t < T .count → bySlope T (x .turn) t ≡ true → x .turn ≡ t
+    alone single t l h = single (x .turn) t (q .inside) l (Conflicts.slope-is T (x .turn) t h)
+
+    -- at most two, where no slope has two turns: J is the only one of its slope (5.2.2)
+    pub machine-groups : OneTurnASlope T → sum (taken T s x) R ≤ 2 * x .amount
+    machine-groups single = by-ways (byGroomer T (x .turn) ∷ byDriver T (x .turn) ∷ []) go (groomer-group T s x q, (driver-group T s x q, tt))
+      where
+        go : (t : ℕ) → t < T .count → Conflicts.Ways T (x .turn) t → HeldBy (x .turn) t (byGroomer T (x .turn) ∷ byDriver T (x .turn) ∷ [])
+        go t l (Conflicts.slopes h) = is-j (alone single t l h)
+        go t l (Conflicts.groomers h) = in-first h
+        go t l (Conflicts.drivers h) = in-later (in-first h)
+
+    -- without drivers a group less
+    module _ (free : NoDrivers T) where
+      no-driver : (t : ℕ) → byDriver T (x .turn) t ≡ true → ⊥
+      no-driver t h = Conflicts.driver-is T (x .turn) t h .0 .named (free (x .turn) (q .inside))
+
+      -- at most two: one of J's slope, and one that overlaps J on its groomer (5.2.1, 5.2.4)
+      pub two-groups : sum (taken T s x) R ≤ 2 * x .amount
+      two-groups = by-ways (bySlope T (x .turn) ∷ byGroomer T (x .turn) ∷ []) go (slope-group T s x, (groomer-group T s x q, tt))
+        where
+          go : (t : ℕ) → t < T .count → Conflicts.Ways T (x .turn) t → HeldBy (x .turn) t (bySlope T (x .turn) ∷ byGroomer T (x .turn) ∷ [])
+          go t l (Conflicts.slopes h) = in-first h
+          go t l (Conflicts.groomers h) = in-later (in-first h)
+          go t l (Conflicts.drivers h) = absurd (no-driver t h)
+
+      -- at most one, where no slope has two turns (5.2.2)
+      pub single-group : OneTurnASlope T → sum (taken T s x) R ≤ 1 * x .amount
+      single-group single = by-ways (byGroomer T (x .turn) ∷ []) go (groomer-group T s x q, tt)
+        where
+          go : (t : ℕ) → t < T .count → Conflicts.Ways T (x .turn) t → HeldBy (x .turn) t (byGroomer T (x .turn) ∷ [])
+          go t l (Conflicts.slopes h) = is-j (alone single t l h)
+          go t l (Conflicts.groomers h) = in-first h
+          go t l (Conflicts.drivers h) = absurd (no-driver t h)
 
 -- ---- against feasible sets
 
@@ -107,10 +154,22 @@ module _ (T : Turns) (lengths : PositiveLengths T) {R : List ℕ} (feasible : Fe
   apart = apart-all (feasible .numbers) (feasible .once) (feasible .apart)
 
   module _ {xs : List Step} (right : RightSteps T (initial T) xs) (closed : Closed T (afterSteps T (initial T) xs)) where
-    -- the factor 2 of 5.2.1 and 5.2.4: every feasible set is worth at most twice the tally
-    pub bound-twice : worthOf T R ≤ 2 * tally xs
-    bound-twice = bound-times T R (feasible .numbers) apart 2 (two-groups T R (feasible .numbers) apart) right closed
+    -- any factor k, if a right step takes at most k times its amount from the set
+    bound-by : (k : ℕ) → ((s : List ℤ) (x : Step) → Right T s x → sum (taken T s x) R ≤ k * x .amount) → worthOf T R ≤ k * tally xs
+    bound-by k h = bound-times T R (feasible .numbers) apart k h right closed
 
-    -- the factor 1 of 5.2.2: at most the tally, where no slope has two turns
-    pub bound-once : OneTurnASlope T → worthOf T R ≤ tally xs
-    bound-once single = omega (arith, bound-times T R (feasible .numbers) apart 1 (single-group T R (feasible .numbers) apart single) right closed)
+    -- the factor 3 of 5.2.4, two machines: every feasible set is worth at most three times the tally
+    pub bound-thrice : worthOf T R ≤ 3 * tally xs
+    bound-thrice = bound-by 3 (three-groups T R (feasible .numbers) apart)
+
+    -- twice, where no slope has two turns
+    pub bound-twice-one-turn : OneTurnASlope T → worthOf T R ≤ 2 * tally xs
+    bound-twice-one-turn single = bound-by 2 (λ s x q. machine-groups T R (feasible .numbers) apart s x q single)
+
+    -- without drivers, the factor 2 of 5.2.1 and 5.2.4, one machine: at most twice the tally
+    pub bound-twice : NoDrivers T → worthOf T R ≤ 2 * tally xs
+    bound-twice free = bound-by 2 (λ s x q. two-groups T R (feasible .numbers) apart s x q free)
+
+    -- without drivers, the factor 1 of 5.2.2: at most the tally, where no slope has two turns
+    pub bound-once : NoDrivers T → OneTurnASlope T → worthOf T R ≤ tally xs
+    bound-once free single = omega (arith, bound-by 1 (λ s x q. single-group T R (feasible .numbers) apart s x q free single))

@@ -5,7 +5,7 @@ use mathlib.Core.Bool.{true, false}
 use Prim.Native.Nat.{ℕ, _+_, _-_, _≤_, _<_, max}
 use native.Mathlib.Omega.{arith}
 use native.Mathlib.Decide.{decLt}
-use Rattle.model.specs.Turns.{Turns, PositiveLengths, overlap, conflict, Holds, Conflict, same-slope, same-groomer, Near, shared, after, before}
+use Rattle.model.specs.Turns.{Turns, PositiveLengths, OneDriver, overlap, conflict, Holds, Conflict, same-slope, same-groomer, same-driver, Near, shared, after, before}
 use Rattle.lists.proofs.Bools.{not-both, fails}
 use Rattle.model.proofs.Conflicts
 
@@ -45,6 +45,7 @@ module _ (T : Turns) where
   pub reads-conflict : (x y : ℕ) → Conflict T x y → conflict T x y ≡ true
   reads-conflict x y (same-slope e) = Conflicts.conflicts T x y (Conflicts.slopes (Conflicts.is-slope T x y e))
   reads-conflict x y (same-groomer e m p q) = Conflicts.conflicts T x y (Conflicts.groomers (Conflicts.is-groomer T x y e (minute-overlap x y m p q)))
+  reads-conflict x y (same-driver d m p q) = Conflicts.conflicts T x y (Conflicts.drivers (Conflicts.is-driver T x y d (minute-overlap x y m p q)))
 
   module _ (lengths : PositiveLengths T) where
     pub conflict-reads : (x y : ℕ) → x < T .count → y < T .count → conflict T x y ≡ true → Conflict T x y
@@ -56,21 +57,36 @@ module _ (T : Turns) where
             let g = Conflicts.groomer-is T x y h in
             let m = overlap-minute x y (lengths x hx) (lengths y hy) (g .1) in
             same-groomer (g .0) (m .0) (m .1) (m .2)
+        go (Conflicts.drivers h) =
+            let d = Conflicts.driver-is T x y h in
+            let m = overlap-minute x y (lengths x hx) (lengths y hy) (d .1) in
+            same-driver (d .0) (m .0) (m .1) (m .2)
 
     pub conflict-is : (x y : ℕ) → x < T .count → y < T .count → conflict T x y ≡ true ↔ Conflict T x y
     conflict-is x y hx hy = (conflict-reads x y hx hy, reads-conflict x y)
 
     -- conflict in the second form of the words
-    pub conflict-near : (x y : ℕ) → x < T .count → y < T .count → conflict T x y ≡ true ↔ ((T .slope x ≡ T .slope y) ⊎ ((T .groomer x ≡ T .groomer y) × Near T x y))
+    abbrev NearConflict : ℕ → ℕ → Type 0
+    NearConflict x y = (T .slope x ≡ T .slope y) ⊎ (((T .groomer x ≡ T .groomer y) ⊎ OneDriver T x y) × Near T x y)
+
+    pub conflict-near : (x y : ℕ) → x < T .count → y < T .count → conflict T x y ≡ true ↔ NearConflict x y
     conflict-near x y hx hy = (λ e. to (Conflicts.ways T x y e), from)
       where
-        to : Conflicts.Ways T x y → (T .slope x ≡ T .slope y) ⊎ ((T .groomer x ≡ T .groomer y) × Near T x y)
-        to (Conflicts.slopes h) = inl (Conflicts.slope-is T x y h)
-        to (Conflicts.groomers h) = let g = Conflicts.groomer-is T x y h in inr (g .0, overlap-near x y (lengths x hx) (lengths y hy) (g .1))
+        near : overlap T x y ≡ true → Near T x y
+        near e = overlap-near x y (lengths x hx) (lengths y hy) e
 
-        from : (T .slope x ≡ T .slope y) ⊎ ((T .groomer x ≡ T .groomer y) × Near T x y) → conflict T x y ≡ true
+        meets : Near T x y → overlap T x y ≡ true
+        meets n = near-overlap x y (lengths x hx) (lengths y hy) n
+
+        to : Conflicts.Ways T x y → NearConflict x y
+        to (Conflicts.slopes h) = inl (Conflicts.slope-is T x y h)
+        to (Conflicts.groomers h) = let g = Conflicts.groomer-is T x y h in inr (inl (g .0), near (g .1))
+        to (Conflicts.drivers h) = let d = Conflicts.driver-is T x y h in inr (inr (d .0), near (d .1))
+
+        from : NearConflict x y → conflict T x y ≡ true
         from (inl e) = Conflicts.conflicts T x y (Conflicts.slopes (Conflicts.is-slope T x y e))
-        from (inr (e, n)) = Conflicts.conflicts T x y (Conflicts.groomers (Conflicts.is-groomer T x y e (near-overlap x y (lengths x hx) (lengths y hy) n)))
+        from (inr (inl e, n)) = Conflicts.conflicts T x y (Conflicts.groomers (Conflicts.is-groomer T x y e (meets n)))
+        from (inr (inr d, n)) = Conflicts.conflicts T x y (Conflicts.drivers (Conflicts.is-driver T x y d (meets n)))
 
     pub no-conflict-is : (x y : ℕ) → x < T .count → y < T .count → conflict T x y ≡ false ↔ (Conflict T x y → ⊥)
     no-conflict-is x y hx hy = (λ e c. not-both (reads-conflict x y c) e, λ h. fails (conflict T x y) (λ e. h (conflict-reads x y hx hy e)))

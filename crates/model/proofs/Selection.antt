@@ -9,7 +9,7 @@ use native.Mathlib.Decide.{ℕ-discrete, decLt}
 use lib.IntN.{ℤ, pos, _-ℤ_, +ℤ-idr}
 use lib.ListN.{set, replicate, getD-replicate}
 use lib.Seq.{getD-set-same, getD-set-other}
-use Rattle.model.specs.Turns.{Turns, PositiveLengths, bySlope, byGroomer, conflict}
+use Rattle.model.specs.Turns.{Turns, PositiveLengths, bySlope, byGroomer, byDriver, conflict}
 use Rattle.model.specs.Steps.{Step, residual, above, part, isOpen, left, initial, afterStep}
 use Rattle.model.specs.Choice.{has, fits, choose, fill, goBack, choice}
 use Rattle.model.specs.Pick.{pick, nextStep, plan, steps, Picked}
@@ -60,7 +60,7 @@ module _ (T : Turns) where
 
   neighbour-is : (j t : ℕ) → neighbour T j t ≡ conflict T j t
   unfolding neighbour conflict
-  neighbour-is j t = go (bySlope T j t) (byGroomer T j t)
+  neighbour-is j t = go (bySlope T j t) (byGroomer T j t || byDriver T j t)
     where
       go : (a b : Bool) → (a || (not a && b)) ≡ (a || b)
       go true b = refl

@@ -1,4 +1,4 @@
--- Algorithm IS of the source document, section 5.2.1, line by line, with the machines of 5.2.4: an interval is a turn, its activity the slope, its machine the groomer. Two intervals of a machine intersect where the turns overlap, with the gap between turns counted to each; the source's own case is a gap of 0. Sets of intervals are lists of Bool. Assumes nothing.
+-- Algorithm IS of the source document, section 5.2.1, line by line, with the machines of 5.2.4: an interval is a turn, its activity the slope, its machine the groomer, and a driver, where the turn names one, a further machine that it needs. Two intervals of a machine intersect where the turns overlap, with the gap between turns counted to each; the source's own case is a gap of 0. Sets of intervals are lists of Bool. Assumes nothing.
 use mathlib.Core.Path.{_≡_}
 use mathlib.Core.Logic.{_≢_}
 use mathlib.Core.Bool.{Bool, true, false, not, cond, _&&_, _||_}
@@ -6,15 +6,15 @@ use mathlib.Core.List.{List, [], _∷_}
 use Prim.Native.Nat.{ℕ, _<_}
 use lib.IntN.{ℤ, pos, _-ℤ_}
 use lib.ListN.{set, replicate}
-use Rattle.model.specs.Turns.{Turns, bySlope, byGroomer}
+use Rattle.model.specs.Turns.{Turns, bySlope, byGroomer, byDriver}
 use Rattle.model.specs.Steps.{Step, above, part}
 use Rattle.model.specs.Pick.{Precedes}
 use Rattle.model.specs.Choice.{has}
 use Rattle.model.specs.Rules.{Independent}
 
--- I is of J's activity, as J is, or of another one and intersects J on the same machine
+-- I is of J's activity, as J is, or of another one and intersects J on a machine that both need
 unfoldable pub neighbour : Turns → ℕ → ℕ → Bool
-neighbour T J I = bySlope T J I || (not (bySlope T J I) && byGroomer T J I)
+neighbour T J I = bySlope T J I || (not (bySlope T J I) && (byGroomer T J I || byDriver T J I))
 
 -- line 6: the weight that is split off
 unfoldable pub w₁ : Turns → (ℕ → ℤ) → ℕ → ℕ → ℤ

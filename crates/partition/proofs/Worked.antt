@@ -12,7 +12,7 @@ use Rattle.partition.specs.Numbering.{comesFirst, orderByStart, freeFor,
 
 -- a turn from its start for so many minutes; its other fields play no part
 abbrev turn : ℕ → ℕ → Turn
-turn start minutes = record { slope = 1; groomer = 1; start = start; length = minutes; worth = 1 }
+turn start minutes = record { slope = 1; groomer = 1; start = start; length = minutes; worth = 1; driver = 0 }
 
 abbrev numbers : List Turn → List ℕ
 numbers ts = numbersOf (problemOf 10 ts)

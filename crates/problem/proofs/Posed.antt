@@ -13,7 +13,7 @@ use Rattle.refusal.specs.Cause.{firstOf}
 use Rattle.lists.proofs.Bools.{up-to}
 use Rattle.turns.specs.declared.Turn.{Turn}
 use Rattle.turns.specs.Turn.{rowNumbers, turnIn, shiftMinutes, mostWorth, InRange}
-use Rattle.model.specs.Turns.{Turns, PositiveLengths}
+use Rattle.model.specs.Turns.{PositiveLengths}
 use Rattle.sheet.specs.declared.reader.ReadAnswer.{ReadAnswer}
 use Rattle.sheet.specs.Kind.{mostTurns}
 use Rattle.sheet.specs.Read.{countsIn, turnCount, sheetCauses, turnsOf, tableOf, answerOf}
@@ -31,7 +31,7 @@ use Rattle.problem.proofs.Rows.{row-length, row-new, row-other}
 -- ---- one turn
 
 module _ (table : List ℕ) (t : ℕ) {a : Turn} (e : a ≡ turnIn table t) where
-  pub row-from-is : _≡_ {A = Row} (record { slope = a .slope; groomer = a .groomer; start = a .start; end = a .start + a .length; worth = a .worth }) (rowFor (turnIn table t))
+  pub row-from-is : _≡_ {A = Row} (record { slope = a .slope; groomer = a .groomer; start = a .start; end = a .start + a .length; worth = a .worth; driver = a .driver }) (rowFor (turnIn table t))
   unfolding rowFor
   row-from-is = rw e
 
@@ -121,6 +121,7 @@ module _ (s : List ℕ) (z : firstOf (sheetCauses s) ≡ 0) where
       start = λ t. same (λ r. r .start) (λ u. u .start) refl (λ u. refl) t j;
       end = λ t. same (λ r. r .end) (λ u. u .start + u .length) refl (λ u. refl) t j;
       worth = λ t. same (λ r. r .worth) (λ u. u .worth) refl (λ u. refl) t j;
+      driver = λ t. same (λ r. r .driver) (λ u. u .driver) refl (λ u. refl) t j;
     }
 
     pub posed : Posed s cols
@@ -165,6 +166,7 @@ module _ (s lent t : List ℕ) (r : ReadAnswer) (e : (r ≡ answerOf s) × (r .r
         start = number (i * rowNumbers + 2) (omega arith) j;
         length = number (i * rowNumbers + 3) (omega arith) j;
         worth = number (i * rowNumbers + 4) (omega arith) j;
+        driver = number (i * rowNumbers + 5) (omega arith) j;
       }
 
   pub load-fits : EndsFit (r .turns) t

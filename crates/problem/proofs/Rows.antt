@@ -7,24 +7,24 @@ use native.Mathlib.Omega.{arith}
 use lib.ListN.{length, getD, set, length-set}
 use lib.Seq.{getD-set-same, getD-set-other}
 use borrow.Author.Tests.{lt-ltb}
-use Rattle.model.specs.Turns.{Turns, PositiveLengths, oneGroomer, conflict}
+use Rattle.model.specs.Turns.{Turns, PositiveLengths, oneGroomer, oneDriver, conflict}
 use Rattle.sheet.specs.Kind.{mostTurns}
 use Rattle.problem.specs.declared.ways.Row.{Row}
 use Rattle.problem.specs.declared.ways.Ways.{Ways}
 use Rattle.problem.specs.declared.columns.Size.{Size}
 use Rattle.problem.specs.Ways.{turnRow, sharedOf, conflicting}
 use Rattle.problem.specs.Columns.{columnPlaces, rowIn, withRow, within, turnsBy, Held}
-use Rattle.problem.proofs.Conflicting.{rows-conflict, shared-groomer}
+use Rattle.problem.proofs.Conflicting.{rows-conflict, shared-groomer, shared-driver}
 
 -- ---- as the code leaves them
 
 pub row-read : (cols : List ℕ) (i : ℕ)
-    → _≡_ {A = Row} (record { slope = getD cols i 0; groomer = getD cols (mostTurns + i) 0; start = getD cols (2 * mostTurns + i) 0; end = getD cols (3 * mostTurns + i) 0; worth = getD cols (4 * mostTurns + i) 0 }) (rowIn cols i)
+    → _≡_ {A = Row} (record { slope = getD cols i 0; groomer = getD cols (mostTurns + i) 0; start = getD cols (2 * mostTurns + i) 0; end = getD cols (3 * mostTurns + i) 0; worth = getD cols (4 * mostTurns + i) 0; driver = getD cols (5 * mostTurns + i) 0 }) (rowIn cols i)
 unfolding rowIn
 row-read cols i = refl
 
 pub row-put : (cols : List ℕ) (i : ℕ) (r : Row)
-    → set (set (set (set (set cols i (r .slope)) (mostTurns + i) (r .groomer)) (2 * mostTurns + i) (r .start)) (3 * mostTurns + i) (r .end)) (4 * mostTurns + i) (r .worth) ≡ withRow cols i r
+    → set (set (set (set (set (set cols i (r .slope)) (mostTurns + i) (r .groomer)) (2 * mostTurns + i) (r .start)) (3 * mostTurns + i) (r .end)) (4 * mostTurns + i) (r .worth)) (5 * mostTurns + i) (r .driver) ≡ withRow cols i r
 unfolding withRow
 row-put cols i r = refl
 
@@ -45,14 +45,18 @@ module _ (cols : List ℕ) (i : ℕ) (r : Row) where
   abbrev c₄ : List ℕ
   c₄ = set c₃ (3 * mostTurns + i) (r .end)
 
+  abbrev c₅ : List ℕ
+  c₅ = set c₄ (4 * mostTurns + i) (r .worth)
+
   pub row-length : length (withRow cols i r) ≡ length cols
   unfolding withRow
   row-length = simp length-set
 
-  kept : (k : ℕ) → (k ≡ i → ⊥) → (k ≡ mostTurns + i → ⊥) → (k ≡ 2 * mostTurns + i → ⊥) → (k ≡ 3 * mostTurns + i → ⊥) → (k ≡ 4 * mostTurns + i → ⊥) → getD (withRow cols i r) k 0 ≡ getD cols k 0
+  kept : (k : ℕ) → (k ≡ i → ⊥) → (k ≡ mostTurns + i → ⊥) → (k ≡ 2 * mostTurns + i → ⊥) → (k ≡ 3 * mostTurns + i → ⊥) → (k ≡ 4 * mostTurns + i → ⊥) → (k ≡ 5 * mostTurns + i → ⊥) → getD (withRow cols i r) k 0 ≡ getD cols k 0
   unfolding withRow
-  kept k a b c d e =
-      getD-set-other c₄ (4 * mostTurns + i) k (r .worth) 0 e
+  kept k a b c d e f =
+      getD-set-other c₅ (5 * mostTurns + i) k (r .driver) 0 f
+      ∙ getD-set-other c₄ (4 * mostTurns + i) k (r .worth) 0 e
       ∙ getD-set-other c₃ (3 * mostTurns + i) k (r .end) 0 d
       ∙ getD-set-other c₂ (2 * mostTurns + i) k (r .start) 0 c
       ∙ getD-set-other c₁ (mostTurns + i) k (r .groomer) 0 b
@@ -62,11 +66,12 @@ module _ (cols : List ℕ) (i : ℕ) (r : Row) where
   pub row-other : (k : ℕ) → k < mostTurns → i < mostTurns → (k ≡ i → ⊥) → rowIn (withRow cols i r) k ≡ rowIn cols k
   unfolding rowIn
   row-other k l h d = λ j. record {
-    slope = kept k d (omega arith) (omega arith) (omega arith) (omega arith) j;
-    groomer = kept (mostTurns + k) (omega arith) (λ e. d (omega arith)) (omega arith) (omega arith) (omega arith) j;
-    start = kept (2 * mostTurns + k) (omega arith) (omega arith) (λ e. d (omega arith)) (omega arith) (omega arith) j;
-    end = kept (3 * mostTurns + k) (omega arith) (omega arith) (omega arith) (λ e. d (omega arith)) (omega arith) j;
-    worth = kept (4 * mostTurns + k) (omega arith) (omega arith) (omega arith) (omega arith) (λ e. d (omega arith)) j;
+    slope = kept k d (omega arith) (omega arith) (omega arith) (omega arith) (omega arith) j;
+    groomer = kept (mostTurns + k) (omega arith) (λ e. d (omega arith)) (omega arith) (omega arith) (omega arith) (omega arith) j;
+    start = kept (2 * mostTurns + k) (omega arith) (omega arith) (λ e. d (omega arith)) (omega arith) (omega arith) (omega arith) j;
+    end = kept (3 * mostTurns + k) (omega arith) (omega arith) (omega arith) (λ e. d (omega arith)) (omega arith) (omega arith) j;
+    worth = kept (4 * mostTurns + k) (omega arith) (omega arith) (omega arith) (omega arith) (λ e. d (omega arith)) (omega arith) j;
+    driver = kept (5 * mostTurns + k) (omega arith) (omega arith) (omega arith) (omega arith) (omega arith) (λ e. d (omega arith)) j;
   }
 
   -- and the new one is there
@@ -83,14 +88,18 @@ module _ (cols : List ℕ) (i : ℕ) (r : Row) where
     l₄ : length c₄ ≡ columnPlaces
     l₄ = simp length-set w
 
+    l₅ : length c₅ ≡ columnPlaces
+    l₅ = simp length-set w
+
     pub row-new : rowIn (withRow cols i r) i ≡ r
     unfolding rowIn withRow
     row-new = λ j. record {
-      slope = (getD-set-other c₄ (4 * mostTurns + i) i (r .worth) 0 (omega arith) ∙ getD-set-other c₃ (3 * mostTurns + i) i (r .end) 0 (omega arith) ∙ getD-set-other c₂ (2 * mostTurns + i) i (r .start) 0 (omega arith) ∙ getD-set-other c₁ (mostTurns + i) i (r .groomer) 0 (omega arith) ∙ getD-set-same cols i (r .slope) 0 (omega arith)) j;
-      groomer = (getD-set-other c₄ (4 * mostTurns + i) (mostTurns + i) (r .worth) 0 (omega arith) ∙ getD-set-other c₃ (3 * mostTurns + i) (mostTurns + i) (r .end) 0 (omega arith) ∙ getD-set-other c₂ (2 * mostTurns + i) (mostTurns + i) (r .start) 0 (omega arith) ∙ getD-set-same c₁ (mostTurns + i) (r .groomer) 0 (omega (arith, l₁))) j;
-      start = (getD-set-other c₄ (4 * mostTurns + i) (2 * mostTurns + i) (r .worth) 0 (omega arith) ∙ getD-set-other c₃ (3 * mostTurns + i) (2 * mostTurns + i) (r .end) 0 (omega arith) ∙ getD-set-same c₂ (2 * mostTurns + i) (r .start) 0 (omega (arith, l₂))) j;
-      end = (getD-set-other c₄ (4 * mostTurns + i) (3 * mostTurns + i) (r .worth) 0 (omega arith) ∙ getD-set-same c₃ (3 * mostTurns + i) (r .end) 0 (omega (arith, l₃))) j;
-      worth = getD-set-same c₄ (4 * mostTurns + i) (r .worth) 0 (omega (arith, l₄)) j;
+      slope = (getD-set-other c₅ (5 * mostTurns + i) i (r .driver) 0 (omega arith) ∙ getD-set-other c₄ (4 * mostTurns + i) i (r .worth) 0 (omega arith) ∙ getD-set-other c₃ (3 * mostTurns + i) i (r .end) 0 (omega arith) ∙ getD-set-other c₂ (2 * mostTurns + i) i (r .start) 0 (omega arith) ∙ getD-set-other c₁ (mostTurns + i) i (r .groomer) 0 (omega arith) ∙ getD-set-same cols i (r .slope) 0 (omega arith)) j;
+      groomer = (getD-set-other c₅ (5 * mostTurns + i) (mostTurns + i) (r .driver) 0 (omega arith) ∙ getD-set-other c₄ (4 * mostTurns + i) (mostTurns + i) (r .worth) 0 (omega arith) ∙ getD-set-other c₃ (3 * mostTurns + i) (mostTurns + i) (r .end) 0 (omega arith) ∙ getD-set-other c₂ (2 * mostTurns + i) (mostTurns + i) (r .start) 0 (omega arith) ∙ getD-set-same c₁ (mostTurns + i) (r .groomer) 0 (omega (arith, l₁))) j;
+      start = (getD-set-other c₅ (5 * mostTurns + i) (2 * mostTurns + i) (r .driver) 0 (omega arith) ∙ getD-set-other c₄ (4 * mostTurns + i) (2 * mostTurns + i) (r .worth) 0 (omega arith) ∙ getD-set-other c₃ (3 * mostTurns + i) (2 * mostTurns + i) (r .end) 0 (omega arith) ∙ getD-set-same c₂ (2 * mostTurns + i) (r .start) 0 (omega (arith, l₂))) j;
+      end = (getD-set-other c₅ (5 * mostTurns + i) (3 * mostTurns + i) (r .driver) 0 (omega arith) ∙ getD-set-other c₄ (4 * mostTurns + i) (3 * mostTurns + i) (r .worth) 0 (omega arith) ∙ getD-set-same c₃ (3 * mostTurns + i) (r .end) 0 (omega (arith, l₃))) j;
+      worth = (getD-set-other c₅ (5 * mostTurns + i) (4 * mostTurns + i) (r .driver) 0 (omega arith) ∙ getD-set-same c₄ (4 * mostTurns + i) (r .worth) 0 (omega (arith, l₄))) j;
+      driver = getD-set-same c₅ (5 * mostTurns + i) (r .driver) 0 (omega (arith, l₅)) j;
     }
 
 -- ---- the problem
@@ -117,6 +126,7 @@ module _ (p : Size) (cols : List ℕ) where
     start = sym (within-at (p .count) (λ i. rowIn cols i .start) t h) j;
     end = sym (within-at (p .count) (λ i. rowIn cols i .end) t h) j;
     worth = sym (within-at (p .count) (λ i. rowIn cols i .worth) t h) j;
+    driver = sym (within-at (p .count) (λ i. rowIn cols i .driver) t h) j;
   }
 
   gapped : (x y : ℕ) → conflicting (p .gap) (turnRow (turnsBy p cols) x) (turnRow (turnsBy p cols) y) ≡ conflict (turnsBy p cols) x y
@@ -128,6 +138,9 @@ module _ (p : Size) (cols : List ℕ) where
 
   pub rows-groomer-is : (x y : ℕ) {a b : Row} {w : Ways} → x < p .count → y < p .count → a ≡ rowIn cols x → b ≡ rowIn cols y → w ≡ sharedOf a b → w .groomer ≡ oneGroomer (turnsBy p cols) x y
   rows-groomer-is x y h k e f g = ap (λ (w : Ways). w .groomer) g ∙ rw (e, f, row-is x h, row-is y k) (shared-groomer (turnsBy p cols) x y)
+
+  pub rows-driver-is : (x y : ℕ) {a b : Row} {w : Ways} → x < p .count → y < p .count → a ≡ rowIn cols x → b ≡ rowIn cols y → w ≡ sharedOf a b → w .driver ≡ oneDriver (turnsBy p cols) x y
+  rows-driver-is x y h k e f g = ap (λ (w : Ways). w .driver) g ∙ rw (e, f, row-is x h, row-is y k) (shared-driver (turnsBy p cols) x y)
 
   -- a number of turn t, from its row
   module _ (t : ℕ) {a : Row} (h : t < p .count) (e : a ≡ rowIn cols t) where

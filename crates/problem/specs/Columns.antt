@@ -1,4 +1,4 @@
--- Turns in columns of numbers, one column behind another: slopes, groomers, starts, ends, worths. Assumes nothing.
+-- Turns in columns of numbers, one column behind another: slopes, groomers, starts, ends, worths, drivers. Assumes nothing.
 use mathlib.Core.Path.{_≡_}
 use mathlib.Core.Bool.{cond}
 use mathlib.Core.List.{List}
@@ -13,7 +13,7 @@ use Rattle.problem.specs.declared.columns.Size.{Size}
 
 -- how many columns there are
 abbrev pub columnCount : ℕ
-columnCount = 5
+columnCount = 6
 
 -- the places of all of them
 abbrev pub columnPlaces : ℕ
@@ -28,12 +28,13 @@ rowIn cols i =
       start = getD cols (2 * mostTurns + i) 0;
       end = getD cols (3 * mostTurns + i) 0;
       worth = getD cols (4 * mostTurns + i) 0;
+      driver = getD cols (5 * mostTurns + i) 0;
     }
 
 -- the columns with a row at place i
 unfoldable pub withRow : List ℕ → ℕ → Row → List ℕ
 withRow cols i r =
-    set (set (set (set (set cols i (r .slope)) (mostTurns + i) (r .groomer)) (2 * mostTurns + i) (r .start)) (3 * mostTurns + i) (r .end)) (4 * mostTurns + i) (r .worth)
+    set (set (set (set (set (set cols i (r .slope)) (mostTurns + i) (r .groomer)) (2 * mostTurns + i) (r .start)) (3 * mostTurns + i) (r .end)) (4 * mostTurns + i) (r .worth)) (5 * mostTurns + i) (r .driver)
 
 -- what is read of the first n places; 0 behind them
 unfoldable pub within : ℕ → (ℕ → ℕ) → ℕ → ℕ
@@ -50,6 +51,7 @@ turnsBy p cols =
       start = within (p .count) (λ i. rowIn cols i .start);
       end = within (p .count) (λ i. rowIn cols i .end);
       worth = within (p .count) (λ i. rowIn cols i .worth);
+      driver = within (p .count) (λ i. rowIn cols i .driver);
     }
 
 -- ---- as statements

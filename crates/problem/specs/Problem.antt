@@ -8,9 +8,9 @@ use Rattle.sheet.specs.Read.{turnsOf}
 
 -- behind the last turn everything reads as 0
 abbrev pub noTurn : Turn
-noTurn = record { slope = 0; groomer = 0; start = 0; length = 0; worth = 0 }
+noTurn = record { slope = 0; groomer = 0; start = 0; length = 0; worth = 0; driver = 0 }
 
--- turns in their order, with the free minutes that a groomer needs between two of its turns; a turn's end is its start plus its length
+-- turns in their order, with the free minutes that a groomer or a driver needs between two of its turns; a turn's end is its start plus its length
 unfoldable pub problemOf : ℕ → List Turn → Turns
 problemOf gap ts =
     record {
@@ -21,9 +21,10 @@ problemOf gap ts =
       start = λ t. getD ts t noTurn .start;
       end = λ t. getD ts t noTurn .start + getD ts t noTurn .length;
       worth = λ t. getD ts t noTurn .worth;
+      driver = λ t. getD ts t noTurn .driver;
     }
 
--- the free minutes that a groomer needs between two turns of a shift
+-- the free minutes that a groomer or a driver needs between two turns of a shift
 abbrev pub shiftGap : ℕ
 shiftGap = 10
 

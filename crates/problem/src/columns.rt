@@ -1,5 +1,5 @@
-// Turns in columns: all slopes, all groomers, all starts, all ends, all worths. What is done to every
-// turn at each step reads them side by side.
+// Turns in columns: all slopes, all groomers, all starts, all ends, all worths, all drivers. What is
+// done to every turn at each step reads them side by side.
 ghost use mathlib.Core.Path.{_≡_};
 ghost use Prim.Native.Nat.{_+_, _*_, _<_};
 ghost use Rattle.sheet.specs.Kind.{mostTurns};
@@ -9,8 +9,8 @@ use super::ways::Row;
 // A column has a place for each turn that a sheet can have.
 pub const MOST_TURNS: usize = sheet::MOST_TURNS as usize;
 
-// Slopes, groomers, starts, ends, worths.
-const COLUMNS: usize = 5;
+// Slopes, groomers, starts, ends, worths, drivers.
+const COLUMNS: usize = 6;
 
 pub const PLACES: usize = COLUMNS * MOST_TURNS;
 
@@ -22,7 +22,9 @@ const ENDS: usize = 3 * MOST_TURNS;
 
 const WORTHS: usize = 4 * MOST_TURNS;
 
-// How many turns there are, and the free minutes that a groomer needs between two of its turns.
+const DRIVERS: usize = 5 * MOST_TURNS;
+
+// How many turns there are, and the free minutes that a groomer or a driver needs between two turns.
 pub struct Size {
     pub count: usize,
     pub gap: u16,
@@ -39,6 +41,7 @@ pub fn row_at(cols: &[u16; PLACES], i: usize) -> Row
         start: cols[STARTS + i],
         end: cols[ENDS + i],
         worth: cols[WORTHS + i],
+        driver: cols[DRIVERS + i],
     }
 }
 
@@ -52,4 +55,5 @@ pub fn put_row(cols: &mut [u16; PLACES], i: usize, r: Row)
     cols[STARTS + i] = r.start;
     cols[ENDS + i] = r.end;
     cols[WORTHS + i] = r.worth;
+    cols[DRIVERS + i] = r.driver;
 }

@@ -15,7 +15,7 @@ use super::ways::Row;
 use sheet::ReadAnswer;
 use sheet::TABLE_PLACES;
 
-// The free minutes that a groomer needs between two turns of a shift.
+// The free minutes that a groomer or a driver needs between two turns of a shift.
 const SHIFT_GAP: u16 = 10;
 
 // A shift's size: as many turns as its sheet has.
@@ -40,6 +40,7 @@ fn row_from(table: &[u16], n: usize, t: usize) -> Row
         start: turn.start,
         end: turn.start + turn.length,
         worth: turn.worth,
+        driver: turn.driver,
     }
 }
 

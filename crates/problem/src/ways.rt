@@ -4,19 +4,21 @@ ghost use Prim.Native.Nat.{_<_};
 ghost use Rattle.model.specs.Turns.{overlapping};
 ghost use Rattle.problem.specs.Ways.{sharedOf, waysOf, conflicting};
 
-// What the engine asks of a turn.
+// What the engine asks of a turn. Driver 0 stands for none.
 pub struct Row {
     pub slope: u16,
     pub groomer: u16,
     pub start: u16,
     pub end: u16,
     pub worth: u16,
+    pub driver: u16,
 }
 
 // For each way in which two turns can conflict, whether it is there.
 pub struct Ways {
     pub slope: bool,
     pub groomer: bool,
+    pub driver: bool,
 }
 
 fn wide(x: u16) -> u32
@@ -40,6 +42,7 @@ pub fn shared_of(x: Row, y: Row) -> Ways
     Ways {
         slope: x.slope == y.slope,
         groomer: x.groomer == y.groomer,
+        driver: (0 < x.driver) & (x.driver == y.driver),
     }
 }
 
@@ -52,6 +55,7 @@ pub fn ways_of(gap: u16, x: Row, y: Row) -> Ways
     Ways {
         slope: shared.slope,
         groomer: shared.groomer & near,
+        driver: shared.driver & near,
     }
 }
 
@@ -60,5 +64,5 @@ pub fn rows_conflict(gap: u16, x: Row, y: Row) -> bool
     ensures { λ r. ⌜ r ≡ conflicting gap x y ⌝ }
 {
     let w = ways_of(gap, x, y);
-    w.slope | w.groomer
+    w.slope | (w.groomer | w.driver)
 }

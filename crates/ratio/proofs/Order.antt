@@ -2,7 +2,7 @@
 use Prim.Native.Nat.{ℕ, _+_, _<_, _≤_}
 use mathlib.Core.Path.{_≡_, refl, sym, _∙_}
 use mathlib.Core.List.{List}
-use mathlib.Core.Bool.{Bool, true, false, not, _&&_}
+use mathlib.Core.Bool.{Bool, true, false, not, _&&_, _||_}
 use native.Mathlib.Omega.{arith}
 use native.Mathlib.Numerals.{add-one}
 use lib.IntN.{ℤ}
@@ -17,15 +17,15 @@ use Rattle.problem.specs.declared.ways.Ways.{Ways}
 use Rattle.problem.specs.declared.columns.Size.{Size}
 use Rattle.problem.specs.Ways.{sharedOf}
 use Rattle.problem.specs.Columns.{rowIn, turnsBy}
-use Rattle.problem.proofs.Rows.{count-is, rows-groomer-is, end-at}
+use Rattle.problem.proofs.Rows.{count-is, rows-groomer-is, rows-driver-is, end-at}
 use Rattle.ratio.specs.Below.{earliestBelow}
 
 -- ---- one turn
 
 pub earlier-is : (p : Size) (cols : List ℕ) (s : List ℤ) (j t : ℕ) {o : Bool} {x y : Row} {w : Ways}
-    → j < p .count → t < p .count → o ≡ isOpen s t → x ≡ rowIn cols j → y ≡ rowIn cols t → w ≡ sharedOf x y → not (o && w .groomer && ltb (y .end) (x .end)) ≡ noEarlier (turnsBy p cols) s j t
+    → j < p .count → t < p .count → o ≡ isOpen s t → x ≡ rowIn cols j → y ≡ rowIn cols t → w ≡ sharedOf x y → not (o && (w .groomer || w .driver) && ltb (y .end) (x .end)) ≡ noEarlier (turnsBy p cols) s j t
 unfolding noEarlier
-earlier-is p cols s j t h k e f g q = rw (e, rows-groomer-is p cols j t h k f g q, end-at p cols j h f, end-at p cols t k g)
+earlier-is p cols s j t h k e f g q = rw (e, rows-groomer-is p cols j t h k f g q, rows-driver-is p cols j t h k f g q, end-at p cols j h f, end-at p cols t k g)
 
 -- ---- all turns
 

@@ -12,7 +12,7 @@ use problem::Size;
 use problem::row_at;
 use problem::shared_of;
 
-// Whether turn t is not an open turn of j's groomer with an earlier end. All three tests are always
+// Whether turn t is not an open turn of j's groomer or driver with an earlier end. All tests are always
 // done: a jump a turn would be guessed wrong too often.
 fn is_no_earlier(rest: &[i32], p: Size, cols: &[u16; PLACES], j: usize, t: usize) -> bool
     requires { ⌜ (j < p .count) × (t < p .count) × Residuals (p .count) (now rest) × Held p (now cols) ⌝ }
@@ -23,10 +23,10 @@ fn is_no_earlier(rest: &[i32], p: Size, cols: &[u16; PLACES], j: usize, t: usize
     let y = row_at(cols, t);
     let shared = shared_of(x, y);
     let earlier = y.end < x.end;
-    !(live & shared.groomer & earlier)
+    !(live & (shared.groomer | shared.driver) & earlier)
 }
 
-// Whether no open turn of j's groomer has an earlier end.
+// Whether no open turn of j's groomer or driver has an earlier end.
 fn is_earliest(rest: &[i32], p: Size, cols: &[u16; PLACES], j: usize) -> bool
     requires { ⌜ (j < p .count) × Residuals (p .count) (now rest) × Held p (now cols) ⌝ }
     ensures { λ r. ⌜ r ≡ earliestBelow (turnsBy p (now (cols .entry))) (now (rest .entry)) j (p .count) ⌝ }

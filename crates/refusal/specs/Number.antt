@@ -72,3 +72,7 @@ wrongSums = 17
 -- a table that does not make whole turns (uneven)
 abbrev pub partialTurn : ℕ
 partialTurn = 18
+
+-- a driver above 40
+abbrev pub badDriver : ℕ
+badDriver = 19

@@ -9,7 +9,7 @@ pub const BAD_COUNTS: u8 = 3; // fleet: groomers not in 1 to 16, or slopes not i
 
 pub const TOO_MANY_TURNS: u8 = 4; // crowded: more than 400 turns
 
-pub const BAD_MAP: u8 = 5; // blind: a record's map with a bit that it may not have, or a first map that is not full
+pub const BAD_MAP: u8 = 5; // blind: a record's map with a bit that it may not have, or a first map without a field that it needs
 
 pub const BAD_SLOPE: u8 = 6; // no slope: the slope is not in 1 to the number of slopes
 
@@ -36,3 +36,5 @@ pub const TURN_LEFT_OPEN: u8 = 16; // unpaid: some turn is still open when the s
 pub const WRONG_SUMS: u8 = 17; // sums: the amounts do not add up to the tally, the chosen worths not to the worth, or the tally is the greater of the two
 
 pub const PARTIAL_TURN: u8 = 18; // uneven: the numbers of a turn table do not make whole turns
+
+pub const BAD_DRIVER: u8 = 19; // the driver is above 40

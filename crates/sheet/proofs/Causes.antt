@@ -12,7 +12,7 @@ use Rattle.refusal.specs.Cause.{Cause, There, First, firstOf}
 use Rattle.refusal.proofs.Order.{first-iff}
 use Rattle.refusal.proofs.Places.{causeAt, there-at, at-there, there-left, there-right, there-split}
 use Rattle.wire.specs.Mark.{opensWith}
-use Rattle.turns.specs.Turn.{mostWorth, turnCauses}
+use Rattle.turns.specs.Turn.{mostWorth, mostDriver, turnCauses}
 use Rattle.turns.proofs.Ranges.{outside-iff, past-iff}
 use Rattle.sheet.specs.declared.kind.Kind.{Kind}
 use Rattle.sheet.specs.Kind.{garage, ThreeBytes}
@@ -20,7 +20,7 @@ use Rattle.sheet.specs.Record.{widthOf, endAt, firstCursor, recordCauses
 use Rattle.sheet.specs.Read.{headerBytes, countsIn, turnCount, countCauses, headerCauses, recordsCauses, causesFor, sheetCauses}
 use Rattle.sheet.proofs.SoundKinds.{garage-sound, mark-iff}
 use Rattle.sheet.proofs.Maps.{bad-map-iff}
-use Rattle.sheet.specs.Accepted.{cursorOf, recordMap, turnOf, placeOf, CauseFor, SheetCause, short-header, other-mark, groomer-count, slope-count, turn-count, no-map, wrong-map, short-fields, slope, groomer, time, worth, bytes-behind, FirstCause, FirstAmong}
+use Rattle.sheet.specs.Accepted.{cursorOf, recordMap, turnOf, placeOf, CauseFor, SheetCause, short-header, other-mark, groomer-count, slope-count, turn-count, no-map, wrong-map, short-fields, slope, groomer, time, worth, driver, bytes-behind, FirstCause, FirstAmong}
 
 other-mark-iff : {mark : List ℕ} → ThreeBytes mark → (s : List ℕ) → (not (opensWith mark s) ≡ true) ↔ (take 3 s ≢ mark)
 other-mark-iff {mark} b s = (λ e m. true≢false (sym (mark-iff b s .1 m) ∙ not-true (opensWith mark s) e), λ n. go (opensWith mark s) refl n)
@@ -51,7 +51,8 @@ module _ (K : Kind) (mark : ThreeBytes (K .mark)) (s : List ℕ) where
     record-cause k (suc (suc (suc (suc zero)))) e n = rw n (groomer i h (outside-iff (turnOf s i .groomer) (countsIn s .groomers) .0 e))
     record-cause k (suc (suc (suc (suc (suc zero))))) e n = rw n (time i h (past-iff (turnOf s i .start) (turnOf s i .length) .0 e))
     record-cause k (suc (suc (suc (suc (suc (suc zero)))))) e n = rw n (worth i h (outside-iff (turnOf s i .worth) mostWorth .0 e))
-    record-cause k (suc (suc (suc (suc (suc (suc (suc r))))))) e n = absurd (true≢false (sym e))
+    record-cause k (suc (suc (suc (suc (suc (suc (suc zero))))))) e n = rw n (driver i h (ltb-true mostDriver (turnOf s i .driver) e))
+    record-cause k (suc (suc (suc (suc (suc (suc (suc (suc r)))))))) e n = absurd (true≢false (sym e))
 
   -- what stands behind the last record
   end-cause : (k r : ℕ) → causeAt (recordsCauses K 0 s (countsIn s) (cursorOf s (turnCount s))) r .there ≡ true → k ≡ causeAt (recordsCauses K 0 s (countsIn s) (cursorOf s (turnCount s))) r .number
@@ -72,7 +73,7 @@ module _ (K : Kind) (mark : ThreeBytes (K .mark)) (s : List ℕ) where
       left : There (recordCauses K s (countsIn s) (cursorOf s i)) k r → CauseFor K s k (placeOf i r)
       left t = record-cause i (omega arith) k r (at-there t .0) (at-there t .1)
 
-      right : ((q : ℕ) → There (recordsCauses K n s (countsIn s) (cursorOf s (suc i))) k q → CauseFor K s k (placeOf (suc i) q)) → (q : ℕ) × (r ≡ 7 + q) × There (recordsCauses K n s (countsIn s) (cursorOf s (suc i))) k q
+      right : ((q : ℕ) → There (recordsCauses K n s (countsIn s) (cursorOf s (suc i))) k q → CauseFor K s k (placeOf (suc i) q)) → (q : ℕ) × (r ≡ 8 + q) × There (recordsCauses K n s (countsIn s) (cursorOf s (suc i))) k q
           → CauseFor K s k (placeOf i r)
       right ih x = let e : placeOf i r ≡ placeOf (suc i) (x .0) = omega (arith, x .1) in rw e (ih (x .0) (x .2))
 
@@ -89,18 +90,18 @@ module _ (K : Kind) (mark : ThreeBytes (K .mark)) (s : List ℕ) where
   -- ---- from the words to the list
 
   -- a cause of the records from number d on is one of all the records
-  skip : (d n : ℕ) {k r : ℕ} → There (recordsCauses K n s (countsIn s) (cursorOf s d)) k r → There (recordsCauses K (d + n) s (countsIn s) firstCursor) k (7 * d + r)
+  skip : (d n : ℕ) {k r : ℕ} → There (recordsCauses K n s (countsIn s) (cursorOf s d)) k r → There (recordsCauses K (d + n) s (countsIn s) firstCursor) k (8 * d + r)
   unfolding recordsCauses cursorOf recordCauses turnCauses
   skip zero n {k} {r} h = rw (zero-add n, zero-add r) h
   skip (suc d) n {k} {r} h =
-      let t : There (recordsCauses K (suc n) s (countsIn s) (cursorOf s d)) k (7 + r) = there-right (recordCauses K s (countsIn s) (cursorOf s d)) h in
+      let t : There (recordsCauses K (suc n) s (countsIn s) (cursorOf s d)) k (8 + r) = there-right (recordCauses K s (countsIn s) (cursorOf s d)) h in
       let a : suc d + n ≡ d + suc n = omega arith in
-      let b : 7 * suc d + r ≡ 7 * d + (7 + r) = omega arith in
+      let b : 8 * suc d + r ≡ 8 * d + (8 + r) = omega arith in
       subst₂ (λ (x y : ℕ). There (recordsCauses K x s (countsIn s) firstCursor) k y) (sym a) (sym b) (skip d (suc n) t)
 
   later-there : (d n : ℕ) {k r : ℕ} → d + n ≡ turnCount s → There (recordsCauses K n s (countsIn s) (cursorOf s d)) k r → There (causesFor K s) k (placeOf d r)
   unfolding causesFor headerCauses countCauses
-  later-there d n {k} {r} e h = there-right (headerCauses K s) (subst (λ (x : ℕ). There (recordsCauses K x s (countsIn s) firstCursor) k (7 * d + r)) e (skip d n h))
+  later-there d n {k} {r} e h = there-right (headerCauses K s) (subst (λ (x : ℕ). There (recordsCauses K x s (countsIn s) firstCursor) k (8 * d + r)) e (skip d n h))
 
   header-there : (r : ℕ) → causeAt (headerCauses K s) r .there ≡ true → There (causesFor K s) (causeAt (headerCauses K s) r .number) r
   unfolding causesFor
@@ -124,6 +125,7 @@ module _ (K : Kind) (mark : ThreeBytes (K .mark)) (s : List ℕ) where
   cause-there-for (groomer i l h) = record-there i l 4 (outside-iff (turnOf s i .groomer) (countsIn s .groomers) .1 h)
   cause-there-for (time i l h) = record-there i l 5 (past-iff (turnOf s i .start) (turnOf s i .length) .1 h)
   cause-there-for (worth i l h) = record-there i l 6 (outside-iff (turnOf s i .worth) mostWorth .1 h)
+  cause-there-for (driver i l h) = record-there i l 7 (lt-ltb mostDriver (turnOf s i .driver) h)
   cause-there-for (bytes-behind h) = later-there (turnCount s) 0 (omega arith) (there-at (recordsCauses K 0 s (countsIn s) (cursorOf s (turnCount s))) 0 (lt-ltb (cursorOf s (turnCount s) .at) (length s) h))
 
   pub causes-iff-for : (k r : ℕ) → CauseFor K s k r ↔ There (causesFor K s) k r

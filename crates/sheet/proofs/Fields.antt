@@ -20,7 +20,7 @@ use Rattle.turns.specs.Turn.{InRange, Numbered}
 use Rattle.turns.proofs.Ranges.{in-range-fine, fine-in-range}
 use Rattle.sheet.specs.declared.kind.Kind.{Kind}
 use Rattle.sheet.specs.declared.record.Cursor.{Cursor}
-use Rattle.sheet.specs.Record.{widthOf, field, turnFrom, badMapFor, mapAt, endAt, turnAt, recordCauses}
+use Rattle.sheet.specs.Record.{widthOf, recordBytes, field, turnFrom, badMapFor, mapAt, endAt, turnAt, recordCauses}
 use Rattle.sheet.specs.Layout.{fieldBytes, recordOf}
 use Rattle.sheet.specs.Accepted.{GoodMap, Carried}
 use Rattle.sheet.proofs.Maps.{good-map-iff}
@@ -51,8 +51,12 @@ field-read bit width v old size s at rest h z b k e = (field-is bit width v old 
 
 -- ---- a record
 
+pub width-most : (m : ℕ) → widthOf m < recordBytes
+unfolding widthOf
+width-most m = omega arith
+
 pub record-length : (m : ℕ) (t : Turn) → length (recordOf m t) ≡ 1 + widthOf m
-unfolding recordOf
+unfolding recordOf widthOf
 record-length m t =
     simp length-append
     (omega (
@@ -62,19 +66,20 @@ record-length m t =
       field-length (m / 4 % 2) 2 (t .start) (omega arith),
       field-length (m / 8 % 2) 2 (t .length) (omega arith),
       field-length (m / 16 % 2) 2 (t .worth) (omega arith),
+      field-length (m / 32 % 2) 1 (t .driver) (omega arith),
     ))
 
 -- a record and what follows it, field by field
-five : (a b c d e r : List ℕ) → (a ++ (b ++ (c ++ (d ++ e)))) ++ r ≡ a ++ (b ++ (c ++ (d ++ (e ++ r))))
-five a b c d e r = simp append-assoc
+six : (a b c d e f r : List ℕ) → (a ++ (b ++ (c ++ (d ++ (e ++ f))))) ++ r ≡ a ++ (b ++ (c ++ (d ++ (e ++ (f ++ r)))))
+six a b c d e f r = simp append-assoc
 
 record-append : (m : ℕ) (t : Turn) (rest : List ℕ) → recordOf m t ++ rest
-    ≡ m ∷ (fieldBytes (m % 2) 1 (t .slope) ++ (fieldBytes (m / 2 % 2) 1 (t .groomer) ++ (fieldBytes (m / 4 % 2) 2 (t .start) ++ (fieldBytes (m / 8 % 2) 2 (t .length) ++ (fieldBytes (m / 16 % 2) 2 (t .worth) ++ rest)))))
+    ≡ m ∷ (fieldBytes (m % 2) 1 (t .slope) ++ (fieldBytes (m / 2 % 2) 1 (t .groomer) ++ (fieldBytes (m / 4 % 2) 2 (t .start) ++ (fieldBytes (m / 8 % 2) 2 (t .length) ++ (fieldBytes (m / 16 % 2) 2 (t .worth) ++ (fieldBytes (m / 32 % 2) 1 (t .driver) ++ rest))))))
 unfolding recordOf
 record-append m t rest =
     ap
     (λ (l : List ℕ). m ∷ l)
-    (five (fieldBytes (m % 2) 1 (t .slope)) (fieldBytes (m / 2 % 2) 1 (t .groomer)) (fieldBytes (m / 4 % 2) 2 (t .start)) (fieldBytes (m / 8 % 2) 2 (t .length)) (fieldBytes (m / 16 % 2) 2 (t .worth)) rest)
+    (six (fieldBytes (m % 2) 1 (t .slope)) (fieldBytes (m / 2 % 2) 1 (t .groomer)) (fieldBytes (m / 4 % 2) 2 (t .start)) (fieldBytes (m / 8 % 2) 2 (t .length)) (fieldBytes (m / 16 % 2) 2 (t .worth)) (fieldBytes (m / 32 % 2) 1 (t .driver)) rest)
 
 -- the record of a turn stands at a cursor: nothing is wrong with it, the turn is what is read, and the cursor behind it stands at the rest
 pub record RecordRead (K : Kind) (s : List ℕ) (limits : Counts) (c : Cursor) (t : Turn) (rest : List ℕ) : Type 0 where
@@ -88,7 +93,7 @@ module _ (K : Kind) (s : List ℕ) (limits : Counts) (c : Cursor) (m : ℕ) (t :
   map-is = byte-front s (c .at) m _ (stands ∙ record-append m t rest)
 
   turn-read : (turnFrom s (c .at + 1) m (c .prev) ≡ t) × (drop (c .at + 1 + widthOf m) s ≡ rest)
-  unfolding turnFrom
+  unfolding turnFrom widthOf
   turn-read =
       let at = c .at + 1 in
       let e = drop-front (m ∷ []) s (c .at) _ (stands ∙ record-append m t rest) in
@@ -100,9 +105,11 @@ module _ (K : Kind) (s : List ℕ) (limits : Counts) (c : Cursor) (m : ℕ) (t :
       let at-3 = at-2 + 2 * (m / 4 % 2) in
       let len = field-read (m / 8 % 2) 2 (t .length) (c .prev .length) (2 * (m / 8 % 2)) s at-3 _ (omega arith) refl (omega arith) (kept .length) (start .1) in
       let at-4 = at-3 + 2 * (m / 8 % 2) in
-      let worth = field-read (m / 16 % 2) 2 (t .worth) (c .prev .worth) (2 * (m / 16 % 2)) s at-4 rest (omega arith) refl (omega arith) (kept .worth) (len .1) in
-      let end : c .at + 1 + widthOf m ≡ at-4 + 2 * (m / 16 % 2) = omega arith in
-      (λ i. record { slope = slope .0 i; groomer = groomer .0 i; start = start .0 i; length = len .0 i; worth = worth .0 i }, rw end (worth .1))
+      let worth = field-read (m / 16 % 2) 2 (t .worth) (c .prev .worth) (2 * (m / 16 % 2)) s at-4 _ (omega arith) refl (omega arith) (kept .worth) (len .1) in
+      let at-5 = at-4 + 2 * (m / 16 % 2) in
+      let driver = field-read (m / 32 % 2) 1 (t .driver) (c .prev .driver) (m / 32 % 2) s at-5 rest (omega arith) (omega arith) (omega arith) (kept .driver) (worth .1) in
+      let end : c .at + 1 + widthOf m ≡ at-5 + m / 32 % 2 = omega arith in
+      (λ i. record { slope = slope .0 i; groomer = groomer .0 i; start = start .0 i; length = len .0 i; worth = worth .0 i; driver = driver .0 i }, rw end (driver .1))
 
   pub record-reads : RecordRead K s limits c t rest
   unfolding endAt turnAt recordCauses firstOf
@@ -135,7 +142,7 @@ pub record RecordStands (K : Kind) (s : List ℕ) (limits : Counts) (c : Cursor)
 
 module _ {s : List ℕ} (b : Bytes s) (c : Cursor) where
   turn-stands : endAt s c ≤ length s → drop (c .at) s ≡ recordOf (mapAt s c) (turnAt s c) ++ drop (endAt s c) s
-  unfolding endAt turnAt turnFrom
+  unfolding endAt turnAt turnFrom widthOf
   turn-stands l =
       let m = mapAt s c in
       let at = c .at + 1 in
@@ -149,8 +156,10 @@ module _ {s : List ℕ} (b : Bytes s) (c : Cursor) where
       let len = field-stands (m / 8 % 2) 2 (c .prev .length) (2 * (m / 8 % 2)) b at-3 (omega arith) refl (omega arith) in
       let at-4 = at-3 + 2 * (m / 8 % 2) in
       let worth = field-stands (m / 16 % 2) 2 (c .prev .worth) (2 * (m / 16 % 2)) b at-4 (omega arith) refl (omega arith) in
-      let end : c .at + 1 + widthOf m ≡ at-4 + 2 * (m / 16 % 2) = omega arith in
-      rw (record-append m (turnAt s c) (drop (c .at + 1 + widthOf m) s), head, slope, groomer, start, len, worth, end)
+      let at-5 = at-4 + 2 * (m / 16 % 2) in
+      let driver = field-stands (m / 32 % 2) 1 (c .prev .driver) (m / 32 % 2) b at-5 (omega arith) (omega arith) (omega arith) in
+      let end : c .at + 1 + widthOf m ≡ at-5 + m / 32 % 2 = omega arith in
+      rw (record-append m (turnAt s c) (drop (c .at + 1 + widthOf m) s), head, slope, groomer, start, len, worth, driver, end)
 
   turn-kept : Carried (mapAt s c) (c .prev) (turnAt s c)
   unfolding turnAt turnFrom
@@ -162,6 +171,7 @@ module _ {s : List ℕ} (b : Bytes s) (c : Cursor) where
         start = field-carried 2 s _ (m / 4 % 2) (c .prev .start);
         length = field-carried 2 s _ (m / 8 % 2) (c .prev .length);
         worth = field-carried 2 s _ (m / 16 % 2) (c .prev .worth);
+        driver = field-carried 1 s _ (m / 32 % 2) (c .prev .driver);
       }
 
   pub record-stands : (K : Kind) → Numbered (K .refusals) → (limits : Counts) → firstOf (recordCauses K s limits c) ≡ 0 → RecordStands K s limits c

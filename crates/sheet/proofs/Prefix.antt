@@ -18,22 +18,19 @@ use Rattle.turns.specs.declared.Counts.{Counts}
 use Rattle.sheet.specs.declared.kind.Kind.{Kind}
 use Rattle.sheet.specs.declared.record.Cursor.{Cursor}
 use Rattle.sheet.specs.Kind.{mostTurns, garage, Sound}
-use Rattle.sheet.specs.Record.{widthOf, recordBytes, field, turnFrom, mapAt, endAt, turnAt, cursorAfter, recordCauses, firstCursor}
+use Rattle.sheet.specs.Record.{recordBytes, field, turnFrom, mapAt, endAt, turnAt, cursorAfter, recordCauses, firstCursor}
 use Rattle.sheet.specs.Read.{headerBytes, countsIn, turnCount, headerCauses, recordsCauses, causesFor, sheetCauses}
 use Rattle.sheet.proofs.SoundKinds.{garage-sound}
 use Rattle.sheet.proofs.Headers.{header-numbered, header-few}
 use Rattle.sheet.proofs.Scans.{record-numbered}
 use Rattle.sheet.proofs.Readings.{sheet-by-header, sheet-by-records}
+use Rattle.sheet.proofs.Fields.{width-most}
 
 -- one byte more than the longest sheet has
 abbrev pub enoughBytes : ℕ
 enoughBytes = headerBytes + recordBytes * mostTurns + 1
 
--- ---- a record is no longer than its map and every field
-
-width-most : (m : ℕ) → 1 + widthOf m ≤ recordBytes
-width-most m = omega arith
-
+-- a record is no longer than its map and every field
 end-most : (s : List ℕ) (c : Cursor) → endAt s c ≤ c .at + recordBytes
 unfolding endAt
 end-most s c = omega (arith, width-most (mapAt s c))
@@ -61,6 +58,7 @@ module _ (K : Kind) (k : ℕ) (s t : List ℕ) (same : (i : ℕ) → i < k → g
         field-alike 2 (at + 1 + m % 2 + m / 2 % 2) (m / 4 % 2) (old .start) (omega arith),
         field-alike 2 (at + 1 + m % 2 + m / 2 % 2 + 2 * (m / 4 % 2)) (m / 8 % 2) (old .length) (omega arith),
         field-alike 2 (at + 1 + m % 2 + m / 2 % 2 + 2 * (m / 4 % 2) + 2 * (m / 8 % 2)) (m / 16 % 2) (old .worth) (omega arith),
+        field-alike 1 (at + 1 + m % 2 + m / 2 % 2 + 2 * (m / 4 % 2) + 2 * (m / 8 % 2) + 2 * (m / 16 % 2)) (m / 32 % 2) (old .driver) (omega arith),
       )
 
   -- the record at a cursor, if its bytes are among the first k

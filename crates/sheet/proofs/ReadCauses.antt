@@ -32,7 +32,7 @@ read-number-for K s lent = go (eqb (firstOf (readCausesFor K s (length lent))) 0
     go true q = sym (eqb-true (firstOf (readCausesFor K s (length lent))) 0 q)
     go false q = refl
 
-records-places : (K : Kind) (n : ℕ) (s : List ℕ) (limits : Counts) (c : Cursor) → length (recordsCauses K n s limits c) ≡ 7 * n + 1
+records-places : (K : Kind) (n : ℕ) (s : List ℕ) (limits : Counts) (c : Cursor) → length (recordsCauses K n s limits c) ≡ 8 * n + 1
 unfolding recordsCauses recordCauses turnCauses
 records-places K zero s limits c = refl
 records-places K (suc n) s limits c = omega (arith, records-places K n s limits (cursorAfter s c))

@@ -7,11 +7,11 @@ use native.Mathlib.Omega.{arith}
 use native.Mathlib.Decide.{decLt, ℕ-discrete}
 use Rattle.refusal.specs.Cause.{firstOf}
 use Rattle.refusal.proofs.Order.{none-given, clear-append}
-use Rattle.turns.specs.Turn.{turnIn, InRange, shiftMinutes, mostWorth}
+use Rattle.turns.specs.Turn.{turnIn, InRange, shiftMinutes, mostWorth, mostDriver}
 use Rattle.sheet.specs.declared.kind.Kind.{Kind}
 use Rattle.sheet.specs.Kind.{mostGroomers, mostSlopes, mostTurns, garage, Sound}
 use Rattle.sheet.specs.Read.{countsIn, turnCount, headerCauses, causesFor, sheetCauses, tableOf}
-use Rattle.sheet.specs.Accepted.{Legal, CauseFor, slope, groomer, time, worth, turnOf, Outside}
+use Rattle.sheet.specs.Accepted.{Legal, CauseFor, slope, groomer, time, worth, driver, turnOf, Outside}
 use Rattle.sheet.proofs.SoundKinds.{garage-sound}
 use Rattle.sheet.proofs.Headers.{header-numbered, header-fine}
 use Rattle.sheet.proofs.Causes.{cause-there-for}
@@ -40,12 +40,17 @@ module _ (K : Kind) (sound : Sound K) (s : List ℕ) (e : firstOf (causesFor K s
       let b = inside (turnOf s i .groomer) (countsIn s .groomers) (λ o. no-cause (groomer i h o)) in
       let c = timely (ℕ-discrete (turnOf s i .length) 0) (decLt shiftMinutes (turnOf s i .start + turnOf s i .length)) in
       let d = inside (turnOf s i .worth) mostWorth (λ o. no-cause (worth i h o)) in
-      record { slope-from = a .0; slope-to = a .1; groomer-from = b .0; groomer-to = b .1; length-from = c .0; end-to = c .1; worth-from = d .0; worth-to = d .1 }
+      let f = few (decLt mostDriver (turnOf s i .driver)) in
+      record { slope-from = a .0; slope-to = a .1; groomer-from = b .0; groomer-to = b .1; length-from = c .0; end-to = c .1; worth-from = d .0; worth-to = d .1; driver-to = f }
     where
       timely : Dec (turnOf s i .length ≡ 0) → Dec (shiftMinutes < turnOf s i .start + turnOf s i .length) → (1 ≤ turnOf s i .length) × (turnOf s i .start + turnOf s i .length ≤ shiftMinutes)
       timely (yes z) d = absurd (no-cause (time i h (inl z)))
       timely (no z) (yes l) = absurd (no-cause (time i h (inr l)))
       timely (no z) (no l) = (omega arith, omega arith)
+
+      few : Dec (mostDriver < turnOf s i .driver) → turnOf s i .driver ≤ mostDriver
+      few (yes l) = absurd (no-cause (driver i h l))
+      few (no l) = omega arith
 
   pub row-in-range-for : (i : ℕ) → i < turnCount s → InRange (countsIn s) (turnIn (tableOf s) i)
   row-in-range-for i h = rw (table-row s i h) (turn-in-range i h)

@@ -5,11 +5,11 @@ use mathlib.Core.Logic.{_≢_, _⊎_}
 use mathlib.Core.List.{List, [], _∷_, _++_}
 use mathlib.Core.Bool.{Bool, true, false}
 use lib.ListN.{length, take}
-use Rattle.refusal.specs.Number.{truncated, badMagic, badMap, badTime, badWorth, trailingBytes, bufferTooSmall}
+use Rattle.refusal.specs.Number.{truncated, badMagic, badMap, badTime, badWorth, badDriver, trailingBytes, bufferTooSmall}
 pub use Rattle.refusal.specs.Cause.{FirstAmong}
 use Rattle.turns.specs.declared.Turn.{Turn}
 use Rattle.turns.specs.declared.Counts.{Counts}
-use Rattle.turns.specs.Turn.{rowNumbers, InRange, shiftMinutes, mostWorth}
+use Rattle.turns.specs.Turn.{rowNumbers, InRange, shiftMinutes, mostWorth, mostDriver}
 use Rattle.sheet.specs.declared.kind.Maps.{Maps}
 use Rattle.sheet.specs.declared.kind.Kind.{Kind}
 use Rattle.sheet.specs.declared.record.Cursor.{Cursor}
@@ -32,6 +32,7 @@ pub record Carried (m : ℕ) (p t : Turn) : Type 0 where
   pub start : m / 4 % 2 ≡ 0 → p .start ≡ t .start
   pub length : m / 8 % 2 ≡ 0 → p .length ≡ t .length
   pub worth : m / 16 % 2 ≡ 0 → p .worth ≡ t .worth
+  pub driver : m / 32 % 2 ≡ 0 → p .driver ≡ t .driver
 
 -- bytes that are records of these turns, one after another: a good map, just its fields, values in range, and nothing behind the last
 pub data Records (K : Kind) (limits : Counts) : Bool → Turn → List ℕ → List Turn → Type 0 where
@@ -88,9 +89,9 @@ recordMap s i = mapAt s (cursorOf s i)
 abbrev pub turnOf : List ℕ → ℕ → Turn
 turnOf s i = turnAt s (cursorOf s i)
 
--- place 0 to 4: the header; then seven places a record; then the end
+-- place 0 to 4: the header; then eight places a record; then the end
 abbrev pub placeOf : ℕ → ℕ → ℕ
-placeOf i k = 5 + (7 * i + k)
+placeOf i k = 5 + (8 * i + k)
 
 -- record i has a map that it may not have
 abbrev pub WrongMap : Maps → ℕ → ℕ → Type 0
@@ -110,6 +111,7 @@ pub data CauseFor (K : Kind) (s : List ℕ) : ℕ → ℕ → Type 0 where
   groomer : (i : ℕ) → i < turnCount s → Outside (turnOf s i .groomer) (countsIn s .groomers) → CauseFor K s (K .refusals .groomer) (placeOf i 4)
   time : (i : ℕ) → i < turnCount s → WrongTime (turnOf s i) → CauseFor K s badTime (placeOf i 5)
   worth : (i : ℕ) → i < turnCount s → Outside (turnOf s i .worth) mostWorth → CauseFor K s badWorth (placeOf i 6)
+  driver : (i : ℕ) → i < turnCount s → mostDriver < turnOf s i .driver → CauseFor K s badDriver (placeOf i 7)
   bytes-behind : cursorOf s (turnCount s) .at < length s → CauseFor K s trailingBytes (placeOf (turnCount s) 0)
 
 -- a cause to refuse s with a lent buffer of so many places: one of the sheet's, and after them all that the buffer is shorter than the need

@@ -6,9 +6,13 @@ use Rattle.wire.specs.Mark.{sheetMark}
 use Rattle.turns.specs.Turn.{rowNumbers, Numbered}
 use Rattle.sheet.specs.declared.kind.Kind.{Kind}
 
--- a map with every field of a turn
+-- a map with every field of a turn but the driver, which is then none
+abbrev pub firstMap : ℕ
+firstMap = 31
+
+-- a map with every field
 abbrev pub fullMap : ℕ
-fullMap = 31
+fullMap = 63
 
 -- the most groomers, of which there is at least one
 abbrev pub mostGroomers : ℕ
@@ -28,7 +32,7 @@ garage =
     record {
       mark = sheetMark;
       most = record { groomers = mostGroomers; slopes = mostSlopes; turns = mostTurns };
-      maps = record { first = fullMap; full = fullMap };
+      maps = record { first = firstMap; full = fullMap };
       refusals = record { counts = badCounts; turns = tooManyTurns; slope = badSlope; groomer = badGroomer };
     }
 

@@ -11,14 +11,15 @@ use Rattle.turns.specs.declared.Counts.{Counts}
 abbrev pub fieldBytes : ℕ → ℕ → ℕ → List ℕ
 fieldBytes bit width v = cond (eqb bit 0) [] (bytesOf width v)
 
--- the bytes of the fields that a map names, from slope to worth
+-- the bytes of the fields that a map names, from slope to driver
 abbrev pub fieldsOf : ℕ → Turn → List ℕ
 fieldsOf m t =
     fieldBytes (m % 2) 1 (t .slope)
     ++ (fieldBytes (m / 2 % 2) 1 (t .groomer)
     ++ (fieldBytes (m / 4 % 2) 2 (t .start)
     ++ (fieldBytes (m / 8 % 2) 2 (t .length)
-    ++ fieldBytes (m / 16 % 2) 2 (t .worth))))
+    ++ (fieldBytes (m / 16 % 2) 2 (t .worth)
+    ++ fieldBytes (m / 32 % 2) 1 (t .driver)))))
 
 -- a record: its map, then its fields
 unfoldable pub recordOf : ℕ → Turn → List ℕ

@@ -16,13 +16,13 @@ use Rattle.sheet.specs.declared.record.Cursor.{Cursor}
 use Rattle.sheet.specs.declared.record.Next.{Next}
 use Rattle.sheet.specs.declared.record.Next.the-variants.{Read, Refused}
 
--- the bytes of the fields that a map names: slope 1, groomer 1, start 2, length 2, worth 2
-abbrev pub widthOf : ℕ → ℕ
-widthOf m = m % 2 + m / 2 % 2 + 2 * (m / 4 % 2) + 2 * (m / 8 % 2) + 2 * (m / 16 % 2)
+-- the bytes of the fields that a map names: slope 1, groomer 1, start 2, length 2, worth 2, driver 1
+unfoldable pub widthOf : ℕ → ℕ
+widthOf m = m % 2 + m / 2 % 2 + 2 * (m / 4 % 2) + 2 * (m / 8 % 2) + 2 * (m / 16 % 2) + m / 32 % 2
 
 -- the most bytes of a record: its map and every field
 abbrev pub recordBytes : ℕ
-recordBytes = 9
+recordBytes = 10
 
 -- a field of so many bytes where its bit stands, else the value of the turn before
 unfoldable pub field : ℕ → List ℕ → ℕ → ℕ → ℕ → ℕ
@@ -37,6 +37,7 @@ turnFrom s at m old =
       start = field 2 s (at + m % 2 + m / 2 % 2) (m / 4 % 2) (old .start);
       length = field 2 s (at + m % 2 + m / 2 % 2 + 2 * (m / 4 % 2)) (m / 8 % 2) (old .length);
       worth = field 2 s (at + m % 2 + m / 2 % 2 + 2 * (m / 4 % 2) + 2 * (m / 8 % 2)) (m / 16 % 2) (old .worth);
+      driver = field 1 s (at + m % 2 + m / 2 % 2 + 2 * (m / 4 % 2) + 2 * (m / 8 % 2) + 2 * (m / 16 % 2)) (m / 32 % 2) (old .driver);
     }
 
 -- a map that a record may not have: one above the full map; in the first record also any but the least that it may have there and the full map
@@ -73,4 +74,4 @@ nextOf K s limits c = let f = firstOf (recordCauses K s limits c) in cond (eqb f
 
 -- before the first record: the seven bytes of the header are read, and there is no turn to carry
 unfoldable pub firstCursor : Cursor
-firstCursor = record { at = 7; first = true; prev = record { slope = 0; groomer = 0; start = 0; length = 0; worth = 0 } }
+firstCursor = record { at = 7; first = true; prev = record { slope = 0; groomer = 0; start = 0; length = 0; worth = 0; driver = 0 } }

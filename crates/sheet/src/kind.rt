@@ -3,8 +3,10 @@ ghost use mathlib.Core.Path.{_≡_};
 ghost use Rattle.sheet.specs.Kind.{garage};
 use turns::Refusals;
 
-// A map with every field of a turn.
-pub const FULL_MAP: u8 = 31;
+// A map with every field of a turn but the driver, which is then none, and a map with every field.
+pub const FIRST_MAP: u8 = 31;
+
+pub const FULL_MAP: u8 = 63;
 
 // The most groomers and slopes of the garage's sheet.
 const MOST_GROOMERS: u16 = 16;
@@ -50,7 +52,7 @@ pub fn garage() -> Kind
             turns: MOST_TURNS,
         },
         maps: Maps {
-            first: FULL_MAP,
+            first: FIRST_MAP,
             full: FULL_MAP,
         },
         refusals: Refusals {

@@ -6,6 +6,7 @@ mod record;
 
 pub use header::Header;
 pub use header::count_fault;
+pub use kind::FIRST_MAP;
 pub use kind::FULL_MAP;
 pub use kind::Kind;
 pub use kind::MOST_TURNS;

@@ -39,6 +39,7 @@ pub fn first_cursor() -> Cursor
         start: 0,
         length: 0,
         worth: 0,
+        driver: 0,
     };
     Cursor {
         at: HEADER_BYTES,
@@ -56,11 +57,13 @@ fn put_turn(table: &mut [u16], at: usize, t: Turn) -> usize
     let a2 = a1 + 1;
     let a3 = a2 + 1;
     let a4 = a3 + 1;
+    let a5 = a4 + 1;
     table[at] = t.slope;
     table[a1] = t.groomer;
     table[a2] = t.start;
     table[a3] = t.length;
     table[a4] = t.worth;
+    table[a5] = t.driver;
     at + ROW_NUMBERS
 }
 

@@ -2,7 +2,7 @@
 ghost use mathlib.Core.Path.{_≡_};
 ghost use Prim.Native.Nat.{_+_, _*_, _≤_, _<_};
 ghost use lib.ListN.{length};
-ghost use Rattle.sheet.specs.Record.{widthOf, field, turnFrom, badMapFor, nextOf};
+ghost use Rattle.sheet.specs.Record.{widthOf, recordBytes, field, turnFrom, badMapFor, nextOf};
 use super::kind::Kind;
 use super::kind::Maps;
 use turns::Counts;
@@ -22,10 +22,10 @@ pub enum Next {
 
 // How many bytes the fields of a map take.
 pub fn width(m: u8) -> usize
-    ensures { λ r. ⌜ r ≡ widthOf m ⌝ }
+    ensures { λ r. ⌜ (r ≡ widthOf m) × (r < recordBytes) ⌝ }
 {
     let w = m as usize;
-    w % 2 + w / 2 % 2 + 2 * (w / 4 % 2) + 2 * (w / 8 % 2) + 2 * (w / 16 % 2)
+    w % 2 + w / 2 % 2 + 2 * (w / 4 % 2) + 2 * (w / 8 % 2) + 2 * (w / 16 % 2) + w / 32 % 2
 }
 
 // A one-byte field where its bit stands, else the value before.
@@ -54,12 +54,14 @@ fn turn_from(s: &[u8], at: usize, m: u8, old: Turn) -> Turn
     let p2 = p1 + w / 2 % 2;
     let p3 = p2 + 2 * (w / 4 % 2);
     let p4 = p3 + 2 * (w / 8 % 2);
+    let p5 = p4 + 2 * (w / 16 % 2);
     Turn {
         slope: byte_field(s, at, m % 2, old.slope),
         groomer: byte_field(s, p1, m / 2 % 2, old.groomer),
         start: word_field(s, p2, m / 4 % 2, old.start),
         length: word_field(s, p3, m / 8 % 2, old.length),
         worth: word_field(s, p4, m / 16 % 2, old.worth),
+        driver: byte_field(s, p5, m / 32 % 2, old.driver),
     }
 }
 

@@ -1,12 +1,14 @@
 -- A turn's first fault by its cases, each premise in the form in which the code's calls and tests leave it. Assumes nothing.
+use Prim.Native.Nat.{_<_, _≤_}
 use mathlib.Core.Path.{_≡_}
 use mathlib.Core.Bool.{Bool, true, false}
-use Rattle.refusal.specs.Number.{badTime, badWorth}
+use borrow.Author.Tests.{lt-ltb, le-ltb}
+use Rattle.refusal.specs.Number.{badTime, badWorth, badDriver}
 use Rattle.refusal.specs.Cause.{firstOf}
 use Rattle.turns.specs.declared.Turn.{Turn}
 use Rattle.turns.specs.declared.Counts.{Counts}
 use Rattle.turns.specs.declared.Refusals.{Refusals}
-use Rattle.turns.specs.Turn.{outsideRange, pastShift, turnCauses, mostWorth}
+use Rattle.turns.specs.Turn.{outsideRange, pastShift, turnCauses, mostWorth, mostDriver}
 
 module _ (refusals : Refusals) (limits : Counts) (t : Turn) {a : Bool} (p : a ≡ outsideRange (t .slope) (limits .slopes)) where
   pub fault-slope : a ≡ true → refusals .slope ≡ firstOf (turnCauses refusals limits t)
@@ -28,8 +30,12 @@ module _ (refusals : Refusals) (limits : Counts) (t : Turn) {a : Bool} (p : a �
         unfolding firstOf turnCauses
         fault-worth h = rw (← p, f, ← q, g, ← r, i, ← s, h)
 
-        pub fault-none : d ≡ false → 0 ≡ firstOf (turnCauses refusals limits t)
+        pub fault-driver : d ≡ false → mostDriver < t .driver → badDriver ≡ firstOf (turnCauses refusals limits t)
         unfolding firstOf turnCauses
-        fault-none h = rw (← p, f, ← q, g, ← r, i, ← s, h)
+        fault-driver h l = rw (← p, f, ← q, g, ← r, i, ← s, h, lt-ltb mostDriver (t .driver) l)
 
-pub ruleset fault-cases = (fault-slope, fault-groomer, fault-time, fault-worth, fault-none)
+        pub fault-none : d ≡ false → t .driver ≤ mostDriver → 0 ≡ firstOf (turnCauses refusals limits t)
+        unfolding firstOf turnCauses
+        fault-none h l = rw (← p, f, ← q, g, ← r, i, ← s, h, le-ltb mostDriver (t .driver) l)
+
+pub ruleset fault-cases = (fault-slope, fault-groomer, fault-time, fault-worth, fault-driver, fault-none)

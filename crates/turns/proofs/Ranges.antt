@@ -6,13 +6,13 @@ use mathlib.Core.Logic.{_⊎_, inl, inr, _↔_}
 use native.Mathlib.Omega.{arith}
 use lib.Dec.{ltb, eqb}
 use borrow.Author.Tests.{eqb-true, eqb-false, ltb-true, ltb-false, eq-eqb, ne-eqb, lt-ltb, le-ltb}
-use Rattle.refusal.specs.Number.{badTime, badWorth}
+use Rattle.refusal.specs.Number.{badTime, badWorth, badDriver}
 use Rattle.refusal.specs.Cause.{firstOf, _when_}
 use Rattle.refusal.proofs.Order.{numbered, clear-cons}
 use Rattle.turns.specs.declared.Turn.{Turn}
 use Rattle.turns.specs.declared.Counts.{Counts}
 use Rattle.turns.specs.declared.Refusals.{Refusals}
-use Rattle.turns.specs.Turn.{outsideRange, pastShift, turnCauses, shiftMinutes, mostWorth, Numbered, InRange}
+use Rattle.turns.specs.Turn.{outsideRange, pastShift, turnCauses, shiftMinutes, mostWorth, mostDriver, Numbered, InRange}
 
 -- ---- each test: a number is 0, or another is above its bound
 
@@ -71,6 +71,7 @@ module _ (refusals : Refusals) (limits : Counts) (t : Turn) where
         inside-iff (t .groomer) (limits .groomers) .1 (r .groomer-from, r .groomer-to),
         within-iff (t .start) (t .length) .1 (r .length-from, r .end-to),
         inside-iff (t .worth) mostWorth .1 (r .worth-from, r .worth-to),
+        le-ltb mostDriver (t .driver) (r .driver-to),
       )
 
   -- the other way if no refusal is 0
@@ -86,6 +87,7 @@ module _ (refusals : Refusals) (limits : Counts) (t : Turn) where
         let b = clear-cons (refusals .groomer when outsideRange (t .groomer) (limits .groomers)) _ (omega (arith, n .groomer)) (a .1) in
         let c = clear-cons (badTime when pastShift (t .start) (t .length)) _ (omega arith) (b .1) in
         let d = clear-cons (badWorth when outsideRange (t .worth) mostWorth) _ (omega arith) (c .1) in
+        let f = clear-cons (badDriver when ltb mostDriver (t .driver)) _ (omega arith) (d .1) in
         let slope = inside-iff (t .slope) (limits .slopes) .0 (a .0) in
         let groomer = inside-iff (t .groomer) (limits .groomers) .0 (b .0) in
         let time = within-iff (t .start) (t .length) .0 (c .0) in
@@ -99,6 +101,7 @@ module _ (refusals : Refusals) (limits : Counts) (t : Turn) where
           end-to = time .1;
           worth-from = worth .0;
           worth-to = worth .1;
+          driver-to = ltb-false mostDriver (t .driver) (f .0);
         }
 
     pub fine-iff : (firstOf (turnCauses refusals limits t) ≡ 0) ↔ InRange limits t

@@ -37,7 +37,7 @@ row-turn : (t : Turn) (rest table : List ℕ) (i : ℕ) → drop (i * rowNumbers
 row-turn t rest table i e =
     let at : (k : ℕ) → getD table (i * rowNumbers + k) 0 ≡ getD (rowOf t ++ rest) k 0 = λ k. sym (getD-drop (i * rowNumbers) table k 0) ∙ ap (λ (l : List ℕ). getD l k 0) e in
     let z : i * rowNumbers ≡ i * rowNumbers + 0 = omega arith in
-    λ j. record { slope = (ap (λ (k : ℕ). getD table k 0) z ∙ at 0) j; groomer = at 1 j; start = at 2 j; length = at 3 j; worth = at 4 j }
+    λ j. record { slope = (ap (λ (k : ℕ). getD table k 0) z ∙ at 0) j; groomer = at 1 j; start = at 2 j; length = at 3 j; worth = at 4 j; driver = at 5 j }
 
 row-rest : (t : Turn) (rest table : List ℕ) (i : ℕ) → drop (i * rowNumbers) table ≡ rowOf t ++ rest → drop ((i + 1) * rowNumbers) table ≡ rest
 row-rest t rest table i e =
@@ -54,8 +54,9 @@ turn-row table i h =
     let e2 : j + 1 + 1 ≡ j + 2 = omega arith in
     let e3 : j + 2 + 1 ≡ j + 3 = omega arith in
     let e4 : j + 3 + 1 ≡ j + 4 = omega arith in
-    let e5 : (i + 1) * rowNumbers ≡ j + 4 + 1 = omega arith in
-    rw (drop-step table j (omega arith), drop-step table (j + 1) (omega arith), e2, drop-step table (j + 2) (omega arith), e3, drop-step table (j + 3) (omega arith), e4, drop-step table (j + 4) (omega arith), e5)
+    let e5 : j + 4 + 1 ≡ j + 5 = omega arith in
+    let e6 : (i + 1) * rowNumbers ≡ j + 5 + 1 = omega arith in
+    rw (drop-step table j (omega arith), drop-step table (j + 1) (omega arith), e2, drop-step table (j + 2) (omega arith), e3, drop-step table (j + 3) (omega arith), e4, drop-step table (j + 4) (omega arith), e5, drop-step table (j + 5) (omega arith), e6)
 
 -- ---- the turns of a table of rows are the turns
 

@@ -4,7 +4,7 @@ use mathlib.Core.List.{List, [], _∷_, _++_}
 use Prim.Native.Nat.{ℕ, zero, suc, _+_, _*_, _/_, _≤_}
 use lib.Dec.{ltb, eqb}
 use lib.ListN.{length, getD}
-use Rattle.refusal.specs.Number.{badTime, badWorth}
+use Rattle.refusal.specs.Number.{badTime, badWorth, badDriver}
 use Rattle.refusal.specs.Cause.{Cause, _when_}
 use Rattle.turns.specs.declared.Turn.{Turn}
 use Rattle.turns.specs.declared.Counts.{Counts}
@@ -18,6 +18,10 @@ shiftMinutes = 960
 abbrev pub mostWorth : ℕ
 mostWorth = 60000
 
+-- the greatest number of a driver; 0 is none
+abbrev pub mostDriver : ℕ
+mostDriver = 40
+
 -- two numbers as counts
 abbrev pub countsOf : ℕ → ℕ → Counts
 countsOf groomers slopes = record { groomers = groomers; slopes = slopes }
@@ -26,11 +30,11 @@ countsOf groomers slopes = record { groomers = groomers; slopes = slopes }
 
 -- the numbers of a row
 abbrev pub rowNumbers : ℕ
-rowNumbers = 5
+rowNumbers = 6
 
 -- a turn's row: its numbers in this order
 abbrev pub rowOf : Turn → List ℕ
-rowOf t = t .slope ∷ t .groomer ∷ t .start ∷ t .length ∷ t .worth ∷ []
+rowOf t = t .slope ∷ t .groomer ∷ t .start ∷ t .length ∷ t .worth ∷ t .driver ∷ []
 
 -- the table of some turns
 unfoldable pub rows : List Turn → List ℕ
@@ -46,6 +50,7 @@ turnIn table i =
       start = getD table (i * rowNumbers + 2) 0;
       length = getD table (i * rowNumbers + 3) 0;
       worth = getD table (i * rowNumbers + 4) 0;
+      driver = getD table (i * rowNumbers + 5) 0;
     }
 
 -- the turns i, i + 1, .. of a table, k in all
@@ -71,13 +76,14 @@ outsideRange x top = cond (eqb x 0) true (ltb top x)
 unfoldable pub pastShift : ℕ → ℕ → Bool
 pastShift start len = cond (eqb len 0) true (ltb shiftMinutes (start + len))
 
--- what may be wrong with a turn, in the order of refusal: slope, groomer, time, worth; the numbers of the first two go by the kind of sheet
+-- what may be wrong with a turn, in the order of refusal: slope, groomer, time, worth, driver; the numbers of the first two go by the kind of sheet
 unfoldable pub turnCauses : Refusals → Counts → Turn → List Cause
 turnCauses refusals limits t =
     refusals .slope when outsideRange (t .slope) (limits .slopes)
     ∷ refusals .groomer when outsideRange (t .groomer) (limits .groomers)
     ∷ badTime when pastShift (t .start) (t .length)
     ∷ badWorth when outsideRange (t .worth) mostWorth
+    ∷ badDriver when ltb mostDriver (t .driver)
     ∷ []
 
 -- ---- as statements
@@ -99,3 +105,4 @@ pub record InRange (limits : Counts) (t : Turn) : Type 0 where
   pub end-to : t .start + t .length ≤ shiftMinutes
   pub worth-from : 1 ≤ t .worth
   pub worth-to : t .worth ≤ mostWorth
+  pub driver-to : t .driver ≤ mostDriver

@@ -1,4 +1,4 @@
-// A turn: one groomer on one slope for some minutes, and what that is worth.
+// A turn: one groomer on one slope for some minutes, what that is worth, and who drives.
 ghost use mathlib.Core.Path.{_≡_};
 ghost use Prim.Native.Nat.{_+_, _*_, _≤_};
 ghost use lib.ListN.{length};
@@ -10,8 +10,11 @@ pub const SHIFT_MINUTES: u32 = 960;
 
 const MOST_WORTH: u16 = 60000;
 
+// The greatest number of a driver; 0 is none.
+const MOST_DRIVER: u16 = 40;
+
 // Numbers a turn in a table.
-pub const ROW_NUMBERS: usize = 5;
+pub const ROW_NUMBERS: usize = 6;
 
 pub struct Turn {
     pub slope: u16,
@@ -19,6 +22,7 @@ pub struct Turn {
     pub start: u16,
     pub length: u16,
     pub worth: u16,
+    pub driver: u16,
 }
 
 // How many groomers and slopes a sheet has.
@@ -48,6 +52,7 @@ pub fn turn_at(table: &[u16], i: usize) -> Turn
         start: table[at + 2],
         length: table[at + 3],
         worth: table[at + 4],
+        driver: table[at + 5],
     }
 }
 
@@ -80,6 +85,9 @@ pub fn turn_fault(t: Turn, limits: Counts, refusals: Refusals) -> u8
     }
     if outside_range(t.worth as u32, MOST_WORTH) {
         return refusal::BAD_WORTH;
+    }
+    if MOST_DRIVER < t.driver {
+        return refusal::BAD_DRIVER;
     }
     0
 }

@@ -77,7 +77,8 @@ order-told t u e =
     let c : t .start ≡ u .start = cc in
     let d : t .length ≡ u .length = cc in
     let f : t .worth ≡ u .worth = cc in
-    λ j. record { slope = a j; groomer = b j; start = c j; length = d j; worth = f j }
+    let g : t .driver ≡ u .driver = cc in
+    λ j. record { slope = a j; groomer = b j; start = c j; length = d j; worth = f j; driver = g j }
 
 pub turn-order : TotalOrder turnAtMost
 unfolding turnAtMost

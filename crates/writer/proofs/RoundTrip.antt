@@ -71,7 +71,8 @@ record-below m t h =
     let start = field-below (m / 4 % 2) 2 (t .start) in
     let len = field-below (m / 8 % 2) 2 (t .length) in
     let worth = field-below (m / 16 % 2) 2 (t .worth) in
-    more h (bytes-append slope (bytes-append groomer (bytes-append start (bytes-append len worth))))
+    let driver = field-below (m / 32 % 2) 1 (t .driver) in
+    more h (bytes-append slope (bytes-append groomer (bytes-append start (bytes-append len (bytes-append worth driver)))))
 
 records-below : (first : Bool) (p : Turn) (ts : List Turn) → Bytes (recordsOf first p ts)
 unfolding recordsOf

@@ -14,12 +14,12 @@ use Rattle.refusal.specs.Cause.{Cause, _when_, There}
 use Rattle.refusal.proofs.Order.{none-iff, numbered-append}
 use Rattle.refusal.proofs.Places.{causeAt, there-at, at-there, there-left, there-right, there-split}
 use Rattle.turns.specs.declared.Counts.{Counts}
-use Rattle.turns.specs.Turn.{rowNumbers, turnIn, turnsOfTable, tableRows, tableTurns, mostWorth, turnCauses}
+use Rattle.turns.specs.Turn.{rowNumbers, turnIn, turnsOfTable, tableRows, tableTurns, mostWorth, mostDriver, turnCauses}
 use Rattle.turns.proofs.Ranges.{outside-iff, past-iff}
 use Rattle.sheet.specs.Kind.{mostGroomers, mostSlopes, mostTurns, garage}
 use Rattle.sheet.specs.Read.{countCauses}
 use Rattle.writer.specs.Write.{writtenTurns, sheetOf, turnsCauses, tableCauses, writeCauses, writeOf}
-use Rattle.writer.specs.WriteCause.{rowPlace, WriteCause, partial-turn, groomer-count, slope-count, turn-count, slope, groomer, time, worth, small-buffer, FirstWriteCause}
+use Rattle.writer.specs.WriteCause.{rowPlace, WriteCause, partial-turn, groomer-count, slope-count, turn-count, slope, groomer, time, worth, driver, small-buffer, FirstWriteCause}
 use Rattle.sheet.proofs.Causes.{first-same}
 use Rattle.writer.proofs.Writings.{table-numbered}
 use Rattle.writer.proofs.RoundTrip.{write-number}
@@ -48,7 +48,8 @@ module _ (counts : Counts) (table : List ℕ) (places : ℕ) where
   row-cause i h k (suc zero) e n = rw n (groomer i h (outside-iff (turnIn table i .groomer) (counts .groomers) .0 e))
   row-cause i h k (suc (suc zero)) e n = rw n (time i h (past-iff (turnIn table i .start) (turnIn table i .length) .0 e))
   row-cause i h k (suc (suc (suc zero))) e n = rw n (worth i h (outside-iff (turnIn table i .worth) mostWorth .0 e))
-  row-cause i h k (suc (suc (suc (suc r)))) e n = absurd (true≢false (sym e))
+  row-cause i h k (suc (suc (suc (suc zero)))) e n = rw n (driver i h (ltb-true mostDriver (turnIn table i .driver) e))
+  row-cause i h k (suc (suc (suc (suc (suc r))))) e n = absurd (true≢false (sym e))
 
   -- the turns from number i on
   rows-cause : (n i : ℕ) → i + n ≡ tableRows table → (k r : ℕ) → There (turnsCauses (garage .refusals) counts (turnsOfTable n table i)) k r → WriteCause counts table places k (rowPlace i r)
@@ -59,7 +60,7 @@ module _ (counts : Counts) (table : List ℕ) (places : ℕ) where
       left : There (turnCauses (garage .refusals) counts (turnIn table i)) k r → WriteCause counts table places k (rowPlace i r)
       left t = row-cause i (omega arith) k r (at-there t .0) (at-there t .1)
 
-      right : ((q : ℕ) → There (turnsCauses (garage .refusals) counts (turnsOfTable n table (i + 1))) k q → WriteCause counts table places k (rowPlace (i + 1) q)) → (q : ℕ) × (r ≡ 4 + q) × There (turnsCauses (garage .refusals) counts (turnsOfTable n table (i + 1))) k q
+      right : ((q : ℕ) → There (turnsCauses (garage .refusals) counts (turnsOfTable n table (i + 1))) k q → WriteCause counts table places k (rowPlace (i + 1) q)) → (q : ℕ) × (r ≡ 5 + q) × There (turnsCauses (garage .refusals) counts (turnsOfTable n table (i + 1))) k q
           → WriteCause counts table places k (rowPlace i r)
       right ih x = let e : rowPlace i r ≡ rowPlace (i + 1) (x .0) = omega (arith, x .1) in rw e (ih (x .0) (x .2))
 
@@ -74,7 +75,7 @@ module _ (counts : Counts) (table : List ℕ) (places : ℕ) where
       right x = let e : r ≡ rowPlace 0 (x .0) = omega (arith, x .1) in rw e (rows-cause (tableRows table) 0 (omega arith) k (x .0) (x .2))
 
   -- the place behind the table's causes
-  rows-places : (n i : ℕ) → length (turnsCauses (garage .refusals) counts (turnsOfTable n table i)) ≡ 4 * n
+  rows-places : (n i : ℕ) → length (turnsCauses (garage .refusals) counts (turnsOfTable n table i)) ≡ 5 * n
   unfolding turnsCauses turnsOfTable turnCauses
   rows-places zero i = refl
   rows-places (suc n) i = omega (arith, rows-places n (i + 1))
@@ -104,14 +105,14 @@ module _ (counts : Counts) (table : List ℕ) (places : ℕ) where
   front-there r e = there-left _ (there-left {a = front} _ (there-at front r e))
 
   -- a cause of the turns from number i + d on is one of those from number i on
-  skip : (d n i : ℕ) {k r : ℕ} → There (turnsCauses (garage .refusals) counts (turnsOfTable n table (i + d))) k r → There (turnsCauses (garage .refusals) counts (turnsOfTable (d + n) table i)) k (4 * d + r)
+  skip : (d n i : ℕ) {k r : ℕ} → There (turnsCauses (garage .refusals) counts (turnsOfTable n table (i + d))) k r → There (turnsCauses (garage .refusals) counts (turnsOfTable (d + n) table i)) k (5 * d + r)
   unfolding turnsCauses turnsOfTable turnCauses
   skip zero n i {k} {r} h = rw (zero-add n, zero-add r, ← add-zero i) h
   skip (suc d) n i {k} {r} h =
       let e : i + suc d ≡ i + 1 + d = omega arith in
       let t = skip d n (i + 1) (subst (λ (j : ℕ). There (turnsCauses (garage .refusals) counts (turnsOfTable n table j)) k r) e h) in
       let a : suc d + n ≡ suc (d + n) = omega arith in
-      let b : 4 * suc d + r ≡ 4 + (4 * d + r) = omega arith in
+      let b : 5 * suc d + r ≡ 5 + (5 * d + r) = omega arith in
       rw (a, b) (there-right (turnCauses (garage .refusals) counts (turnIn table i)) t)
 
   row-there : (i : ℕ) → i < tableRows table → (r : ℕ) → causeAt (turnCauses (garage .refusals) counts (turnIn table i)) r .there ≡ true
@@ -121,8 +122,8 @@ module _ (counts : Counts) (table : List ℕ) (places : ℕ) where
       let k = causeAt (turnCauses (garage .refusals) counts (turnIn table i)) r .number in
       let t : There (turnsCauses (garage .refusals) counts (turnsOfTable (suc (tableRows table - suc i)) table i)) k r = there-left _ (there-at (turnCauses (garage .refusals) counts (turnIn table i)) r e) in
       let n : i + suc (tableRows table - suc i) ≡ tableRows table = omega arith in
-      let s : There (turnsCauses (garage .refusals) counts (turnsOfTable (i + suc (tableRows table - suc i)) table 0)) k (4 * i + r) = skip i (suc (tableRows table - suc i)) 0 (rw (zero-add i) t) in
-      there-left _ (there-right front (subst (λ (m : ℕ). There (turnsCauses (garage .refusals) counts (turnsOfTable m table 0)) k (4 * i + r)) n s))
+      let s : There (turnsCauses (garage .refusals) counts (turnsOfTable (i + suc (tableRows table - suc i)) table 0)) k (5 * i + r) = skip i (suc (tableRows table - suc i)) 0 (rw (zero-add i) t) in
+      there-left _ (there-right front (subst (λ (m : ℕ). There (turnsCauses (garage .refusals) counts (turnsOfTable m table 0)) k (5 * i + r)) n s))
 
   last-there : places < length (sheetOf counts (writtenTurns table)) → There (writeCauses counts table places) bufferTooSmall (rowPlace (tableRows table) 0)
   unfolding writeCauses last
@@ -140,6 +141,7 @@ module _ (counts : Counts) (table : List ℕ) (places : ℕ) where
   cause-there (groomer i l h) = row-there i l 1 (outside-iff (turnIn table i .groomer) (counts .groomers) .1 h)
   cause-there (time i l h) = row-there i l 2 (past-iff (turnIn table i .start) (turnIn table i .length) .1 h)
   cause-there (worth i l h) = row-there i l 3 (outside-iff (turnIn table i .worth) mostWorth .1 h)
+  cause-there (driver i l h) = row-there i l 4 (lt-ltb mostDriver (turnIn table i .driver) h)
   cause-there (small-buffer h) = last-there h
 
   pub write-causes-iff : (k r : ℕ) → WriteCause counts table places k r ↔ There (writeCauses counts table places) k r

@@ -13,7 +13,7 @@ use Rattle.wire.specs.Mark.{sheetMark}
 use Rattle.turns.specs.declared.Refusals.{Refusals}
 pub use Rattle.turns.specs.Turn.{countsOf}
 use Rattle.turns.specs.Turn.{rowNumbers, tableRows, tableTurns, turnCauses}
-use Rattle.sheet.specs.Kind.{fullMap, garage}
+use Rattle.sheet.specs.Kind.{firstMap, garage}
 use Rattle.sheet.specs.Record.{firstCursor}
 use Rattle.sheet.specs.Read.{countCauses}
 use Rattle.sheet.specs.Layout.{recordOf, headerFor}
@@ -26,15 +26,16 @@ use Rattle.writer.specs.Order.{sortedTurns}
 abbrev pub differs : ℕ → ℕ → ℕ
 differs a b = cond (eqb a b) 0 1
 
--- the first record has every field; in a later one a bit stands only where the value differs from the turn before
+-- in the first record every bit but the driver's stands; that one, and in a later record any, only where the value differs from the turn before; before the first the driver is none
 unfoldable pub mapFor : Bool → Turn → Turn → ℕ
-mapFor true p t = fullMap
+mapFor true p t = firstMap + 32 * differs (p .driver) (t .driver)
 mapFor false p t =
     differs (p .slope) (t .slope)
     + 2 * differs (p .groomer) (t .groomer)
     + 4 * differs (p .start) (t .start)
     + 8 * differs (p .length) (t .length)
     + 16 * differs (p .worth) (t .worth)
+    + 32 * differs (p .driver) (t .driver)
 
 -- the records of turns after the turn p, each with the map above
 unfoldable pub recordsOf : Bool → Turn → List Turn → List ℕ

@@ -3,16 +3,16 @@ use Prim.Native.Nat.{ℕ, _+_, _*_, _%_, _<_}
 use mathlib.Core.Logic.{_≢_}
 use mathlib.Core.List.{List}
 use lib.ListN.{length}
-use Rattle.refusal.specs.Number.{badCounts, tooManyTurns, badSlope, badGroomer, badTime, badWorth, bufferTooSmall, partialTurn}
+use Rattle.refusal.specs.Number.{badCounts, tooManyTurns, badSlope, badGroomer, badTime, badWorth, badDriver, bufferTooSmall, partialTurn}
 use Rattle.turns.specs.declared.Counts.{Counts}
-use Rattle.turns.specs.Turn.{rowNumbers, turnIn, tableRows, mostWorth}
+use Rattle.turns.specs.Turn.{rowNumbers, turnIn, tableRows, mostWorth, mostDriver}
 use Rattle.sheet.specs.Kind.{mostGroomers, mostSlopes, mostTurns}
 use Rattle.sheet.specs.Accepted.{Outside, WrongTime, FirstAmong}
 use Rattle.writer.specs.Write.{writtenTurns, sheetOf}
 
--- place 0: the table's length; 1 to 3: the counts; then four places a turn; then the lent bytes
+-- place 0: the table's length; 1 to 3: the counts; then five places a turn; then the lent bytes
 abbrev pub rowPlace : ℕ → ℕ → ℕ
-rowPlace i k = 4 + (4 * i + k)
+rowPlace i k = 4 + (5 * i + k)
 
 -- a cause to refuse writing a table with these counts into so many bytes is there: its number, and its place in the order
 pub data WriteCause (counts : Counts) (table : List ℕ) (places : ℕ) : ℕ → ℕ → Type 0 where
@@ -24,6 +24,7 @@ pub data WriteCause (counts : Counts) (table : List ℕ) (places : ℕ) : ℕ �
   groomer : (i : ℕ) → i < tableRows table → Outside (turnIn table i .groomer) (counts .groomers) → WriteCause counts table places badGroomer (rowPlace i 1)
   time : (i : ℕ) → i < tableRows table → WrongTime (turnIn table i) → WriteCause counts table places badTime (rowPlace i 2)
   worth : (i : ℕ) → i < tableRows table → Outside (turnIn table i .worth) mostWorth → WriteCause counts table places badWorth (rowPlace i 3)
+  driver : (i : ℕ) → i < tableRows table → mostDriver < turnIn table i .driver → WriteCause counts table places badDriver (rowPlace i 4)
   small-buffer : places < length (sheetOf counts (writtenTurns table)) → WriteCause counts table places bufferTooSmall (rowPlace (tableRows table) 0)
 
 -- the first of them has number k

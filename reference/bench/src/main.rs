@@ -14,6 +14,7 @@ use std::hint::black_box;
 use std::time::{Duration, Instant};
 
 use slopeboard_reference::gen::{self, Rng, Shift};
+use slopeboard_reference::limits::FIELDS;
 use slopeboard_reference::{fast, naive, shapes};
 
 /// How many times each version is timed on a sheet.
@@ -49,7 +50,7 @@ impl Job {
             table: shift.turns.concat(),
             sheet,
             board,
-            numbers: vec![0; 5 * shift.turns.len()],
+            numbers: vec![0; FIELDS * shift.turns.len()],
             bytes: vec![0; slopeboard::MOST_TEXT_BYTES],
         }
     }
@@ -60,7 +61,7 @@ impl Job {
 
     /// How many groomers it takes to do all turns.
     fn groomers(&self) -> usize {
-        let mut places = vec![0; self.numbers.len() / 5];
+        let mut places = vec![0; self.numbers.len() / FIELDS];
         let count = fast::assign(&self.sheet, &mut places);
         count.expect("the sheet is accepted").into()
     }
@@ -227,7 +228,7 @@ fn mean(jobs: &[Job], number: fn(&Job) -> usize) -> usize {
 fn size(jobs: &[Job]) -> String {
     format!(
         "n={} m={}",
-        jobs[0].numbers.len() / 5,
+        jobs[0].numbers.len() / FIELDS,
         mean(jobs, Job::steps)
     )
 }
@@ -239,10 +240,11 @@ fn main() {
     let mut most_steps = [Job::new(&mut rng, &shift)];
     assert_eq!(most_steps[0].steps(), 400);
     let mut widest = jobs(&mut rng, shapes::widest, 400);
+    let mut driven = jobs(&mut rng, shapes::usual_with_drivers, 400);
 
     println!("times of one call in microseconds; n is the number of turns, m of steps,");
     println!("g of groomers that do all turns;");
-    println!("w: 16 groomers, 120 slopes, lengths 30 to 90, worths 1 to 60,000");
+    println!("w: 16 groomers, 120 slopes, lengths 30 to 90, worths 1 to 60,000; d: with drivers");
     println!("                     library             reference");
     println!("entry  sheet              best    median        best    median   ratio  growth");
     for entry in &ENTRIES {
@@ -257,6 +259,8 @@ fn main() {
         print_row(entry.name, &size(&most_steps), times, None);
         let times = measure_all(entry, &mut widest);
         print_row(entry.name, &(size(&widest) + " w"), times, None);
+        let times = measure_all(entry, &mut driven);
+        print_row(entry.name, &(size(&driven) + " d"), times, None);
     }
     for (order, kind) in ORDERS {
         let mut before: Option<f64> = None;

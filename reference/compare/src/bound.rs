@@ -1,18 +1,20 @@
-//! What a board that passes promises: on small sheets, no choice of turns
-//! without a conflict is worth more than twice its tally, and none is worth
-//! more than the board where no slope has two turns. Tried out on every
-//! choice; the judge's check and planner have no part in it.
+//! What a board that passes promises: on small sheets without drivers, no
+//! choice of turns without a conflict is worth more than twice its tally, and
+//! none is worth more than the board where no slope has two turns. With
+//! drivers it is three times the tally, or twice where no slope has two turns.
+//! Tried out on every choice; the judge's check and planner have no part in it.
 
 use slopeboard_reference::boards;
-use slopeboard_reference::gen::{self, Rng, Shift};
-use slopeboard_reference::naive::best_worth;
+use slopeboard_reference::gen::{self, Rng};
 use slopeboard_reference::naive::turns::turns_of;
+use slopeboard_reference::naive::{any_driver, best_worth, one_turn_a_slope, times_the_tally};
+use slopeboard_reference::shapes;
 
 use crate::foreign;
 use crate::report::{show, Report};
 use crate::sheets;
 
-const SHEETS: u32 = 7500;
+const SHEETS: u32 = 9000;
 
 /// Tries the promise on many boards, right ones and others.
 pub fn run() -> bool {
@@ -31,56 +33,24 @@ struct Run {
     report: Report,
 }
 
-/// Few slopes, groomers and minutes, so that conflicts of both kinds, turns
-/// about ten minutes apart and equal ends abound.
-fn small_shift(rng: &mut Rng) -> Shift {
-    let (groomers, slopes) = (rng.between(1, 3), rng.between(1, 6));
-    let worth = rng.pick(&[3, 20, 60_000]);
-    let turns = (0..rng.below(11)).map(|_| {
-        [
-            rng.between(1, slopes) as u16,
-            rng.between(1, groomers) as u16,
-            rng.below(36) as u16,
-            rng.between(1, 10) as u16,
-            rng.between(1, worth) as u16,
-        ]
-    });
-    let turns = turns.collect();
-    Shift {
-        groomers: groomers as u8,
-        slopes: slopes as u8,
-        turns,
-    }
-}
-
-/// Gives each turn a slope of its own.
-fn one_turn_a_slope(shift: &mut Shift) {
-    shift.slopes = shift.turns.len().max(1) as u8;
-    for (turn, slope) in shift.turns.iter_mut().zip(1..) {
-        turn[0] = slope;
-    }
-}
-
-/// Whether no slope has two turns.
-fn slopes_differ(turns: &[[u16; 5]]) -> bool {
-    let mut slopes: Vec<u16> = turns.iter().map(|turn| turn[0]).collect();
-    slopes.sort_unstable();
-    slopes.windows(2).all(|pair| pair[0] != pair[1])
-}
-
-/// The most that a choice without a conflict is worth, and whether no slope
-/// has two turns.
+/// The most that a choice without a conflict is worth, how many times the
+/// tally it can be, and what kind of sheet it is.
 #[derive(Clone, Copy)]
 struct Best {
     worth: u32,
+    times: u32,
     one_a_slope: bool,
+    drivers: bool,
 }
 
 impl Run {
     fn sheet(&mut self) {
-        let mut shift = small_shift(&mut self.rng);
+        let mut shift = match self.rng.percent(20) {
+            true => shapes::crossed(&mut self.rng, 6),
+            false => shapes::small(&mut self.rng, 10),
+        };
         if self.rng.percent(25) {
-            one_turn_a_slope(&mut shift);
+            shift = shapes::one_turn_a_slope(&shift);
         }
         let turns = &shift.turns;
         let sheet = gen::encode(&mut self.rng, &shift, 20).bytes;
@@ -88,7 +58,9 @@ impl Run {
         sheets::note_minutes_apart(&mut self.report, &all);
         let best = Best {
             worth: best_worth(&all),
-            one_a_slope: slopes_differ(turns),
+            times: times_the_tally(&all),
+            one_a_slope: one_turn_a_slope(&all),
+            drivers: any_driver(&all),
         };
         for round in 0..10 {
             let board = if round % 2 == 0 {
@@ -139,12 +111,19 @@ impl Run {
         let (tally, worth) = (sum(7), sum(11));
         let same = (answer.tally, answer.worth) == (tally, worth);
         let most = best.worth;
-        let holds = tally <= worth && worth <= most && most <= 2 * tally;
-        let exact = !best.one_a_slope || most <= worth;
+        let holds = tally <= worth && worth <= most && most <= best.times * tally;
+        let exact = !best.one_a_slope || best.drivers || most <= worth;
         self.report
             .property("best worth above the tally", most > tally);
+        let exact_ones = best.one_a_slope && !best.drivers;
         self.report
-            .property("best worth where no slope has two turns", best.one_a_slope);
+            .property("best worth where no slope has two turns", exact_ones);
+        let over = best.drivers && most > 2 * tally;
+        self.report
+            .property("best worth over twice the tally", over);
+        let over = best.drivers && best.one_a_slope && most > worth;
+        self.report
+            .property("best worth above the board's, one turn a slope", over);
         if !same || !holds || !exact {
             let text = || format!("{answer:?}, best {most}: {}", show(sheet, 0));
             self.report.differs(text);

@@ -24,7 +24,7 @@ pub fn run() -> bool {
     run.orders_and_choices();
     run.refused_sheets();
     run.boards_of_other_sheets();
-    run.report.finish((1..=10).chain(12..=17))
+    run.report.finish((1..=10).chain(12..=17).chain([19]))
 }
 
 struct Run {
@@ -88,6 +88,9 @@ impl Run {
             let other = other && draft.steps == by_number;
             self.report
                 .property("right boards with equal ends by number", other);
+            let named = shift.turns.iter().any(|turn| turn[5] > 0);
+            self.report
+                .property("right boards with drivers", passes && named);
             let full = boards::full(&mut self.rng, &shift.turns).bytes();
             let passes = self.case(&sheet, &full) == 0;
             self.report.property("full choices that pass", passes);
@@ -99,10 +102,10 @@ impl Run {
     /// right amounts that is short enough.
     fn example(&mut self) {
         let turns = [
-            [1, 1, 0, 60, 100],
-            [2, 1, 30, 60, 150],
-            [1, 2, 0, 120, 80],
-            [3, 2, 120, 60, 90],
+            [1, 1, 0, 60, 100, 0],
+            [2, 1, 30, 60, 150, 0],
+            [1, 2, 0, 120, 80, 0],
+            [3, 2, 120, 60, 90, 0],
         ];
         let shift = Shift {
             groomers: 2,

@@ -1,8 +1,9 @@
 //! Planning a board.
 
 use slopeboard_reference::gen::{self, Rng};
-use slopeboard_reference::naive::planning::{earliest, pick, take, worths};
-use slopeboard_reference::naive::{self, sheet::accept, turns::Turn};
+use slopeboard_reference::naive::planning::{earliest, pick, take, touched, worths};
+use slopeboard_reference::naive::turns::{too_close_on_driver, too_close_on_groomer, Turn};
+use slopeboard_reference::naive::{self, any_driver, sheet::accept};
 
 use crate::bytes::{answer, Lent};
 use crate::foreign;
@@ -19,7 +20,7 @@ pub fn run() -> bool {
         placed: Placed::default(),
     };
     sheets::each(&mut rng, |rng, sheet| run.rooms(rng, sheet));
-    run.report.finish(1..=11)
+    run.report.finish((1..=11).chain([19]))
 }
 
 struct Run {
@@ -32,7 +33,7 @@ impl Run {
     /// The sheet with the room that is asked for, and if it is accepted also
     /// with one byte less or more.
     fn rooms(&mut self, rng: &mut Rng, sheet: &[u8]) {
-        let turns = gen::places_wanted(sheet) / 5;
+        let turns = gen::turns_claimed(sheet);
         let wanted = 15 + turns.div_ceil(8) + 4 * turns;
         if self.case(rng, sheet, wanted) {
             let other = rng.pick(&[wanted - 1, wanted + 1, wanted + 1, wanted + 9]);
@@ -52,6 +53,7 @@ impl Run {
             let accepted = accept(sheet).unwrap_or_else(|_| unreachable!("the sheet was planned"));
             sheets::note_minutes_apart(report, &accepted.turns);
             note_ties(report, &accepted.turns);
+            note_drivers(report, &accepted.turns);
         }
         answer.refusal == 0
     }
@@ -79,6 +81,32 @@ fn note_ties(report: &mut Report, turns: &[Turn]) {
     report.property("a richer turn before a lower number", by_rest);
     report.property("the lowest number of equally rich turns", by_number);
     report.property("a turn of less worth of which more remains", by_change);
+}
+
+/// Notes by which of its fields a step touched a turn.
+fn note_drivers(report: &mut Report, turns: &[Turn]) {
+    report.property("planned with drivers", any_driver(turns));
+    report.property("planned without drivers", !any_driver(turns));
+    if turns.len() > FEW_TURNS {
+        return;
+    }
+    let (mut by_driver, mut by_all) = (false, false);
+    let mut left = worths(turns);
+    while let Some(j) = pick(turns, &left) {
+        for other in touched(turns, &left, j)
+            .into_iter()
+            .filter(|&other| other != j)
+        {
+            let (a, b) = (&turns[other], &turns[j]);
+            let others = [a.slope == b.slope, too_close_on_groomer(a, b)];
+            by_driver |= others == [false; 2];
+            by_all |= others == [true; 2] && too_close_on_driver(a, b);
+        }
+        let amount = left[j];
+        take(turns, &mut left, j, amount);
+    }
+    report.property("a step that touches a turn by driver alone", by_driver);
+    report.property("a step that touches a turn in all three ways", by_all);
 }
 
 /// Notes which of the shapes that must occur this board has.

@@ -1,6 +1,7 @@
 //! Reading a sheet.
 
 use slopeboard_reference::gen::{self, Encoded, Rng};
+use slopeboard_reference::limits::FIELDS;
 use slopeboard_reference::naive::{self, Counts};
 
 use crate::foreign::{self, ReadAnswer};
@@ -34,7 +35,7 @@ pub fn run() -> bool {
     run.bounds();
     run.marks_and_tails();
     run.several_faults();
-    run.report.finish(1..=11)
+    run.report.finish((1..=11).chain([19]))
 }
 
 /// The state of a run. The buffers are kept to spare the allocator.
@@ -80,7 +81,7 @@ impl Run {
         for turns in 399..=402 {
             for _ in 0..70 {
                 let sheet = gen::typical(&mut self.rng, turns).bytes;
-                for places in [turns * 5 - 1, turns * 5, turns * 5 + 1] {
+                for places in [turns * FIELDS - 1, turns * FIELDS, turns * FIELDS + 1] {
                     self.case(&sheet, places);
                 }
             }
@@ -106,7 +107,7 @@ impl Run {
             let later = maps[self.rng.between(1, turns as u32 - 1) as usize];
             for place in [maps[0], later, maps[turns - 1]] {
                 for sheet in gen::byte_sweep(&bytes, place) {
-                    self.case(&sheet, turns * 5);
+                    self.case(&sheet, turns * FIELDS);
                 }
             }
         }
@@ -120,7 +121,7 @@ impl Run {
             for len in 0..=sheet.len() {
                 let (sheet, behind) = sheet.split_at(len);
                 let behind = &behind[..behind.len().min(BEHIND)];
-                self.case_before(sheet, behind, turns * 5);
+                self.case_before(sheet, behind, turns * FIELDS);
             }
         }
     }
@@ -154,7 +155,7 @@ impl Run {
             let turns = self.rng.between(1, 60) as usize;
             let shift = gen::shift(&mut self.rng, turns);
             let sheet = gen::with_bound(&mut self.rng, &shift);
-            self.case(&sheet, turns * 5);
+            self.case(&sheet, turns * FIELDS);
         }
     }
 
@@ -222,7 +223,9 @@ impl Run {
         }
         if ours.refusal == 0 {
             let turns = usize::from(ours.turns);
-            note_properties(&mut self.report, &self.ours[lent][..turns * 5]);
+            let first_map = sheet.get(gen::HEADER_LEN).copied();
+            let table = &self.ours[lent][..turns * FIELDS];
+            note_properties(&mut self.report, first_map, table);
         }
     }
 
@@ -272,13 +275,29 @@ fn first_difference(ours: &[u16], theirs: &[u16]) -> Option<usize> {
 }
 
 /// Notes which of the shapes that must occur this table has.
-fn note_properties(report: &mut Report, table: &[u16]) {
-    let turns = table.len() / 5;
+fn note_properties(report: &mut Report, first_map: Option<u8>, table: &[u16]) {
+    let turns = table.len() / FIELDS;
     report.property("accepted with 0 turns", turns == 0);
     report.property("accepted with 400 turns", turns == 400);
-    let pairs = || table.chunks_exact(5).zip(table.chunks_exact(5).skip(1));
+    let pairs = || {
+        table
+            .chunks_exact(FIELDS)
+            .zip(table.chunks_exact(FIELDS).skip(1))
+    };
     let equal = pairs().any(|(a, b)| a == b);
     report.property("accepted with equal records", equal);
     let touching = pairs().any(|(a, b)| a[1] == b[1] && a[2] + a[3] == b[2]);
     report.property("accepted with an end that touches a start", touching);
+    let drivers = || table.chunks_exact(FIELDS).map(|row| row[5]);
+    let named = drivers().any(|driver| driver > 0);
+    report.property("accepted with drivers", named);
+    report.property("accepted without drivers", turns > 0 && !named);
+    report.property(
+        "accepted with driver 40",
+        drivers().any(|driver| driver == 40),
+    );
+    let first = first_map == Some(0x3F) && drivers().next() == Some(0);
+    report.property("accepted with a first record that names driver 0", first);
+    let no_more = pairs().any(|(a, b)| a[5] > 0 && b[5] == 0);
+    report.property("accepted with no driver after one", no_more);
 }

@@ -2,7 +2,7 @@
 //! in them.
 
 use slopeboard_reference::gen::{self, Rng};
-use slopeboard_reference::naive::turns::Turn;
+use slopeboard_reference::naive::turns::{same_driver, Turn};
 use slopeboard_reference::shapes;
 
 use crate::report::Report;
@@ -15,10 +15,11 @@ pub fn each(rng: &mut Rng, mut run: impl FnMut(&mut Rng, &[u8])) {
 }
 
 /// Notes whether a groomer has turns just as many minutes apart as it needs
-/// to drive over, or a minute less or more.
+/// to drive over, or a minute less or more; the same for a driver who has them
+/// on two groomers.
 pub fn note_minutes_apart(report: &mut Report, turns: &[Turn]) {
-    let apart = |minutes: u32| {
-        let after = |a: &Turn, b: &Turn| a.groomer == b.groomer && a.start == b.end() + minutes;
+    let apart = |minutes: u32, alike: fn(&Turn, &Turn) -> bool| {
+        let after = |a: &Turn, b: &Turn| alike(a, b) && a.start == b.end() + minutes;
         turns.iter().any(|a| turns.iter().any(|b| after(a, b)))
     };
     for (minutes, name) in [
@@ -27,7 +28,16 @@ pub fn note_minutes_apart(report: &mut Report, turns: &[Turn]) {
         (10, "a groomer's turns 10 minutes apart"),
         (11, "a groomer's turns 11 minutes apart"),
     ] {
-        report.property(name, apart(minutes));
+        report.property(name, apart(minutes, |a, b| a.groomer == b.groomer));
+    }
+    for (minutes, name) in [
+        (0, "a driver's turns on two groomers 0 minutes apart"),
+        (9, "a driver's turns on two groomers 9 minutes apart"),
+        (10, "a driver's turns on two groomers 10 minutes apart"),
+        (11, "a driver's turns on two groomers 11 minutes apart"),
+    ] {
+        let alike = |a: &Turn, b: &Turn| same_driver(a, b) && a.groomer != b.groomer;
+        report.property(name, apart(minutes, alike));
     }
 }
 

@@ -1,6 +1,7 @@
 //! Writing a sheet.
 
-use slopeboard_reference::gen::{self, Rng, Shift};
+use slopeboard_reference::gen::{self, Rng, Row, Shift};
+use slopeboard_reference::limits::FIELDS;
 use slopeboard_reference::{naive, shapes};
 
 use crate::bytes::{answer, Lent};
@@ -31,12 +32,13 @@ const COUNTS: [u32; 17] = [
 
 /// Values of each field at, under and over its bounds, for 2 groomers and 3
 /// slopes.
-const VALUES: [&[u16]; 5] = [
+const VALUES: [&[u16]; FIELDS] = [
     &[0, 1, 2, 3, 4, 255, 256, 257, 259, 65_535],
     &[0, 1, 2, 3, 255, 256, 257, 258, 65_535],
     &[0, 1, 899, 900, 901, 959, 960, 961, 64_576, 65_475, 65_535],
     &[0, 1, 59, 60, 61, 959, 960, 961, 64_636, 65_476, 65_535],
     &[0, 1, 59_999, 60_000, 60_001, 65_535],
+    &[0, 1, 2, 39, 40, 41, 255, 256, 257, 296, 65_535],
 ];
 
 /// Compares the two writers on all inputs.
@@ -56,7 +58,7 @@ pub fn run() -> bool {
     run.tables_at_the_limit();
     run.bounds();
     run.several_faults();
-    run.report.finish([3, 4, 6, 7, 8, 9, 11, 18])
+    run.report.finish([3, 4, 6, 7, 8, 9, 11, 18, 19])
 }
 
 struct Run {
@@ -77,7 +79,7 @@ impl Run {
             let shift = shapes::shift(&mut self.rng, shape, turns);
             let table = shift.turns.concat();
             let (groomers, slopes) = (shift.groomers.into(), shift.slopes.into());
-            let len = self.case(groomers, slopes, &table, 4000);
+            let len = self.case(groomers, slopes, &table, 4010);
             match self.rng.below(6) {
                 0 => self.case(groomers, slopes, &table, len - 1),
                 1..=3 => self.case(groomers, slopes, &table, len + 1),
@@ -107,7 +109,7 @@ impl Run {
     fn order(&mut self, shift: &Shift) {
         let table = shift.turns.concat();
         let (groomers, slopes) = (shift.groomers.into(), shift.slopes.into());
-        let len = self.case(groomers, slopes, &table, 4000);
+        let len = self.case(groomers, slopes, &table, 4010);
         let as_it_stands = gen::encode(&mut self.rng, shift, 0).bytes.len();
         for room in [len - 1, as_it_stands] {
             self.case(groomers, slopes, &table, room);
@@ -134,7 +136,7 @@ impl Run {
             let mut shift = gen::shift(&mut self.rng, turns);
             let places = self.rng.shuffled(turns);
             for &place in &places[..2] {
-                let field = self.rng.below(5) as usize;
+                let field = self.rng.below(FIELDS as u32) as usize;
                 shift.turns[place][field] = self.rng.pick(VALUES[field]);
             }
             let (groomers, slopes) = (shift.groomers.into(), shift.slopes.into());
@@ -156,7 +158,7 @@ impl Run {
     fn counts(&mut self) {
         for groomers in COUNTS {
             for slopes in COUNTS {
-                for table in [&[][..], &[1, 1, 0, 1, 1], &[0; 4], &[0; 5]] {
+                for table in [&[][..], &[1, 1, 0, 1, 1, 0], &[0; 5], &[0; FIELDS]] {
                     for room in [0, 6, 7, 8, 15, 16, 17] {
                         self.case(groomers, slopes, table, room);
                     }
@@ -184,11 +186,11 @@ impl Run {
             let table = shift.turns.concat();
             let slopes = self.rng.pick(&[120, 120, 0]);
             for turns in [399, 400, 401, 402] {
-                let len = self.case(16, slopes, &table[..turns * 5], 4000);
-                self.case(16, slopes, &table[..turns * 5], len);
-                self.case(16, slopes, &table[..turns * 5], len.saturating_sub(1));
-                let part = (turns * 5 + round % 5).min(table.len());
-                self.case(16, slopes, &table[..part], 4000);
+                let len = self.case(16, slopes, &table[..turns * FIELDS], 4010);
+                self.case(16, slopes, &table[..turns * FIELDS], len);
+                self.case(16, slopes, &table[..turns * FIELDS], len.saturating_sub(1));
+                let part = (turns * FIELDS + round % FIELDS).min(table.len());
+                self.case(16, slopes, &table[..part], 4010);
             }
         }
     }
@@ -196,9 +198,9 @@ impl Run {
     /// Every mixture of two values at their bounds, in the only turn, in the
     /// second of two and in the first of two.
     fn bounds(&mut self) {
-        let inner = [1, 1, 900, 60, 100];
-        for first in 0..5 {
-            for second in first..5 {
+        let inner = [1, 1, 900, 60, 100, 0];
+        for first in 0..FIELDS {
+            for second in first..FIELDS {
                 for &a in VALUES[first] {
                     for &b in VALUES[second] {
                         let mut turn = inner;
@@ -211,8 +213,8 @@ impl Run {
         }
     }
 
-    fn bound_tables(&mut self, turn: [u16; 5]) {
-        let good = [2, 2, 900, 60, 100];
+    fn bound_tables(&mut self, turn: Row) {
+        let good = [2, 2, 900, 60, 100, 0];
         for table in [&turn[..], &[good, turn].concat(), &[turn, good].concat()] {
             for room in [0, 40] {
                 self.case(2, 3, table, room);
@@ -228,11 +230,11 @@ impl Run {
             let mut table = shift.turns.concat();
             for _ in 0..self.rng.below(4) {
                 let place = self.rng.below(table.len() as u32) as usize;
-                table[place] = self.rng.pick(VALUES[place % 5]);
+                table[place] = self.rng.pick(VALUES[place % FIELDS]);
             }
-            table.truncate(table.len() - self.rng.pick(&[0, 0, 0, 0, 0, 0, 1, 4, 5]));
+            table.truncate(table.len() - self.rng.pick(&[0, 0, 0, 0, 0, 0, 1, 5, 6]));
             let groomers = self.rng.pick(&[u32::from(shift.groomers), 16, 16, 16, 17]);
-            let room = self.rng.pick(&[0, 7, 16, 110, 110]);
+            let room = self.rng.pick(&[0, 7, 16, 130, 130]);
             self.case(groomers, shift.slopes.into(), &table, room);
         }
     }
@@ -247,7 +249,7 @@ impl Run {
         // Right numbers behind the table, where a careless writer goes on.
         self.table.clear();
         self.table.extend(table);
-        self.table.extend([1, 1, 0, 1, 1]);
+        self.table.extend([1, 1, 0, 1, 1, 0]);
         let table = &self.table[..table.len()];
         let ours = |out: &mut [u8]| answer(naive::write(groomers, slopes, table, out));
         let theirs = |out: &mut [u8]| foreign::write(groomers, slopes, table, out);
@@ -255,9 +257,18 @@ impl Run {
         let calls = (ours, theirs);
         let answer = self.lent.compare(rng, report, calls, room, &self.show);
         if answer.refusal == 0 {
-            let turns = table.len() / 5;
+            let turns = table.len() / FIELDS;
             self.report.property("written with 0 turns", turns == 0);
             self.report.property("written with 400 turns", turns == 400);
+            let drivers = || table.chunks_exact(FIELDS).map(|row| row[5]);
+            let named = drivers().any(|driver| driver > 0);
+            self.report.property("written with drivers", named);
+            let plain = turns > 0 && !named;
+            self.report.property("written without drivers", plain);
+            let first = turns > 0 && self.lent.written(8)[7] == 0x3F;
+            self.report.property("written with a first driver", first);
+            self.report
+                .property("written with a driver later on", named && !first);
             let full = answer.bytes as usize == room;
             self.report.property("written into exact room", full);
         }

@@ -29,6 +29,9 @@
 //! | 8 chosen | a turn's number | bytes of the board | the board |
 //! | 9 assign | numbers lent | bytes of the sheet | the sheet |
 //!
+//! No input has more than 16,384 bytes, no case lends more than 2,408 numbers
+//! or 4,096 bytes, and no table has more than 2,408 numbers.
+//!
 //! Before the call each lent number is A5A5 and each lent byte A5. The line
 //! has the entry's name, the refusal, the values returned (0 on a refusal) and
 //! a checksum of all that was lent, as it is after the call: from 1, for each
@@ -60,8 +63,8 @@ mod read;
 #[path = "corpus/write.rs"]
 mod write;
 
-/// Most bytes that the test program is meant to take.
-const MOST_INPUT: usize = 400_000;
+/// Most bytes of all cases together.
+const MOST_INPUT: usize = 500_000;
 
 /// The worked example: two groomers, three slopes, four turns.
 const EXAMPLE: [u8; 39] = [

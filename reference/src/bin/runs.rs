@@ -25,7 +25,7 @@ const EXAMPLE: [u8; 39] = [
 const MOST_TEXT: usize = 4096;
 
 /// The most that the program reads.
-const MOST_READ: usize = 3608;
+const MOST_READ: usize = 4008;
 
 /// The example with other bytes from a place on.
 fn example_with(place: usize, bytes: &[u8]) -> Vec<u8> {
@@ -34,27 +34,29 @@ fn example_with(place: usize, bytes: &[u8]) -> Vec<u8> {
     sheet
 }
 
-/// One sheet for each refusal, in the order of their numbers.
-fn refusals() -> [Vec<u8>; 10] {
+/// One sheet for each refusal, with its number.
+fn refusals() -> [(u8, Vec<u8>); 11] {
+    let one_more = [&EXAMPLE[..6], &[5], &EXAMPLE[7..]].concat();
     [
-        EXAMPLE[..38].to_vec(),
-        example_with(2, b"B"),
-        example_with(3, &[17]),
-        example_with(5, &[0x01, 0x91]),
-        example_with(7, &[0x3F]),
-        example_with(8, &[4]),
-        example_with(9, &[3]),
-        example_with(10, &[0x03, 0x84, 0x00, 0x3D]),
-        example_with(14, &[0xEA, 0x61]),
-        [&EXAMPLE[..], &[0]].concat(),
+        (1, EXAMPLE[..38].to_vec()),
+        (2, example_with(2, b"B")),
+        (3, example_with(3, &[17])),
+        (4, example_with(5, &[0x01, 0x91])),
+        (5, example_with(7, &[0x5F])),
+        (6, example_with(8, &[4])),
+        (7, example_with(9, &[3])),
+        (8, example_with(10, &[0x03, 0x84, 0x00, 0x3D])),
+        (9, example_with(14, &[0xEA, 0x61])),
+        (10, [&EXAMPLE[..], &[0]].concat()),
+        (19, [&one_more[..], &[0x20, 41]].concat()),
     ]
 }
 
 /// The longest sheet there is, 400 turns with all fields, and so many bytes
 /// behind it.
 fn longest(behind: usize) -> Vec<u8> {
-    let mut rng = Rng::new(3608);
-    let shift = shapes::usual(&mut rng, 400);
+    let mut rng = Rng::new(4008);
+    let shift = shapes::usual_with_drivers(&mut rng, 400);
     let mut sheet = gen::encode(&mut rng, &shift, 100).bytes;
     assert_eq!(sheet.len() + 1, MOST_READ, "every record has every field");
     sheet.extend((0..behind).map(|place| place as u8));
@@ -65,8 +67,7 @@ fn runs() -> Vec<(String, Vec<u8>)> {
     let mut rng = Rng::new(400);
     let mut runs: Vec<(String, Vec<u8>)> = refusals()
         .into_iter()
-        .enumerate()
-        .map(|(index, sheet)| (format!("refused_{:02}", index + 1), sheet))
+        .map(|(number, sheet)| (format!("refused_{number:02}"), sheet))
         .collect();
     let mut more = |name: &str, sheet: Vec<u8>| runs.push((name.to_string(), sheet));
     more("shift", EXAMPLE.to_vec());
@@ -74,12 +75,14 @@ fn runs() -> Vec<(String, Vec<u8>)> {
     more("sixteen_groomers", b"GRM\x10\x78\x00\x00".to_vec());
     let shift = shapes::usual(&mut rng, 400);
     more("four_hundred_turns", gen::encode(&mut rng, &shift, 0).bytes);
+    let shift = shapes::usual_with_drivers(&mut rng, 60);
+    more("drivers", gen::encode(&mut rng, &shift, 0).bytes);
     more("longest", longest(0));
     more("one_byte_more", longest(1));
     more("two_bytes_more", longest(2));
     more("far_more", longest(10_000));
     let mut cut_early = longest(5_000);
-    cut_early[7] = 0x3F;
+    cut_early[7] = 0x7F;
     more("far_more_and_a_bad_map", cut_early);
     runs
 }

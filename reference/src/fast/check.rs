@@ -60,8 +60,8 @@ fn check_steps(turns: &[Turn], steps: &[u8]) -> Result<u32, u8> {
     Ok(tally)
 }
 
-/// Whether the step takes all that is left of an open turn, and its groomer
-/// has no open turn that ends before it.
+/// Whether the step takes all that is left of an open turn, and neither its
+/// groomer nor its driver has an open turn that ends before it.
 fn step_is_right(turns: &[Turn], residuals: &[i32], step: Step) -> bool {
     let number = usize::from(step.turn);
     let Some(picked) = turns.get(number) else {
@@ -71,6 +71,6 @@ fn step_is_right(turns: &[Turn], residuals: &[i32], step: Step) -> bool {
     residual > 0
         && residual == i32::from(step.amount)
         && !turns.iter().zip(residuals).any(|(turn, &left)| {
-            (left > 0) & (turn.groomer == picked.groomer) & (turn.end() < picked.end())
+            (left > 0) & turn.share_groomer_or_driver(picked) & (turn.end() < picked.end())
         })
 }

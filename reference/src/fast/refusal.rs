@@ -36,3 +36,5 @@ pub const TURN_LEFT_OPEN: u8 = 16;
 pub const BAD_SUMS: u8 = 17;
 /// A turn table does not consist of whole turns.
 pub const PARTIAL_TURN: u8 = 18;
+/// A turn's driver is above 40.
+pub const BAD_DRIVER: u8 = 19;

@@ -12,7 +12,8 @@ const HAS_GROOMER: u8 = 1 << 1;
 const HAS_START: u8 = 1 << 2;
 const HAS_LENGTH: u8 = 1 << 3;
 const HAS_WORTH: u8 = 1 << 4;
-const ALL_FIELDS: u8 = 0x1F;
+const HAS_DRIVER: u8 = 1 << 5;
+const ALL_FIELDS: u8 = 0x3F;
 /// The fields of two bytes; the others have one.
 const WIDE_FIELDS: u8 = HAS_START | HAS_LENGTH | HAS_WORTH;
 
@@ -91,7 +92,7 @@ fn parse_header(sheet: &[u8]) -> Result<(Header, &[u8]), u8> {
 fn parse_record(bytes: &[u8], previous: Option<Turn>) -> Result<(Turn, &[u8]), u8> {
     let (&map, after) = bytes.split_first().ok_or(refusal::TRUNCATED)?;
     let map_fits = match previous {
-        None => map == ALL_FIELDS,
+        None => map | HAS_DRIVER == ALL_FIELDS,
         Some(_) => map & !ALL_FIELDS == 0,
     };
     if !map_fits {
@@ -132,6 +133,10 @@ fn resolve(map: u8, fields: &[u8], previous: Turn) -> Turn {
     }
     if map & HAS_WORTH != 0 {
         turn.worth = u16::from_be_bytes([fields[at], fields[at + 1]]);
+        at += 2;
+    }
+    if map & HAS_DRIVER != 0 {
+        turn.driver = u16::from(fields[at]);
     }
     turn
 }

@@ -1,7 +1,9 @@
 //! Turns, their limits, and which of them may stand on a board together.
 
 use super::refusal;
-use crate::limits::{DRIVE_OVER, FIELDS, LAST_END, MAX_GROOMERS, MAX_SLOPES, MAX_WORTH};
+use crate::limits::{
+    DRIVE_OVER, FIELDS, LAST_END, MAX_DRIVER, MAX_GROOMERS, MAX_SLOPES, MAX_WORTH,
+};
 
 /// One turn; the fields stand in the order of the turn table.
 #[derive(Clone, Copy, Debug, Default, PartialEq, Eq)]
@@ -11,6 +13,8 @@ pub struct Turn {
     pub start: u16,
     pub length: u16,
     pub worth: u16,
+    /// 0 for none.
+    pub driver: u16,
 }
 
 impl Turn {
@@ -22,6 +26,7 @@ impl Turn {
             start: row[2],
             length: row[3],
             worth: row[4],
+            driver: row[5],
         }
     }
 
@@ -32,6 +37,7 @@ impl Turn {
             self.start,
             self.length,
             self.worth,
+            self.driver,
         ]
     }
 
@@ -41,10 +47,15 @@ impl Turn {
         u32::from(self.start) + u32::from(self.length)
     }
 
-    /// Whether the two turns have one groomer, and it could not drive from
-    /// one to the other in time.
-    fn too_close_on_groomer(&self, other: &Turn) -> bool {
-        (self.groomer == other.groomer)
+    /// Whether the turns need one groomer or one driver.
+    pub fn share_groomer_or_driver(&self, other: &Turn) -> bool {
+        (self.groomer == other.groomer) | ((self.driver == other.driver) & (self.driver != 0))
+    }
+
+    /// Whether the two turns have one groomer or one driver, and it could not
+    /// be driven from one to the other in time.
+    fn too_close(&self, other: &Turn) -> bool {
+        self.share_groomer_or_driver(other)
             & (u32::from(self.start) < other.end() + DRIVE_OVER)
             & (u32::from(other.start) < self.end() + DRIVE_OVER)
     }
@@ -53,10 +64,10 @@ impl Turn {
     /// callers that mean two different turns compare numbers first, the
     /// others rely on it.
     pub fn conflicts(&self, other: &Turn) -> bool {
-        (self.slope == other.slope) | self.too_close_on_groomer(other)
+        (self.slope == other.slope) | self.too_close(other)
     }
 
-    /// Judges the turn's values, slope first and worth last.
+    /// Judges the turn's values, slope first and driver last.
     pub fn judge(&self, groomers: u32, slopes: u32) -> Result<(), u8> {
         if self.slope == 0 || u32::from(self.slope) > slopes {
             return Err(refusal::BAD_SLOPE);
@@ -69,6 +80,9 @@ impl Turn {
         }
         if self.worth == 0 || self.worth > MAX_WORTH {
             return Err(refusal::BAD_WORTH);
+        }
+        if self.driver > MAX_DRIVER {
+            return Err(refusal::BAD_DRIVER);
         }
         Ok(())
     }
@@ -107,7 +121,7 @@ impl Selection {
     /// Whether the turn is in conflict with no chosen one. A turn already
     /// chosen does not fit again, since it shares its own slope.
     pub fn fits(&self, turn: &Turn) -> bool {
-        let busy = |other: &Turn| other.too_close_on_groomer(turn);
+        let busy = |other: &Turn| other.too_close(turn);
         !self.slope_taken[usize::from(turn.slope)] && !self.chosen().iter().any(busy)
     }
 

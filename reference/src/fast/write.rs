@@ -5,8 +5,8 @@ use super::sheet::{HEADER_LEN, MAGIC};
 use super::turns::{judge_counts, Turn};
 use crate::limits::{FIELDS, MAX_TURNS};
 
-/// Bytes of the longest sheet: a map and eight bytes for each turn.
-const MOST_LEN: usize = HEADER_LEN + 9 * MAX_TURNS;
+/// Bytes of the longest sheet: a map and nine bytes for each turn.
+const MOST_LEN: usize = HEADER_LEN + 10 * MAX_TURNS;
 
 /// Writes the sheet of a table's turns, sorted by their values, and gives its
 /// length.
@@ -36,14 +36,28 @@ pub fn write(groomers: u32, slopes: u32, table: &[u16], out: &mut [u8]) -> Resul
 }
 
 /// All values of a judged turn in one number, the slope highest, so that the
-/// numbers have the order of the turns. Slope and groomer take a byte each.
+/// numbers have the order of the turns. The start, which is below 960, and the
+/// groomer share two bytes, so that the driver has room: from the top, slope
+/// 8 bits, groomer 6, start 10, length 16, worth 16, driver 8.
 fn key_of(turn: &Turn) -> u64 {
     u64::from(turn.slope) << 56
-        | u64::from(turn.groomer) << 48
-        | u64::from(turn.start) << 32
-        | u64::from(turn.length) << 16
-        | u64::from(turn.worth)
+        | u64::from(turn.groomer) << 50
+        | u64::from(turn.start) << 40
+        | u64::from(turn.length) << 24
+        | u64::from(turn.worth) << 8
+        | u64::from(turn.driver)
 }
+
+/// Where each field stands in a key: how far to shift it down, its bits, and
+/// the bytes that it takes in a record.
+const PLACES: [(u32, u64, usize); FIELDS] = [
+    (56, 0xFF, 1),
+    (50, 0x3F, 1),
+    (40, 0x3FF, 2),
+    (24, 0xFFFF, 2),
+    (8, 0xFFFF, 2),
+    (0, 0xFF, 1),
+];
 
 /// Writes the sheet at the front of the array and gives its length.
 fn put(groomers: u8, slopes: u8, keys: &[u64], sheet: &mut [u8; MOST_LEN]) -> usize {
@@ -55,8 +69,9 @@ fn put(groomers: u8, slopes: u8, keys: &[u64], sheet: &mut [u8; MOST_LEN]) -> us
     let Some(first) = keys.first() else {
         return at;
     };
-    // Nothing stands before the first record: every field differs.
-    let mut before = !first;
+    // Nothing stands before the first record: every field differs, the driver
+    // from 0.
+    let mut before = !first & !0xFF;
     for &key in keys {
         at += put_record(key, before, &mut sheet[at..]);
         before = key;
@@ -64,26 +79,17 @@ fn put(groomers: u8, slopes: u8, keys: &[u64], sheet: &mut [u8; MOST_LEN]) -> us
     at
 }
 
-/// Writes one record and gives its length. The bytes of a key stand in the
-/// order of the fields, high byte first, as in a record.
+/// Writes one record and gives its length.
 fn put_record(key: u64, before: u64, place: &mut [u8]) -> usize {
-    let bytes = key.to_be_bytes();
-    let differs = (key ^ before).to_be_bytes();
+    let differs = key ^ before;
     let mut map = 0;
     let mut at = 1;
-    for field in 0..2 {
-        if differs[field] != 0 {
+    for (field, (shift, bits, width)) in PLACES.into_iter().enumerate() {
+        if differs >> shift & bits != 0 {
             map |= 1 << field;
-            place[at] = bytes[field];
-            at += 1;
-        }
-    }
-    for field in 2..FIELDS {
-        let from = 2 * field - 2;
-        if differs[from] | differs[from + 1] != 0 {
-            map |= 1 << field;
-            place[at..at + 2].copy_from_slice(&bytes[from..from + 2]);
-            at += 2;
+            let value = ((key >> shift & bits) as u16).to_be_bytes();
+            place[at..at + width].copy_from_slice(&value[2 - width..]);
+            at += width;
         }
     }
     place[0] = map;

@@ -3,7 +3,7 @@
 use super::board::opened;
 use super::planning::{fits, is_open, take, tally, worth, worths};
 use super::sheet::accept;
-use super::turns::{conflict, Turn};
+use super::turns::{conflict, same_driver, Turn};
 
 /// Checks a board against a sheet: the sheet's refusals, then 12 to 17, in
 /// their order. Gives the board's tally and worth.
@@ -58,14 +58,16 @@ fn check_steps(turns: &[Turn], steps: &[(usize, i64)]) -> Result<(), u8> {
 }
 
 /// Whether a step is right: there is such a turn, it is open, the amount is
-/// what remains of it, and no open turn of its groomer has an earlier end.
+/// what remains of it, and no open turn of its groomer or its driver has an
+/// earlier end.
 fn is_right(turns: &[Turn], left: &[i64], turn: usize, amount: i64) -> bool {
     if turn >= turns.len() || !is_open(left, turn) || amount != left[turn] {
         return false;
     }
     for other in 0..turns.len() {
-        let same_groomer = turns[other].groomer == turns[turn].groomer;
-        if is_open(left, other) && same_groomer && turns[other].end() < turns[turn].end() {
+        let (a, b) = (&turns[other], &turns[turn]);
+        let of_groomer_or_driver = a.groomer == b.groomer || same_driver(a, b);
+        if is_open(left, other) && of_groomer_or_driver && a.end() < b.end() {
             return false;
         }
     }

@@ -3,8 +3,8 @@
 use super::turns::{judge_counts, judge_turn, turns_of, Turn};
 use super::{bit, lend, number};
 
-/// How many bytes each field has: slope, groomer, start, length, worth.
-const WIDTHS: [usize; 5] = [1, 1, 2, 2, 2];
+/// How many bytes each field has: slope, groomer, start, length, worth, driver.
+const WIDTHS: [usize; 6] = [1, 1, 2, 2, 2, 1];
 
 /// What an accepted sheet says.
 pub struct Sheet {
@@ -21,7 +21,8 @@ pub struct Counts {
     pub turns: u32,
 }
 
-/// Goes by the bytes of a sheet, from the first to the last: refusals 1 to 10.
+/// Goes by the bytes of a sheet, from the first to the last: refusals 1 to 10
+/// and 19.
 pub fn accept(bytes: &[u8]) -> Result<Sheet, u8> {
     if bytes.len() < 7 {
         return Err(1);
@@ -60,17 +61,17 @@ fn record<'a>(bytes: &'a [u8], before: Option<&Turn>) -> Result<(Turn, &'a [u8])
         return Err(1);
     }
     let map = bytes[0];
-    if bit(map, 5) || bit(map, 6) || bit(map, 7) {
+    if bit(map, 6) || bit(map, 7) {
         return Err(5);
     }
-    if before.is_none() && map != 0x1F {
+    if before.is_none() && map != 0x1F && map != 0x3F {
         return Err(5);
     }
-    // A field whose bit is clear keeps the value of the record before. The
-    // first record has no such field.
-    let mut values = before.map_or([0; 5], Turn::values);
+    // A field whose bit is clear keeps the value of the record before. Only
+    // the driver can be such a field of the first record: it is 0 then.
+    let mut values = before.map_or([0; 6], Turn::values);
     let mut place = 1;
-    for field in 0..5 {
+    for field in 0..6 {
         if bit(map, field) {
             let end = place + WIDTHS[field];
             if bytes.len() < end {
@@ -87,12 +88,12 @@ fn record<'a>(bytes: &'a [u8], before: Option<&Turn>) -> Result<(Turn, &'a [u8])
 pub fn read(sheet: &[u8], table: &mut [u16]) -> Result<Counts, u8> {
     let sheet = accept(sheet)?;
     let turns = sheet.turns.len();
-    if table.len() < 5 * turns {
+    if table.len() < 6 * turns {
         return Err(11);
     }
     for turn in 0..turns {
-        for field in 0..5 {
-            table[5 * turn + field] = sheet.turns[turn].values()[field] as u16;
+        for field in 0..6 {
+            table[6 * turn + field] = sheet.turns[turn].values()[field] as u16;
         }
     }
     Ok(Counts {
@@ -105,11 +106,11 @@ pub fn read(sheet: &[u8], table: &mut [u16]) -> Result<Counts, u8> {
 /// Writes the turns of a table as a sheet and gives its length. They are
 /// judged as the table has them, and written by their values.
 pub fn write(groomers: u32, slopes: u32, table: &[u16], out: &mut [u8]) -> Result<usize, u8> {
-    if !table.len().is_multiple_of(5) {
+    if !table.len().is_multiple_of(6) {
         return Err(18);
     }
     judge_counts(groomers, slopes)?;
-    if table.len() / 5 > 400 {
+    if table.len() / 6 > 400 {
         return Err(4);
     }
     let turns = turns_of(table);
@@ -119,8 +120,9 @@ pub fn write(groomers: u32, slopes: u32, table: &[u16], out: &mut [u8]) -> Resul
     lend(&shortest(groomers, slopes, &in_order(&turns)), out)
 }
 
-/// The turns by slope, those of one slope by groomer, then by start, by length
-/// and by worth, the least first each time. None is lost and none is added.
+/// The turns by slope, those of one slope by groomer, then by start, by length,
+/// by worth and by driver, the least first each time. None is lost and none is
+/// added.
 fn in_order(turns: &[Turn]) -> Vec<Turn> {
     let mut turns = turns.to_vec();
     turns.sort_by_key(Turn::values);
@@ -128,7 +130,8 @@ fn in_order(turns: &[Turn]) -> Vec<Turn> {
 }
 
 /// The sheet of these turns as they stand, in which a bit stands only where
-/// the value differs from the one before, and every bit in the first record.
+/// the value differs from the one before. The first record has every bit, but
+/// that of the driver only if the turn names one.
 fn shortest(groomers: u32, slopes: u32, turns: &[Turn]) -> Vec<u8> {
     let mut bytes = vec![0x47, 0x52, 0x4D];
     put(&mut bytes, groomers, 1);
@@ -138,8 +141,12 @@ fn shortest(groomers: u32, slopes: u32, turns: &[Turn]) -> Vec<u8> {
         let values = turns[turn].values();
         let mut map = 0;
         let mut fields = Vec::new();
-        for field in 0..5 {
-            if turn == 0 || values[field] != turns[turn - 1].values()[field] {
+        for field in 0..6 {
+            let is_written = match turn {
+                0 => field < 5 || values[field] != 0,
+                _ => values[field] != turns[turn - 1].values()[field],
+            };
+            if is_written {
                 map |= 1 << field;
                 put(&mut fields, values[field], WIDTHS[field]);
             }

@@ -7,28 +7,33 @@ pub struct Turn {
     pub start: u32,
     pub length: u32,
     pub worth: u32,
+    /// 0 if the turn names no driver.
+    pub driver: u32,
 }
 
 impl Turn {
-    /// The turn with these values: slope, groomer, start, length, worth.
-    pub fn new(values: [u32; 5]) -> Turn {
-        let [slope, groomer, start, length, worth] = values;
+    /// The turn with these values: slope, groomer, start, length, worth,
+    /// driver.
+    pub fn new(values: [u32; 6]) -> Turn {
+        let [slope, groomer, start, length, worth, driver] = values;
         Turn {
             slope,
             groomer,
             start,
             length,
             worth,
+            driver,
         }
     }
 
-    pub fn values(&self) -> [u32; 5] {
+    pub fn values(&self) -> [u32; 6] {
         [
             self.slope,
             self.groomer,
             self.start,
             self.length,
             self.worth,
+            self.driver,
         ]
     }
 
@@ -43,10 +48,10 @@ impl Turn {
     }
 }
 
-/// The turns of a turn table, five numbers each.
+/// The turns of a turn table, six numbers each.
 pub fn turns_of(table: &[u16]) -> Vec<Turn> {
-    let rows = table.chunks(5);
-    rows.map(|row| Turn::new([0, 1, 2, 3, 4].map(|field| u32::from(row[field]))))
+    let rows = table.chunks(6);
+    rows.map(|row| Turn::new([0, 1, 2, 3, 4, 5].map(|field| u32::from(row[field]))))
         .collect()
 }
 
@@ -58,7 +63,8 @@ pub fn judge_counts(groomers: u32, slopes: u32) -> Result<(), u8> {
     Ok(())
 }
 
-/// Refusals 6 to 9: a value of the turn outside its range, in their order.
+/// Refusals 6 to 9 and then 19: a value of the turn outside its range, in
+/// their order.
 pub fn judge_turn(turn: &Turn, groomers: u32, slopes: u32) -> Result<(), u8> {
     if turn.slope == 0 || turn.slope > slopes {
         return Err(6);
@@ -71,6 +77,9 @@ pub fn judge_turn(turn: &Turn, groomers: u32, slopes: u32) -> Result<(), u8> {
     }
     if turn.worth == 0 || turn.worth > 60_000 {
         return Err(9);
+    }
+    if turn.driver > 40 {
+        return Err(19);
     }
     Ok(())
 }
@@ -85,15 +94,32 @@ pub fn starts_soon_after(a: &Turn, b: &Turn) -> bool {
     (0..=9).any(|minutes| a.start == b.end() + minutes)
 }
 
-/// Whether one groomer cannot do both turns: they share a minute, or one of
+/// Whether one groomer, or one driver, cannot do both turns: they share a minute, or one of
 /// them starts too soon after the other for driving over.
 pub fn too_close(a: &Turn, b: &Turn) -> bool {
     share_a_minute(a, b) || starts_soon_after(a, b) || starts_soon_after(b, a)
 }
 
+/// Whether both turns name a driver, and the same one.
+pub fn same_driver(a: &Turn, b: &Turn) -> bool {
+    a.driver != 0 && a.driver == b.driver
+}
+
+/// Whether the turns have the same groomer and too little time between them.
+pub fn too_close_on_groomer(a: &Turn, b: &Turn) -> bool {
+    a.groomer == b.groomer && too_close(a, b)
+}
+
+/// Whether the turns have the same driver and too little time between them.
+pub fn too_close_on_driver(a: &Turn, b: &Turn) -> bool {
+    same_driver(a, b) && too_close(a, b)
+}
+
 /// Whether the turns with these numbers conflict: they are two, and they have
-/// the same slope, or the same groomer and too little time between them.
+/// the same slope, or the same groomer or driver and too little time between
+/// them.
 pub fn conflict(turns: &[Turn], a: usize, b: usize) -> bool {
     let (x, y) = (&turns[a], &turns[b]);
-    a != b && (x.slope == y.slope || (x.groomer == y.groomer && too_close(x, y)))
+    let on_slope = x.slope == y.slope;
+    a != b && (on_slope || too_close_on_groomer(x, y) || too_close_on_driver(x, y))
 }

@@ -39,6 +39,9 @@ returns-4 c = search (needs, fault-cases)
 returns-5 : tie.Need-returns-5
 returns-5 c = search (needs, fault-cases)
 
+returns-6 : tie.Need-returns-6
+returns-6 c = search (needs, fault-cases)
+
 pub turn-fault-spec : {M : Type 1} → statement M
 turn-fault-spec =
     tie.close
@@ -54,4 +57,5 @@ turn-fault-spec =
     cast-outside-range-3
     outside-range-requires-3
     returns-4
-    returns-5)
+    returns-5
+    returns-6)

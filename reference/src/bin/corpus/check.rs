@@ -5,7 +5,7 @@ use slopeboard_reference::gen::{self, Rng};
 use slopeboard_reference::naive::check;
 use slopeboard_reference::shapes;
 
-use crate::planning::{close_shifts, named_sheets, tied_shifts};
+use crate::planning::{close_shifts, driver_shifts, named_sheets, tied_shifts};
 use crate::{planned, Corpus, EXAMPLE, EXAMPLE_BOARD};
 
 const ENTRY: u8 = 5;
@@ -17,6 +17,7 @@ pub fn add(corpus: &mut Corpus) {
     step_cases(corpus);
     close_cases(corpus);
     tied_cases(corpus);
+    driver_cases(corpus);
     sheet_cases(corpus);
     seeded_cases(corpus);
     large_cases(corpus);
@@ -145,6 +146,23 @@ fn tied_cases(corpus: &mut Corpus) {
             let chosen = boards::choose(turns, back.chain(0..turns.len()));
             case(corpus, &sheet, &Draft::new(turns, chosen, steps).bytes());
         }
+    }
+}
+
+/// Steps in the planner's order, in orders that are allowed and in others,
+/// among these such as go against a driver's ends; full choices as well.
+fn driver_cases(corpus: &mut Corpus) {
+    let mut rng = Rng::new(52);
+    for shift in driver_shifts() {
+        let turns = &shift.turns;
+        let sheet = gen::encode(&mut rng, &shift, 0).bytes;
+        for order in [Order::Planned, Order::Allowed, Order::Free, Order::Free] {
+            let steps = boards::steps(&mut rng, turns, order);
+            let back = steps.iter().rev().map(|step| usize::from(step.0));
+            let chosen = boards::choose(turns, back.chain(0..turns.len()));
+            case(corpus, &sheet, &Draft::new(turns, chosen, steps).bytes());
+        }
+        case(corpus, &sheet, &boards::full(&mut rng, turns).bytes());
     }
 }
 

@@ -16,7 +16,7 @@ pub fn add(corpus: &mut Corpus) {
         case(corpus, &EXAMPLE, places);
     }
     for sheet in named_sheets() {
-        case(corpus, &sheet, gen::places_wanted(&sheet) / 5);
+        case(corpus, &sheet, gen::turns_claimed(&sheet));
     }
     for shift in close_shifts() {
         case(corpus, &bytes(&shift), 2);
@@ -41,7 +41,7 @@ fn case(corpus: &mut Corpus, sheet: &[u8], lent: usize) {
 /// The case with a place for each turn and, where the sheet is accepted, one
 /// place less and one place more.
 fn case_with_places(corpus: &mut Corpus, sheet: &[u8]) {
-    let turns = gen::places_wanted(sheet) / 5;
+    let turns = gen::turns_claimed(sheet);
     case(corpus, sheet, turns);
     if assign(sheet, &mut [0; MOST_PLACES]).is_ok() {
         case(corpus, sheet, turns.saturating_sub(1));
@@ -71,7 +71,7 @@ fn time_cases(corpus: &mut Corpus) {
         lists.push((0..turns).map(time).collect());
     }
     for times in lists {
-        let turn = |(start, length)| [1, 1, start, length, 1];
+        let turn = |(start, length)| [1, 1, start, length, 1, 0];
         let shift = Shift {
             groomers: 1,
             slopes: 1,

@@ -21,7 +21,7 @@ pub fn add(corpus: &mut Corpus) {
         let sheet = gen::encode(&mut Rng::new(0), &shift, 0).bytes;
         case(corpus, &sheet, 24);
     }
-    for shift in tied_shifts() {
+    for shift in tied_shifts().into_iter().chain(driver_shifts()) {
         let sheet = gen::encode(&mut Rng::new(0), &shift, 0).bytes;
         let turns = shift.turns.len();
         case(corpus, &sheet, 15 + turns.div_ceil(8) + 4 * turns);
@@ -43,7 +43,7 @@ fn case(corpus: &mut Corpus, sheet: &[u8], lent: usize) {
 /// The case with the room that is asked for and, where there is a choice, one
 /// byte less and one byte more.
 fn case_with_rooms(corpus: &mut Corpus, sheet: &[u8]) {
-    let turns = gen::places_wanted(sheet) / 5;
+    let turns = gen::turns_claimed(sheet);
     let wanted = 15 + turns.div_ceil(8) + 4 * turns;
     case(corpus, sheet, wanted);
     if plan(sheet, &mut [0; MOST_LENT]).is_ok() {
@@ -70,7 +70,7 @@ pub fn named_sheets() -> Vec<Vec<u8>> {
     let mut sheets: Vec<Vec<u8>> = headers.iter().map(|sheet| sheet.to_vec()).collect();
     sheets.extend(gen::single_bounds());
     sheets.extend(gen::wrong_marks(&EXAMPLE));
-    for map in [0, 0x0F, 0x3F, 0x5F, 0x9F] {
+    for map in [0, 0x0F, 0x2F, 0x5F, 0x7F, 0x9F] {
         let mut sheet = EXAMPLE.to_vec();
         sheet[gen::HEADER_LEN] = map;
         sheets.push(sheet);
@@ -78,14 +78,14 @@ pub fn named_sheets() -> Vec<Vec<u8>> {
     sheets
 }
 
-/// Two turns on two slopes, of one groomer and of two, the second up to 11
-/// minutes after the first, in both orders.
+/// Two turns on two slopes, of one groomer, of one driver and of neither, the
+/// second up to 11 minutes after the first, in both orders.
 pub fn close_shifts() -> Vec<Shift> {
     let mut shifts = Vec::new();
-    for groomer in [1, 2] {
+    for (groomer, drivers) in [(1, [0, 0]), (2, [0, 0]), (2, [7, 7]), (2, [7, 8])] {
         for minutes in [0, 1, 8, 9, 10, 11] {
-            let first = [1, 1, 100, 50, 70];
-            let second = [2, groomer, 150 + minutes, 40, 100];
+            let first = [1, 1, 100, 50, 70, drivers[0]];
+            let second = [2, groomer, 150 + minutes, 40, 100, drivers[1]];
             for turns in [[first, second], [second, first]] {
                 shifts.push(Shift {
                     groomers: 2,
@@ -105,15 +105,18 @@ pub fn tied_shifts() -> Vec<Shift> {
     // One slope, one groomer, and nothing in common.
     for (slope, groomer) in [(1, 2), (2, 1), (2, 2)] {
         for worth in [49, 50, 51] {
-            lists.push(vec![[1, 1, 0, 60, 50], [slope, groomer, 30, 30, worth]]);
+            lists.push(vec![
+                [1, 1, 0, 60, 50, 0],
+                [slope, groomer, 30, 30, worth, 0],
+            ]);
         }
     }
     // A first step that takes 60 from the turn of greater worth, by its slope
     // or by its groomer: it is then the poorer one, the richer one or neither.
     for (slope, groomer) in [(1, 3), (4, 1)] {
         for worth in [50, 109, 110, 111] {
-            let first = [1, 1, 0, 30, 60];
-            let (changed, other) = ([slope, groomer, 20, 70, worth], [3, 2, 30, 60, 50]);
+            let first = [1, 1, 0, 30, 60, 0];
+            let (changed, other) = ([slope, groomer, 20, 70, worth, 0], [3, 2, 30, 60, 50, 0]);
             lists.push(vec![first, changed, other]);
             lists.push(vec![other, changed, first]);
         }
@@ -127,6 +130,29 @@ pub fn tied_shifts() -> Vec<Shift> {
     let mut rng = Rng::new(33);
     for turns in 2..14 {
         shifts.push(shapes::shift(&mut rng, shapes::EQUAL_ENDS, turns));
+    }
+    shifts
+}
+
+/// Turns that conflict by driver, by driver and groomer, and by several ways
+/// with several turns.
+pub fn driver_shifts() -> Vec<Shift> {
+    let lists = [
+        vec![[1, 1, 0, 60, 10, 3], [2, 1, 30, 60, 50, 3]],
+        vec![[1, 1, 0, 60, 10, 3], [1, 2, 500, 60, 50, 3]],
+        vec![[1, 1, 0, 60, 10, 3], [2, 2, 500, 60, 20, 3]],
+        vec![[1, 1, 0, 60, 10, 3], [2, 2, 50, 10, 20, 3]],
+        vec![[1, 1, 0, 1, 1, 1], [2, 1, 0, 1, 1, 0], [3, 2, 0, 1, 1, 1]],
+    ];
+    let shift = |turns| Shift {
+        groomers: 3,
+        slopes: 4,
+        turns,
+    };
+    let mut shifts: Vec<Shift> = lists.into_iter().map(shift).collect();
+    let mut rng = Rng::new(34);
+    for more in 0..8 {
+        shifts.push(shapes::crossed(&mut rng, more));
     }
     shifts
 }

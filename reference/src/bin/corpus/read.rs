@@ -6,8 +6,8 @@ use slopeboard_reference::naive::read;
 use crate::{number_sum, Corpus, EXAMPLE, NUMBER_FILL};
 
 const ENTRY: u8 = 1;
-const MOST_PLACES: usize = 2004;
-const LONGEST_SHEET: usize = 4000;
+const MOST_PLACES: usize = 2408;
+const LONGEST_SHEET: usize = 4016;
 
 /// Where the last record of the example has its map.
 const EXAMPLE_LAST_MAP: usize = 31;
@@ -58,26 +58,64 @@ fn named_cases(corpus: &mut Corpus) {
         case_with_tables(corpus, &sheet);
     }
     for sheet in gen::wrong_marks(&EXAMPLE) {
-        case(corpus, &sheet, 20);
+        case(corpus, &sheet, 24);
+    }
+    for sheet in driver_sheets() {
+        case(corpus, &sheet, 12);
     }
     for len in 0..EXAMPLE.len() {
-        case(corpus, &EXAMPLE[..len], 20);
+        case(corpus, &EXAMPLE[..len], 24);
     }
 }
 
 fn sweeps(corpus: &mut Corpus) {
     for place in [gen::HEADER_LEN, EXAMPLE_LAST_MAP] {
         for sheet in gen::byte_sweep(&EXAMPLE, place) {
-            case(corpus, &sheet, 20);
+            case(corpus, &sheet, 24);
         }
     }
     for place in 0..gen::HEADER_LEN {
         for value in [0, 1, 2, 4, 5, 16, 17, 71, 77, 82, 120, 121, 144, 145, 255] {
             let mut sheet = EXAMPLE;
             sheet[place] = value;
-            case(corpus, &sheet, 20);
+            case(corpus, &sheet, 24);
         }
     }
+}
+
+/// Drivers named, left out and taken over, in the first record and later.
+fn driver_sheets() -> Vec<Vec<u8>> {
+    let fields = [1, 1, 0, 0, 0, 1, 0, 1];
+    let firsts: [(u8, &[u8]); 6] = [
+        (0x1F, &[]),
+        (0x3F, &[]),
+        (0x3F, &[0]),
+        (0x3F, &[1]),
+        (0x3F, &[40]),
+        (0x3F, &[41]),
+    ];
+    let laters: [&[u8]; 11] = [
+        &[],
+        &[0],
+        &[0x20],
+        &[0x20, 0],
+        &[0x20, 1],
+        &[0x20, 41],
+        &[0x21, 3, 40],
+        &[0x21, 4, 41],
+        &[0x30, 0, 0, 41],
+        &[0x60, 1],
+        &[0xA0, 1],
+    ];
+    let mut sheets = Vec::new();
+    for (map, driver) in firsts {
+        for later in laters {
+            let turns = if later.is_empty() { 1 } else { 2 };
+            let head = [0x47, 0x52, 0x4D, 2, 3, 0, turns, map];
+            sheets.push([&head, &fields[..], driver, later].concat());
+        }
+    }
+    sheets
 }
 
 fn seeded_cases(corpus: &mut Corpus) {

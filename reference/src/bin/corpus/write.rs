@@ -7,8 +7,8 @@ use slopeboard_reference::shapes;
 use crate::{byte_sum, Corpus, EXAMPLE, FILL};
 
 const ENTRY: u8 = 2;
-const MOST_LENT: usize = 4000;
-const MOST_NUMBERS: usize = 2048;
+const MOST_LENT: usize = 4096;
+const MOST_NUMBERS: usize = 2408;
 
 /// Counts at their bounds and far beyond what a byte holds.
 const COUNTS: [u32; 14] = [
@@ -82,7 +82,7 @@ fn case_with_rooms(corpus: &mut Corpus, table: &Table) {
 }
 
 fn example_cases(corpus: &mut Corpus) {
-    let mut numbers = [0; 20];
+    let mut numbers = [0; 24];
     read(&EXAMPLE, &mut numbers).expect("the example is accepted");
     let mut table = Table {
         groomers: 2,
@@ -106,22 +106,24 @@ fn example_cases(corpus: &mut Corpus) {
 
 /// Several causes at once: the first in the order counts.
 fn cause_cases(corpus: &mut Corpus) {
-    let (good, late) = ([1, 1, 0, 1, 1], [1, 1, 0, 1, 0, 0, 1, 0, 1, 1]);
+    let (good, late) = ([1, 1, 0, 1, 1, 0], [1, 1, 0, 1, 0, 0, 0, 1, 0, 1, 1, 0]);
     let faulty = [
-        [2, 2, 0, 0, 0],
-        [1, 2, 0, 0, 0],
-        [1, 1, 0, 0, 0],
-        [1, 1, 0, 1, 0],
+        [2, 2, 0, 0, 0, 0],
+        [1, 2, 0, 0, 0, 0],
+        [1, 1, 0, 0, 0, 0],
+        [1, 1, 0, 1, 0, 41],
+        [1, 1, 0, 1, 1, 41],
     ];
     for (groomers, slopes) in [(0, 0), (1, 1), (17, 1), (1, 121)] {
         let small = [
-            &good[..4],
+            &good[..5],
             &good,
             &late,
             &faulty[0],
             &faulty[1],
             &faulty[2],
             &faulty[3],
+            &faulty[4],
         ];
         for numbers in small {
             for lent in [0, 16] {
@@ -139,7 +141,7 @@ fn cause_cases(corpus: &mut Corpus) {
 /// Every order of the example's turns; drawn tables as they are, sorted and
 /// falling, some with many equal turns.
 fn order_cases(corpus: &mut Corpus) {
-    let mut numbers = [0; 20];
+    let mut numbers = [0; 24];
     read(&EXAMPLE, &mut numbers).expect("the example is accepted");
     for order in 0..256 {
         let order = [0, 2, 4, 6].map(|by| order >> by & 3);
@@ -147,7 +149,7 @@ fn order_cases(corpus: &mut Corpus) {
             let table = Table {
                 groomers: 2,
                 slopes: 3,
-                numbers: &order.map(|turn| &numbers[5 * turn..5 * turn + 5]).concat(),
+                numbers: &order.map(|turn| &numbers[6 * turn..6 * turn + 6]).concat(),
             };
             case(corpus, &table, 38);
         }
@@ -161,7 +163,7 @@ fn order_cases(corpus: &mut Corpus) {
         for shift in drawn {
             for shift in [&shift, &shapes::sorted(&shift), &shapes::falling(&shift)] {
                 let numbers = shift.turns.concat();
-                case(corpus, &Table::of(shift, &numbers), 7 + 9 * turns);
+                case(corpus, &Table::of(shift, &numbers), 7 + 10 * turns);
             }
         }
     }
@@ -170,18 +172,20 @@ fn order_cases(corpus: &mut Corpus) {
 /// Two faults, one in a turn that is written early and one in a turn that is
 /// written late: the first in the table counts.
 fn fault_cases(corpus: &mut Corpus) {
-    let good = [2, 1, 30, 60, 150];
+    let good = [2, 1, 30, 60, 150, 0];
     let early = [
-        [0, 1, 0, 1, 1],
-        [1, 0, 0, 1, 1],
-        [1, 1, 0, 0, 1],
-        [1, 1, 0, 1, 0],
+        [0, 1, 0, 1, 1, 0],
+        [1, 0, 0, 1, 1, 0],
+        [1, 1, 0, 0, 1, 0],
+        [1, 1, 0, 1, 0, 0],
+        [1, 1, 0, 1, 1, 41],
     ];
     let late = [
-        [4, 1, 0, 1, 1],
-        [3, 3, 0, 1, 1],
-        [3, 2, 900, 61, 1],
-        [3, 2, 0, 1, 60_001],
+        [4, 1, 0, 1, 1, 0],
+        [3, 3, 0, 1, 1, 0],
+        [3, 2, 900, 61, 1, 0],
+        [3, 2, 0, 1, 60_001, 0],
+        [3, 2, 0, 1, 1, 65_535],
     ];
     for early in early {
         for late in late {
@@ -198,23 +202,24 @@ fn fault_cases(corpus: &mut Corpus) {
 }
 
 fn bound_cases(corpus: &mut Corpus) {
-    let values: [&[u16]; 5] = [
+    let values: [&[u16]; 6] = [
         &[0, 1, 2, 3, 4, 255, 256, 257, 65_535],
         &[0, 1, 2, 3, 255, 256, 257, 65_535],
         &[0, 900, 901, 959, 960, 65_476, 65_535],
         &[0, 1, 60, 61, 960, 961, 64_636, 65_535],
         &[0, 1, 59_999, 60_000, 60_001, 65_535],
+        &[0, 1, 39, 40, 41, 255, 256, 257, 296, 65_535],
     ];
     for before in [false, true] {
         for (field, values) in values.iter().enumerate() {
             for &value in *values {
                 let mut numbers = if before {
-                    vec![2, 2, 900, 60, 100]
+                    vec![2, 2, 900, 60, 100, 0]
                 } else {
                     Vec::new()
                 };
-                numbers.extend([1, 1, 900, 60, 100]);
-                let place = numbers.len() - 5 + field;
+                numbers.extend([1, 1, 900, 60, 100, 0]);
+                let place = numbers.len() - 6 + field;
                 numbers[place] = value;
                 let table = Table {
                     groomers: 2,
@@ -252,7 +257,8 @@ fn seeded_cases(corpus: &mut Corpus) {
         let mut shift = gen::shift(&mut rng, turns);
         if round % 3 == 0 && turns > 0 {
             let turn = rng.below(turns as u32) as usize;
-            shift.turns[turn][rng.below(5) as usize] = rng.pick(&[0, 121, 961, 60_001, 65_535]);
+            let field = rng.below(6) as usize;
+            shift.turns[turn][field] = rng.pick(&[0, 41, 121, 961, 60_001, 65_535]);
         }
         let numbers = shift.turns.concat();
         let table = Table::of(&shift, &numbers);

@@ -39,8 +39,11 @@ put-two-requires c κs = search (needs, line-cases)
 same-length : tie.Need-same-length
 same-length c = search needs
 
+-- what was asked of the turn's number lies behind more records than the search enters
 returns : tie.Need-returns
-returns c = (search (needs, line-cases), search (needs, line-cases))
+returns c =
+    let inside = c .before .before .before .before .before .before .before .before .before .before .before .before .before .before .before .before .before .before .before .before .before .pre .0 in
+    (search (needs, line-cases), search (needs, line-cases))
 
 pub put-line-spec : {M : Type 1} → statement M
 put-line-spec =

@@ -45,6 +45,15 @@ mul-cols-5 c = search needs
 element-write-cols-5 : tie.Need-element-write-cols-5
 element-write-cols-5 c = search needs
 
+add-cols-5 : tie.Need-add-cols-5
+add-cols-5 c = search needs
+
+mul-cols-6 : tie.Need-mul-cols-6
+mul-cols-6 c = search needs
+
+element-write-cols-6 : tie.Need-element-write-cols-6
+element-write-cols-6 c = search needs
+
 returns : tie.Need-returns
 returns c = search (needs, row-cases)
 
@@ -66,4 +75,7 @@ put-row-spec =
     add-cols-4
     mul-cols-5
     element-write-cols-5
+    add-cols-5
+    mul-cols-6
+    element-write-cols-6
     returns)

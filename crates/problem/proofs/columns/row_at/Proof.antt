@@ -45,6 +45,15 @@ mul-t23 c = search needs
 element-copy-out-t26 : tie.Need-element-copy-out-t26
 element-copy-out-t26 c = search needs
 
+add-t27 : tie.Need-add-t27
+add-t27 c = search needs
+
+mul-t28 : tie.Need-mul-t28
+mul-t28 c = search needs
+
+element-copy-out-t31 : tie.Need-element-copy-out-t31
+element-copy-out-t31 c = search needs
+
 returns : tie.Need-returns
 returns c = search (needs, row-cases)
 
@@ -66,4 +75,7 @@ row-at-spec =
     add-t22
     mul-t23
     element-copy-out-t26
+    add-t27
+    mul-t28
+    element-copy-out-t31
     returns)

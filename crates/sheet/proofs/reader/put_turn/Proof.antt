@@ -16,6 +16,9 @@ add-a3 c = search needs
 add-a4 : tie.Need-add-a4
 add-a4 c = search needs
 
+add-a5 : tie.Need-add-a5
+add-a5 c = search needs
+
 mul-table : tie.Need-mul-table
 mul-table c = search needs
 
@@ -46,6 +49,12 @@ mul-table-5 c = search needs
 slice-write-table-5 : tie.Need-slice-write-table-5
 slice-write-table-5 c = simp length-set (omega arith)
 
+mul-table-6 : tie.Need-mul-table-6
+mul-table-6 c = search needs
+
+slice-write-table-6 : tie.Need-slice-write-table-6
+slice-write-table-6 c = simp length-set (omega arith)
+
 add-result : tie.Need-add-result
 add-result c = search needs
 
@@ -63,6 +72,7 @@ put-turn-spec =
     add-a2
     add-a3
     add-a4
+    add-a5
     mul-table
     slice-write-table
     mul-table-2
@@ -73,6 +83,8 @@ put-turn-spec =
     slice-write-table-4
     mul-table-5
     slice-write-table-5
+    mul-table-6
+    slice-write-table-6
     add-result
     same-length
     returns)
