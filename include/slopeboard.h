@@ -19,7 +19,7 @@
  *   the order under each function says which is given.
  * - On success, the places of a lent buffer past the last one written hold what they held before.
  * - All working space is on the caller's stack, and no function calls itself. In bytes, read off the compiled
- *   code: slopeboard_list 18,592, slopeboard_plan 14,736, slopeboard_check 11,400, slopeboard_assign 10,536,
+ *   code: slopeboard_list 24,296, slopeboard_plan 20,424, slopeboard_check 11,416, slopeboard_assign 10,536,
  *   slopeboard_write 6,616, slopeboard_read 4,936, each of the others fewer than 100. What memcpy and memset need comes on top.
  *
  * In sheets and boards, a number of several bytes begins with its high byte. Turns are numbered from 0

@@ -1,3 +1,3 @@
 pub mod Bounds
 pub mod Below
-pub mod Keys
+pub mod Remaining

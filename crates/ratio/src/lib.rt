@@ -1,4 +1,5 @@
 // The engine of the local ratio method: residuals, the pick, the order of steps, the steps themselves.
+mod ordering;
 mod orders;
 mod picking;
 mod residuals;

@@ -97,6 +97,14 @@ const ENTRIES: [Entry; 4] = [
     },
 ];
 
+/// The planner beside one that makes its steps in the same order as it does:
+/// removes what is spent, looks for the earliest end, subtracts.
+const PLAN_SAME_ORDER: Entry = Entry {
+    name: "plan o",
+    library: |job| slopeboard::plan(&job.sheet, &mut job.bytes).is_ok(),
+    reference: |job| fast::plan_as_printed(&job.sheet, &mut job.bytes).is_ok(),
+};
+
 /// The entry whose time goes by the order of the turns.
 const WRITE: Entry = Entry {
     name: "write",
@@ -245,9 +253,10 @@ fn main() {
     println!("times of one call in microseconds; n is the number of turns, m of steps,");
     println!("g of groomers that do all turns;");
     println!("w: 16 groomers, 120 slopes, lengths 30 to 90, worths 1 to 60,000; d: with drivers");
+    println!("plan o: the reference makes its steps in the same order as the library");
     println!("                     library             reference");
     println!("entry  sheet              best    median        best    median   ratio  growth");
-    for entry in &ENTRIES {
+    for entry in ENTRIES.iter().chain([&PLAN_SAME_ORDER]) {
         let mut before: Option<f64> = None;
         for jobs in &mut usual {
             let times = measure_all(entry, jobs);
