@@ -44,7 +44,7 @@ module _ (s : List ℕ) (e : firstOf (sheetCauses s) ≡ 0) where
   pub planned-passes : Passes s (plannedBoard s)
   planned-passes =
       let r = planned-back s e in
-      parts-pass s (plannedBoard s) e (record { form = rw (r .turns ∙ sheet-count s e) at (formed-board (plannedBoard s) (r .opens)); rules = planned-rules })
+      parts-pass s (plannedBoard s) e (record { form = rw (r .turns ∙ sheet-count s e) at (formed-board (plannedBoard s) (r .planned-opens)); rules = planned-rules })
 
   -- and the check's answer is the plan's tally and worth
   pub planned-answer : checkOf s (plannedBoard s) ≡ checked 0 (tally (steps (sheetTurns s))) (chosen (sheetTurns s .count) (choice (sheetTurns s)) (sheetTurns s .worth))

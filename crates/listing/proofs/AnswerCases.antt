@@ -34,7 +34,7 @@ use Rattle.problem.specs.Problem.{sheetTurns}
 use Rattle.problem.specs.Load.{shiftSize, Posed}
 use Rattle.problem.proofs.Rows.{count-is, lengths-are}
 use Rattle.planner.specs.Plan.{boardFor}
-use Rattle.planner.proofs.Boards.{board-bytes, board-most, ReadsBack, board-back}
+use Rattle.planner.proofs.Boards.{planned-bytes, board-most, ReadsBack, board-back}
 use Rattle.listing.specs.Text.{listingOf}
 use Rattle.listing.specs.Ready.{Ready}
 use Rattle.listing.specs.Limits.{listingBytes}
@@ -66,8 +66,8 @@ module _ (text space : List ℕ) (room : length text ≤ length space) {bytes : 
   front-part : bytes ≡ length (take bytes b)
   front-part = rw front-is e
 
-pub counted : {k : ℕ} → k ≤ listingBytes → k ≤ lastPlace
-counted h = omega arith
+pub bytes-in-place : {k : ℕ} → k ≤ listingBytes → k ≤ lastPlace
+bytes-in-place h = omega arith
 
 module _ (text space : List ℕ) (short : length text ≤ listingBytes) (room : listingBytes ≤ length space) {bytes : ℕ} {b : List ℕ} (e : bytes ≡ length text) (f : b ≡ puts space 0 text) where
   held : length text ≤ length space
@@ -85,7 +85,7 @@ module _ (text space : List ℕ) (short : length text ≤ listingBytes) (room : 
   pub copied-done : (lent : List ℕ) {lent′ : List ℕ} → bytes ≤ length lent → lent′ ≡ puts lent 0 (take bytes b) → listed (record { refusal = 0; bytes = bytes }) lent′ ≡ textAnswer text lent
   copied-done lent h g = text-wrote text lent e h (rw (front-is text space held e f) at g)
 
-pub ruleset text-cases = (text-small, counted, copy-holds, copy-part, copy-fits, copied-done)
+pub ruleset text-cases = (text-small, bytes-in-place, copy-holds, copy-part, copy-fits, copied-done)
 
 -- ---- the planner's board
 
@@ -100,7 +100,7 @@ module _ (size : Size) (cols b : List ℕ) (e : b ≡ boardFor (turnsBy size col
   lengths = lengths-are size cols held
 
   pub board-opens : malformed b ≡ false
-  board-opens = back .opens
+  board-opens = back .planned-opens
 
   pub board-header : boardHeader ≤ length b
   board-header = formed-header b board-opens
@@ -114,7 +114,7 @@ module _ (size : Size) (cols b : List ℕ) (e : b ≡ boardFor (turnsBy size col
     choice-is = rw q (ap (λ k. choiceIn k (boardMap b)) (sym turns-are) ∙ back .chosen-turns)
 
     map-clean : Clean (size .count) map
-    map-clean = rw q (rw turns-are at (formed-clean b board-opens (rw e (board-bytes T))))
+    map-clean = rw q (rw turns-are at (formed-clean b board-opens (rw e (planned-bytes T))))
 
     pub board-ready : Ready size cols map
     board-ready = record { held = held; clean = map-clean; apart = rw choice-is (apart-starts T (choice T) (planned-keeps T lengths .apart) lengths) }

@@ -17,10 +17,10 @@ unfolding rows
 rows-length [] = refl
 rows-length (t ∷ ts) = omega (arith, rows-length ts)
 
-pub turns-length : (k : ℕ) (table : List ℕ) (i : ℕ) → length (turnsOfTable k table i) ≡ k
+pub table-turns-length : (k : ℕ) (table : List ℕ) (i : ℕ) → length (turnsOfTable k table i) ≡ k
 unfolding turnsOfTable
-turns-length zero table i = refl
-turns-length (suc k) table i = ap suc (turns-length k table (i + 1))
+table-turns-length zero table i = refl
+table-turns-length (suc k) table i = ap suc (table-turns-length k table (i + 1))
 
 -- ---- one turn of a table
 

@@ -21,7 +21,7 @@ use Rattle.wire.proofs.Numbers.{bytes-below}
 use Rattle.turns.specs.declared.Turn.{Turn}
 use Rattle.turns.specs.declared.Counts.{Counts}
 use Rattle.turns.specs.Turn.{rowNumbers, rows, tableRows, tableTurns, InRange}
-use Rattle.turns.proofs.Rows.{rows-length, turns-length, turns-rows}
+use Rattle.turns.proofs.Rows.{rows-length, table-turns-length, turns-rows}
 use Rattle.sheet.specs.Kind.{garage}
 use Rattle.sheet.specs.Record.{firstCursor}
 use Rattle.sheet.specs.Read.{countsIn, turnCount, countCauses, causesFor, turnsOf, tableOf, readCausesFor, Outcome, outcome, atFront, readRefused, readFor, readOf}
@@ -87,7 +87,7 @@ sheet-below counts ts g s =
 
 module _ (counts : Counts) (table : List ℕ) (e : firstOf (tableCauses counts table) ≡ 0) where
   written-rows : length (writtenTurns table) ≡ tableRows table
-  written-rows = sorted-length (tableTurns table) ∙ turns-length (tableRows table) table 0
+  written-rows = sorted-length (tableTurns table) ∙ table-turns-length (tableRows table) table 0
 
   pub written-sheet : SheetFor garage (sheetOf counts (writtenTurns table)) counts (writtenTurns table)
   unfolding sortedTurns
@@ -222,7 +222,7 @@ unfolding sortedTurns
 one-sheet counts a b out same whole e =
     let s = table-writable counts a e in
     let t : writtenTurns a ≡ writtenTurns b = sorted-same (tableTurns a) (tableTurns b) same in
-    let n : tableRows b ≡ tableRows a = sym (turns-length (tableRows b) b 0) ∙ sym (sorted-length (tableTurns b)) ∙ sym (ap length t) ∙ sorted-length (tableTurns a) ∙ turns-length (tableRows a) a 0 in
+    let n : tableRows b ≡ tableRows a = sym (table-turns-length (tableRows b) b 0) ∙ sym (sorted-length (tableTurns b)) ∙ sym (ap length t) ∙ sorted-length (tableTurns a) ∙ table-turns-length (tableRows a) a 0 in
     let all : AllOf (InRange counts) (writtenTurns b) = subst (AllOf (InRange counts)) t (sort-all turnAtMost (InRange counts) (fine-all counts (tableTurns a) (s .fine))) in
     let z = writable-table counts b (record { whole = whole; legal = rw n (s .legal); fine = all-fine counts (unsorted-all turnAtMost (InRange counts) (tableTurns b) all) }) in
     write-clear counts b out z ∙ rw (← t) (sym (write-clear counts a out e))
