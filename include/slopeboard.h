@@ -41,7 +41,7 @@ extern "C" {
 #endif
 
 /* The number of this interface. Each change that a caller can see raises it. */
-#define SLOPEBOARD_VERSION 7
+#define SLOPEBOARD_VERSION 8
 
 /* The refusals. */
 enum {
@@ -63,13 +63,15 @@ enum {
     SLOPEBOARD_TURN_LEFT_OPEN = 16,   /* the steps leave a turn open */
     SLOPEBOARD_WRONG_SUMS = 17,       /* tally or worth is not its sum, or the worth is below the tally */
     SLOPEBOARD_PARTIAL_TURN = 18,     /* a turn table's length is no multiple of six */
-    SLOPEBOARD_BAD_DRIVER = 19        /* a turn's driver is above 40 */
+    SLOPEBOARD_BAD_DRIVER = 19,       /* a turn's driver is above 40 */
+    SLOPEBOARD_TOO_MANY_FOR_SHORT = 20 /* more than 96 turns, for slopeboard_read_short */
 };
 
 /* The limits, and what buffers can need at most. */
 #define SLOPEBOARD_MOST_GROOMERS 16
 #define SLOPEBOARD_MOST_SLOPES 120
 #define SLOPEBOARD_MOST_TURNS 400
+#define SLOPEBOARD_MOST_SHORT_TURNS 96
 #define SLOPEBOARD_MOST_DRIVER 40
 #define SLOPEBOARD_NUMBERS_PER_TURN 6
 #define SLOPEBOARD_MOST_NUMBERS (SLOPEBOARD_NUMBERS_PER_TURN * SLOPEBOARD_MOST_TURNS)
@@ -129,6 +131,14 @@ typedef struct {
  * map, 5, 1 for missing fields, 6, 7, 8, 9, 19; then 10; then 11 if table_len is below six times the
  * turns. */
 slopeboard_read_answer slopeboard_read(const uint8_t *sheet, size_t sheet_len, uint16_t *table, size_t table_len);
+
+/* Reads a sheet as slopeboard_read does, but none of more than SLOPEBOARD_MOST_SHORT_TURNS turns. What both
+ * accept they read alike.
+ *
+ * Refusals: those of slopeboard_read, in their order, with 20 for more than 96 turns in the place of 4, which
+ * is never given. */
+slopeboard_read_answer slopeboard_read_short(const uint8_t *sheet, size_t sheet_len, uint16_t *table,
+                                             size_t table_len);
 
 /* Writes the sheet that has these counts and the turns of the table. In the sheet the turns stand by
  * slope, then by groomer, start, length, worth and driver, each rising, whatever order the table has; each

@@ -4,6 +4,8 @@
 pub const MAX_GROOMERS: u32 = 16;
 pub const MAX_SLOPES: u32 = 120;
 pub const MAX_TURNS: usize = 400;
+/// Turns that the short reader takes.
+pub const MAX_SHORT_TURNS: usize = 96;
 pub const LAST_END: u32 = 960;
 pub const MAX_WORTH: u16 = 60_000;
 

@@ -19,12 +19,14 @@ pub use refusal::Refusal;
 
 /// The number of this interface, as `SLOPEBOARD_VERSION` in the header: each
 /// change that a caller can see raises it.
-pub const VERSION: u32 = 7;
+pub const VERSION: u32 = 8;
 
 /// Numbers that a turn takes in a turn table: slope, groomer, start, length,
 /// worth, driver. Driver 0 is none.
 pub const NUMBERS_PER_TURN: usize = 6;
 pub const MOST_TURNS: usize = 400;
+/// Turns that [`read_short`] takes at most.
+pub const MOST_SHORT_TURNS: usize = 96;
 /// Bytes that hold any sheet.
 pub const MOST_SHEET_BYTES: usize = 7 + 10 * MOST_TURNS;
 /// Bytes that hold any listing: no listing has more than 3,806.
@@ -63,13 +65,14 @@ pub struct Sums {
 /// a turn.
 pub fn read(sheet: &[u8], table: &mut [u16]) -> Result<Counts, Refusal> {
     let (table, table_len) = (table.as_mut_ptr(), table.len());
-    let answer = unsafe { raw::slopeboard_read(sheet.as_ptr(), sheet.len(), table, table_len) };
-    refusal::none(answer.refusal)?;
-    Ok(Counts {
-        groomers: answer.groomers,
-        slopes: answer.slopes,
-        turns: answer.turns,
-    })
+    counts(unsafe { raw::slopeboard_read(sheet.as_ptr(), sheet.len(), table, table_len) })
+}
+
+/// Reads a sheet of at most [`MOST_SHORT_TURNS`] turns just as [`read`] does,
+/// and refuses every other.
+pub fn read_short(sheet: &[u8], table: &mut [u16]) -> Result<Counts, Refusal> {
+    let (table, table_len) = (table.as_mut_ptr(), table.len());
+    counts(unsafe { raw::slopeboard_read_short(sheet.as_ptr(), sheet.len(), table, table_len) })
 }
 
 /// Writes the shortest sheet with these counts and the turns of the table,
@@ -145,6 +148,15 @@ pub fn assign(sheet: &[u8], places: &mut [u16]) -> Result<u16, Refusal> {
     let answer = unsafe { raw::slopeboard_assign(sheet.as_ptr(), sheet.len(), places, places_len) };
     refusal::none(answer.refusal)?;
     Ok(answer.groomers)
+}
+
+fn counts(answer: raw::ReadAnswer) -> Result<Counts, Refusal> {
+    refusal::none(answer.refusal)?;
+    Ok(Counts {
+        groomers: answer.groomers,
+        slopes: answer.slopes,
+        turns: answer.turns,
+    })
 }
 
 fn length(answer: raw::BytesAnswer) -> Result<usize, Refusal> {

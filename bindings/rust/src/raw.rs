@@ -60,6 +60,13 @@ extern "C" {
         table_len: usize,
     ) -> ReadAnswer;
 
+    pub fn slopeboard_read_short(
+        sheet: *const u8,
+        sheet_len: usize,
+        table: *mut u16,
+        table_len: usize,
+    ) -> ReadAnswer;
+
     pub fn slopeboard_write(
         groomers: u32,
         slopes: u32,

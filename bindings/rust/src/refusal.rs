@@ -45,10 +45,12 @@ pub enum Refusal {
     PartialTurn = 18,
     /// A turn's driver is above 40.
     BadDriver = 19,
+    /// More than 96 turns, which are too many for the short reader.
+    TooManyForShort = 20,
 }
 
 /// By number, from 1.
-const ALL: [Refusal; 19] = [
+const ALL: [Refusal; 20] = [
     Refusal::Truncated,
     Refusal::BadMagic,
     Refusal::BadCounts,
@@ -68,6 +70,7 @@ const ALL: [Refusal; 19] = [
     Refusal::WrongSums,
     Refusal::PartialTurn,
     Refusal::BadDriver,
+    Refusal::TooManyForShort,
 ];
 
 impl Refusal {
@@ -75,7 +78,7 @@ impl Refusal {
         self as u8
     }
 
-    /// The refusal with this number; none for 0 and for numbers above 19.
+    /// The refusal with this number; none for 0 and for numbers above 20.
     pub fn from_number(number: u8) -> Option<Refusal> {
         let place = usize::from(number).checked_sub(1)?;
         ALL.get(place).copied()
@@ -87,7 +90,7 @@ pub(crate) fn none(number: u8) -> Result<(), Refusal> {
     if number == 0 {
         return Ok(());
     }
-    Err(Refusal::from_number(number).expect("the library gives the numbers 0 to 19 only"))
+    Err(Refusal::from_number(number).expect("the library gives the numbers 0 to 20 only"))
 }
 
 impl fmt::Display for Refusal {

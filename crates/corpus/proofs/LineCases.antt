@@ -12,7 +12,7 @@ use Rattle.lists.specs.Lists.{tab}
 use Rattle.lists.proofs.Sums.{tab-length}
 use Rattle.refusal.specs.Written.{Written}
 use Rattle.sheet.specs.declared.reader.ReadAnswer.{ReadAnswer}
-use Rattle.sheet.specs.Read.{Outcome, outcome, readOf}
+use Rattle.sheet.specs.Read.{Outcome, outcome}
 use Rattle.writer.specs.Write.{countsOf, writeOf}
 use Rattle.board.specs.Open.{openOf, stepsPart}
 use Rattle.audit.specs.declared.judge.CheckAnswer.{CheckAnswer}
@@ -134,12 +134,13 @@ module _ (w : Written) {a b : ℕ} {l : List ℕ} (e : _≡_ {A = Written} (reco
   pub lent-is : l ≡ w .lent
   lent-is = ap (λ (x : Written). x .lent) e
 
-module _ (s lent : List ℕ) {a : ReadAnswer} {t : List ℕ} (e : outcome a t ≡ readOf s lent) where
-  pub read-line : {sum : ℕ} → sum ≡ sumOf t → _≡_ {A = ReadLine} (record { refusal = a .refusal; groomers = a .groomers; slopes = a .slopes; turns = a .turns; last = sum }) (readLine (readOf s lent))
+-- of any reader's outcome
+module _ (o : Outcome) {a : ReadAnswer} {t : List ℕ} (e : outcome a t ≡ o) where
+  pub read-line : {sum : ℕ} → sum ≡ sumOf t → _≡_ {A = ReadLine} (record { refusal = a .refusal; groomers = a .groomers; slopes = a .slopes; turns = a .turns; last = sum }) (readLine o)
   unfolding readLine
   read-line f = rw (f, ← e)
 
-  pub read-table : t ≡ readOf s lent .table
+  pub read-table : t ≡ o .table
   read-table = ap (λ (o : Outcome). o .table) e
 
 module _ (s lent : List ℕ) {a : PartitionAnswer} {l : List ℕ} (e : partitioned a l ≡ partitionOf s lent) where

@@ -9,6 +9,7 @@ ghost use Rattle.audit.specs.Check.{checkOf};
 ghost use Rattle.planner.specs.Plan.{planOf};
 ghost use Rattle.listing.specs.List.{listOf};
 ghost use Rattle.partition.specs.Partition.{partitionOf};
+ghost use Rattle.screen.specs.Screen.{readShortOf};
 ghost use Rattle.corpus.specs.Line.{countsHeld, unpacked, sumOf, writtenLine, readLine, partitionLine};
 use super::tools;
 use board::CountAnswer;
@@ -36,6 +37,21 @@ pub fn read(sheet: &[u8], table: &mut [u16]) -> ReadLine
         × (now (table .exit) ≡ readOf (now (sheet .entry)) (now (table .entry)) .table) ⌝ }
 {
     let answer = sheet::read(sheet, &mut *table);
+    ReadLine {
+        refusal: answer.refusal,
+        groomers: answer.groomers,
+        slopes: answer.slopes,
+        turns: answer.turns,
+        last: tools::number_sum(&*table),
+    }
+}
+
+// Reading a sheet for the short screen, likewise.
+pub fn short(sheet: &[u8], table: &mut [u16]) -> ReadLine
+    ensures { λ r. ⌜ (r ≡ readLine (readShortOf (now (sheet .entry)) (now (table .entry))))
+        × (now (table .exit) ≡ readShortOf (now (sheet .entry)) (now (table .entry)) .table) ⌝ }
+{
+    let answer = screen::read_short(sheet, &mut *table);
     ReadLine {
         refusal: answer.refusal,
         groomers: answer.groomers,

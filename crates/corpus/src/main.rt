@@ -20,7 +20,7 @@ const MOST_BYTES: usize = 8192;
 // How many bytes of input follow a case's head.
 fn input_size(entry: u8, first: u16, second: u16) -> usize {
     match entry {
-        1 | 3 | 4 | 6 | 7 | 8 | 9 => second as usize,
+        1 | 3 | 4 | 6 | 7 | 8 | 9 | 10 => second as usize,
         2 => 8 + 2 * (second as usize),
         5 => first as usize + second as usize,
         _ => 0,
@@ -31,7 +31,7 @@ fn input_size(entry: u8, first: u16, second: u16) -> usize {
 // board to be checked, or the numbers of the writer's table.
 fn front_size(entry: u8, first: u16, second: u16) -> usize {
     match entry {
-        1 | 3 | 4 | 6 | 7 | 8 | 9 => second as usize,
+        1 | 3 | 4 | 6 | 7 | 8 | 9 | 10 => second as usize,
         2 => 8,
         5 => first as usize,
         _ => 0,
@@ -42,7 +42,7 @@ fn front_size(entry: u8, first: u16, second: u16) -> usize {
 // those for the turns' groomers.
 fn numbers_lent(entry: u8, first: u16, second: u16) -> usize {
     match entry {
-        1 | 9 => first as usize,
+        1 | 9 | 10 => first as usize,
         2 => second as usize,
         _ => 0,
     }
@@ -71,8 +71,8 @@ fn print_line(name: &[u8], line: entries::Line) {
     io::write_all(STDOUT_FILENO, b"\n");
 }
 
-fn print_read(line: entries::ReadLine) {
-    io::write_all(STDOUT_FILENO, b"read");
+fn print_read(name: &[u8], line: entries::ReadLine) {
+    io::write_all(STDOUT_FILENO, name);
     put(line.refusal as u64);
     put(line.groomers as u64);
     put(line.slopes as u64);
@@ -106,7 +106,7 @@ fn run_entry(
     tools::fill_numbers(&mut *numbers);
     tools::fill_bytes(&mut *bytes);
     match entry {
-        1 => print_read(entries::read(front, &mut *numbers)),
+        1 => print_read(b"read", entries::read(front, &mut *numbers)),
         2 => print_line(
             b"write",
             entries::write(front, rest, &mut *numbers, &mut *bytes),
@@ -118,6 +118,7 @@ fn run_entry(
         7 => print_count(entries::count(front)),
         8 => print_chosen(entries::chosen(front, first)),
         9 => print_line(b"assign", entries::assign(front, &mut *numbers)),
+        10 => print_read(b"short", entries::short(front, &mut *numbers)),
         _ => {
             return false;
         }

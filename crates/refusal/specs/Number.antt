@@ -76,3 +76,7 @@ partialTurn = 18
 -- a driver above 40
 abbrev pub badDriver : ℕ
 badDriver = 19
+
+-- more than 96 turns, for the lift desk's screen
+abbrev pub tooManyForScreen : ℕ
+tooManyForScreen = 20

@@ -38,3 +38,5 @@ pub const WRONG_SUMS: u8 = 17; // sums: the amounts do not add up to the tally, 
 pub const PARTIAL_TURN: u8 = 18; // uneven: the numbers of a turn table do not make whole turns
 
 pub const BAD_DRIVER: u8 = 19; // the driver is above 40
+
+pub const TOO_MANY_FOR_SCREEN: u8 = 20; // more than 96 turns, for the lift desk's screen

@@ -12,6 +12,7 @@ ghost use Rattle.planner.specs.Plan.{planOf};
 ghost use Rattle.listing.specs.Answer.{listed};
 ghost use Rattle.listing.specs.List.{listOf};
 ghost use Rattle.partition.specs.Partition.{partitioned, partitionOf};
+ghost use Rattle.screen.specs.Screen.{readShortOf};
 ghost use Rattle.slopeboard.specs.Part.{stepsPartAt};
 use audit::CheckAnswer;
 use board::CountAnswer;
@@ -33,6 +34,13 @@ pub extern "C" fn slopeboard_read(sheet: &[u8], table: &mut [u16]) -> ReadAnswer
     ensures { λ r. ⌜ outcome r (now (table .exit)) ≡ readOf (now (sheet .entry)) (now (table .entry)) ⌝ }
 {
     sheet::read(sheet, &mut *table)
+}
+
+#[no_mangle]
+pub extern "C" fn slopeboard_read_short(sheet: &[u8], table: &mut [u16]) -> ReadAnswer
+    ensures { λ r. ⌜ outcome r (now (table .exit)) ≡ readShortOf (now (sheet .entry)) (now (table .entry)) ⌝ }
+{
+    screen::read_short(sheet, &mut *table)
 }
 
 #[no_mangle]

@@ -31,6 +31,12 @@ pub fn read(sheet: &[u8], table: &mut [u16]) -> ReadAnswer {
     unsafe { raw::slopeboard_read(sheet, sheet_len, table, table_len) }
 }
 
+/// Reads a short sheet into a turn table.
+pub fn read_short(sheet: &[u8], table: &mut [u16]) -> ReadAnswer {
+    let ((sheet, sheet_len), (table, table_len)) = (parts(sheet), parts_mut(table));
+    unsafe { raw::slopeboard_read_short(sheet, sheet_len, table, table_len) }
+}
+
 /// Writes a turn table as a sheet.
 pub fn write(groomers: u32, slopes: u32, table: &[u16], out: &mut [u8]) -> BytesAnswer {
     let ((table, table_len), (out, out_len)) = (parts(table), parts_mut(out));

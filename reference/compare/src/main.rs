@@ -24,6 +24,7 @@ use std::process::ExitCode;
 fn main() -> ExitCode {
     let entries: &[fn() -> bool] = &[
         read::run,
+        read::run_short,
         write::run,
         open::run,
         choice::run,

@@ -1,7 +1,7 @@
-//! Reading a sheet.
+//! Reading a sheet, and reading a short one.
 
 use slopeboard_reference::gen::{self, Encoded, Rng};
-use slopeboard_reference::limits::FIELDS;
+use slopeboard_reference::limits::{FIELDS, MAX_SHORT_TURNS, MAX_TURNS};
 use slopeboard_reference::naive::{self, Counts};
 
 use crate::foreign::{self, ReadAnswer};
@@ -16,11 +16,42 @@ const BEHIND: usize = 16;
 
 const TYPICAL_SHEETS: u32 = 120_000;
 
-/// Compares the two readers on all inputs.
+/// A reader in both versions, and the most turns that it takes.
+struct Reader {
+    ours: fn(&[u8], &mut [u16]) -> Result<Counts, u8>,
+    theirs: fn(&[u8], &mut [u16]) -> ReadAnswer,
+    most_turns: usize,
+}
+
+const FULL: Reader = Reader {
+    ours: naive::read,
+    theirs: foreign::read,
+    most_turns: MAX_TURNS,
+};
+
+const SHORT: Reader = Reader {
+    ours: naive::read_short,
+    theirs: foreign::read_short,
+    most_turns: MAX_SHORT_TURNS,
+};
+
+/// Compares the two versions of the reader on all inputs.
 pub fn run() -> bool {
+    let report = compared(FULL, 2024, "read");
+    report.finish((1..=11).chain([19]))
+}
+
+/// The same for the short reader.
+pub fn run_short() -> bool {
+    let report = compared(SHORT, 2034, "short");
+    report.finish((1..=3).chain(5..=11).chain([19, 20]))
+}
+
+fn compared(reader: Reader, seed: u64, name: &'static str) -> Report {
     let mut run = Run {
-        rng: Rng::new(2024),
-        report: Report::new("read"),
+        reader,
+        rng: Rng::new(seed),
+        report: Report::new(name),
         ours: Vec::new(),
         theirs: Vec::new(),
         bytes: Vec::new(),
@@ -35,11 +66,12 @@ pub fn run() -> bool {
     run.bounds();
     run.marks_and_tails();
     run.several_faults();
-    run.report.finish((1..=11).chain([19]))
+    run.report
 }
 
 /// The state of a run. The buffers are kept to spare the allocator.
 struct Run {
+    reader: Reader,
     rng: Rng,
     report: Report,
     ours: Vec<u16>,
@@ -76,9 +108,11 @@ impl Run {
         }
     }
 
-    /// Sheets with 399 to 402 turns, complete in every record.
+    /// Sheets with the most turns, one less, one more and two more, complete
+    /// in every record.
     fn sheets_at_the_limit(&mut self) {
-        for turns in 399..=402 {
+        let most = self.reader.most_turns;
+        for turns in most - 1..=most + 2 {
             for _ in 0..70 {
                 let sheet = gen::typical(&mut self.rng, turns).bytes;
                 for places in [turns * FIELDS - 1, turns * FIELDS, turns * FIELDS + 1] {
@@ -210,8 +244,8 @@ impl Run {
         let first = self.lay_out(sheet, behind, places);
         let sheet = &self.bytes[first..first + sheet.len()];
         let lent = GUARD..GUARD + places;
-        let ours = answer(naive::read(sheet, &mut self.ours[lent.clone()]));
-        let theirs = foreign::read(sheet, &mut self.theirs[lent.clone()]);
+        let ours = answer((self.reader.ours)(sheet, &mut self.ours[lent.clone()]));
+        let theirs = (self.reader.theirs)(sheet, &mut self.theirs[lent.clone()]);
         self.report.count(ours.refusal);
         if ours != theirs {
             let text = || format!("{ours:?} but {theirs:?}: {}", show(sheet, places));
@@ -225,6 +259,8 @@ impl Run {
             let turns = usize::from(ours.turns);
             let first_map = sheet.get(gen::HEADER_LEN).copied();
             let table = &self.ours[lent][..turns * FIELDS];
+            let most = turns == self.reader.most_turns;
+            self.report.property("accepted with the most turns", most);
             note_properties(&mut self.report, first_map, table);
         }
     }
@@ -278,7 +314,6 @@ fn first_difference(ours: &[u16], theirs: &[u16]) -> Option<usize> {
 fn note_properties(report: &mut Report, first_map: Option<u8>, table: &[u16]) {
     let turns = table.len() / FIELDS;
     report.property("accepted with 0 turns", turns == 0);
-    report.property("accepted with 400 turns", turns == 400);
     let pairs = || {
         table
             .chunks_exact(FIELDS)

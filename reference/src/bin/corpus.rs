@@ -10,7 +10,7 @@
 //! repository, with the entries that the crate runs:
 //!
 //! ```text
-//! cargo run --release --manifest-path reference/Cargo.toml --bin corpus -- crates/corpus read write plan open check list count chosen assign
+//! cargo run --release --manifest-path reference/Cargo.toml --bin corpus -- crates/corpus read write plan open check list count chosen assign short
 //! ```
 //!
 //! A case is five bytes and an input. Byte 0 is the entry's number, bytes 1
@@ -28,6 +28,7 @@
 //! | 7 count | 0 | bytes of the board | the board |
 //! | 8 chosen | a turn's number | bytes of the board | the board |
 //! | 9 assign | numbers lent | bytes of the sheet | the sheet |
+//! | 10 short | numbers lent | bytes of the sheet | the sheet |
 //!
 //! No input has more than 16,384 bytes, no case lends more than 2,408 numbers
 //! or 4,096 bytes, and no table has more than 2,408 numbers.
@@ -64,7 +65,7 @@ mod read;
 mod write;
 
 /// Most bytes of all cases together.
-const MOST_INPUT: usize = 500_000;
+const MOST_INPUT: usize = 600_000;
 
 /// The worked example: two groomers, three slopes, four turns.
 const EXAMPLE: [u8; 39] = [
@@ -88,7 +89,7 @@ const NUMBER_FILL: u16 = 0xA5A5;
 /// An entry's name and what adds its cases.
 type Entry = (&'static str, fn(&mut Corpus));
 
-const ENTRIES: [Entry; 9] = [
+const ENTRIES: [Entry; 10] = [
     ("read", read::add),
     ("write", write::add),
     ("plan", planning::add),
@@ -98,6 +99,7 @@ const ENTRIES: [Entry; 9] = [
     ("count", choice::add_counts),
     ("chosen", choice::add_turns),
     ("assign", partition::add),
+    ("short", read::add_short),
 ];
 
 /// The two files as they grow.

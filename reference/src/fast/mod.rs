@@ -18,5 +18,5 @@ pub use listing::listing;
 pub use partition::assign;
 pub use plan::plan;
 pub use printed::plan_as_printed;
-pub use sheet::{read, Header};
+pub use sheet::{read, read_short, Header};
 pub use write::write;

@@ -38,3 +38,5 @@ pub const BAD_SUMS: u8 = 17;
 pub const PARTIAL_TURN: u8 = 18;
 /// A turn's driver is above 40.
 pub const BAD_DRIVER: u8 = 19;
+/// The sheet has over 96 turns, which are too many for the short reader.
+pub const TOO_MANY_FOR_SHORT: u8 = 20;

@@ -2,7 +2,7 @@
 
 use super::refusal;
 use super::turns::{judge_counts, Turn};
-use crate::limits::{FIELDS, MAX_TURNS};
+use crate::limits::{FIELDS, MAX_SHORT_TURNS, MAX_TURNS};
 
 pub const MAGIC: [u8; 3] = *b"GRM";
 pub const HEADER_LEN: usize = 7;
@@ -37,6 +37,17 @@ pub fn no_turns() -> TurnArray {
 pub fn read(sheet: &[u8], table: &mut [u16]) -> Result<Header, u8> {
     let mut turns = no_turns();
     let header = parse(sheet, &mut turns)?;
+    put_table(header, &turns, table)
+}
+
+/// Reads a sheet of at most [`MAX_SHORT_TURNS`] turns into a turn table.
+pub fn read_short(sheet: &[u8], table: &mut [u16]) -> Result<Header, u8> {
+    let mut turns = [Turn::default(); MAX_SHORT_TURNS];
+    let header = parse_within(sheet, &mut turns, refusal::TOO_MANY_FOR_SHORT)?;
+    put_table(header, &turns, table)
+}
+
+fn put_table(header: Header, turns: &[Turn], table: &mut [u16]) -> Result<Header, u8> {
     let count = usize::from(header.turns);
     if table.len() < count * FIELDS {
         return Err(refusal::BUFFER_TOO_SMALL);
@@ -49,7 +60,15 @@ pub fn read(sheet: &[u8], table: &mut [u16]) -> Result<Header, u8> {
 
 /// Goes through all bytes of a sheet and leaves its turns in the array.
 pub fn parse(sheet: &[u8], turns: &mut TurnArray) -> Result<Header, u8> {
+    parse_within(sheet, turns, refusal::TOO_MANY_TURNS)
+}
+
+/// The same with room for fewer turns, and a refusal of more.
+fn parse_within(sheet: &[u8], turns: &mut [Turn], too_many: u8) -> Result<Header, u8> {
     let (header, mut rest) = parse_header(sheet)?;
+    if usize::from(header.turns) > turns.len() {
+        return Err(too_many);
+    }
     let groomers = u32::from(header.groomers);
     let slopes = u32::from(header.slopes);
     let mut previous = None;
@@ -81,9 +100,6 @@ fn parse_header(sheet: &[u8]) -> Result<(Header, &[u8]), u8> {
         turns: u16::from_be_bytes([bytes[5], bytes[6]]),
     };
     judge_counts(u32::from(header.groomers), u32::from(header.slopes))?;
-    if usize::from(header.turns) > MAX_TURNS {
-        return Err(refusal::TOO_MANY_TURNS);
-    }
     Ok((header, rest))
 }
 

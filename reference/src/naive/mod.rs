@@ -20,7 +20,7 @@ pub use listing::{listing, refused_line};
 pub use partition::assign;
 pub use planning::plan;
 pub use sets::{any_driver, best_worth, one_turn_a_slope, times_the_tally};
-pub use sheet::{read, write, Counts};
+pub use sheet::{read, read_short, write, Counts};
 
 /// Copies the bytes to the front of the lent ones and gives their number; 11
 /// if there are too few lent.

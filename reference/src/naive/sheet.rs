@@ -21,9 +21,33 @@ pub struct Counts {
     pub turns: u32,
 }
 
+/// How many turns a reader takes, and its refusal of a sheet that has more.
+#[derive(Clone, Copy)]
+pub struct Limit {
+    pub turns: u32,
+    pub refusal: u8,
+}
+
+/// The limit of sheets.
+pub const LIMIT: Limit = Limit {
+    turns: 400,
+    refusal: 4,
+};
+
+/// The limit of the short reader.
+pub const SHORT_LIMIT: Limit = Limit {
+    turns: 96,
+    refusal: 20,
+};
+
 /// Goes by the bytes of a sheet, from the first to the last: refusals 1 to 10
 /// and 19.
 pub fn accept(bytes: &[u8]) -> Result<Sheet, u8> {
+    accept_within(bytes, LIMIT)
+}
+
+/// The same with another limit.
+pub fn accept_within(bytes: &[u8], limit: Limit) -> Result<Sheet, u8> {
     if bytes.len() < 7 {
         return Err(1);
     }
@@ -33,8 +57,8 @@ pub fn accept(bytes: &[u8]) -> Result<Sheet, u8> {
     let (groomers, slopes) = (number(&bytes[3..4]), number(&bytes[4..5]));
     judge_counts(groomers, slopes)?;
     let count = number(&bytes[5..7]);
-    if count > 400 {
-        return Err(4);
+    if count > limit.turns {
+        return Err(limit.refusal);
     }
     let mut turns = Vec::new();
     let mut rest = &bytes[7..];
@@ -86,7 +110,17 @@ fn record<'a>(bytes: &'a [u8], before: Option<&Turn>) -> Result<(Turn, &'a [u8])
 
 /// Reads a sheet into a turn table.
 pub fn read(sheet: &[u8], table: &mut [u16]) -> Result<Counts, u8> {
-    let sheet = accept(sheet)?;
+    read_within(sheet, table, LIMIT)
+}
+
+/// Reads a sheet of up to 96 turns into a turn table.
+pub fn read_short(sheet: &[u8], table: &mut [u16]) -> Result<Counts, u8> {
+    read_within(sheet, table, SHORT_LIMIT)
+}
+
+/// Reads a sheet within a limit into a turn table.
+pub fn read_within(sheet: &[u8], table: &mut [u16], limit: Limit) -> Result<Counts, u8> {
+    let sheet = accept_within(sheet, limit)?;
     let turns = sheet.turns.len();
     if table.len() < 6 * turns {
         return Err(11);

@@ -8,9 +8,25 @@ use slopeboard_reference::naive::Counts;
 use slopeboard_reference::{fast, naive};
 
 pub fn read(sheet: &[u8], table: &mut [u16]) -> Result<Counts, u8> {
+    both_read(sheet, table, naive::read, fast::read)
+}
+
+pub fn read_short(sheet: &[u8], table: &mut [u16]) -> Result<Counts, u8> {
+    both_read(sheet, table, naive::read_short, fast::read_short)
+}
+
+/// A reader: it takes a sheet and a table.
+type Reads<T> = fn(&[u8], &mut [u16]) -> Result<T, u8>;
+
+fn both_read(
+    sheet: &[u8],
+    table: &mut [u16],
+    naive: Reads<Counts>,
+    fast: Reads<fast::Header>,
+) -> Result<Counts, u8> {
     let mut other = table.to_vec();
-    let answer = naive::read(sheet, table);
-    let fast = fast::read(sheet, &mut other).map(|header| Counts {
+    let answer = naive(sheet, table);
+    let fast = fast(sheet, &mut other).map(|header| Counts {
         groomers: header.groomers.into(),
         slopes: header.slopes.into(),
         turns: header.turns.into(),
