@@ -72,7 +72,8 @@ int main(void) {
     for (unsigned turn = 0; turn < TURNS; turn++) {
         if (slopeboard_is_chosen(board, planned.bytes, turn)) printf("turn %u is driven\n", turn);
     }
-    printf("checked: worth %u tally %u\n", (unsigned)checked.worth, (unsigned)checked.tally);
+    printf("checked: worth %u tally %u ceiling %u\n", (unsigned)checked.worth, (unsigned)checked.tally,
+           (unsigned)checked.ceiling);
 
     uint8_t text[SLOPEBOARD_MOST_TEXT_BYTES];
     slopeboard_list_answer listed = slopeboard_list(sheet, written.bytes, text, sizeof text);

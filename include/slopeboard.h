@@ -41,7 +41,7 @@ extern "C" {
 #endif
 
 /* The number of this interface. Each change that a caller can see raises it. */
-#define SLOPEBOARD_VERSION 8
+#define SLOPEBOARD_VERSION 9
 
 /* The refusals. */
 enum {
@@ -80,12 +80,13 @@ enum {
 /* What slopeboard_plan asks for, for a sheet of so many turns. */
 #define SLOPEBOARD_BOARD_BYTES(turns) (15 + ((turns) + 7) / 8 + 4 * (turns))
 #define SLOPEBOARD_MOST_BOARD_BYTES SLOPEBOARD_BOARD_BYTES(SLOPEBOARD_MOST_TURNS)
-/* Enough for every listing: it is proved that none has more than 3,806 bytes. Of the turns of a slope at
- * most one is chosen, so there are at most 120 lines, of at most 30 bytes with the line feed, such as
- * "959-960 slope 120 worth 60000"; there are at most 16 headings, of at most 11 bytes, and a last line. The
- * longest listing of all has 3,687, by a count that is not proved: nine slopes have two digits less and
- * 90 have one less, nine headings have 10 bytes, and the last line has at most 28, since worth and tally
- * are at most 120 * 60,000. So 120 * 30 - 108 + 9 * 10 + 7 * 11 + 28. */
+/* Enough for every listing: none has more than 3,823 bytes. Of the turns of a slope at most one is chosen,
+ * so there are at most 120 lines, of at most 30 bytes with the line feed, such as
+ * "959-960 slope 120 worth 60000"; there are at most 16 headings, of at most 11 bytes, and a last line with
+ * three sums of at most eight digits. The longest listing of all has 3,704, by a count that is not proved:
+ * nine slopes have two digits less and 90 have one less, nine headings have 10 bytes, and the last line has at
+ * most 45, since worth and tally are at most 120 * 60,000 and the ceiling is at most three times that. So
+ * 120 * 30 - 108 + 9 * 10 + 7 * 11 + 45. */
 #define SLOPEBOARD_MOST_TEXT_BYTES 4096
 
 typedef struct {
@@ -117,6 +118,7 @@ typedef struct {
     uint8_t refusal;
     uint32_t tally;
     uint32_t worth;
+    uint32_t ceiling;
 } slopeboard_check_answer;
 
 typedef struct {
@@ -142,8 +144,8 @@ slopeboard_read_answer slopeboard_read_short(const uint8_t *sheet, size_t sheet_
 
 /* Writes the sheet that has these counts and the turns of the table. In the sheet the turns stand by
  * slope, then by groomer, start, length, worth and driver, each rising, whatever order the table has; each
- * comes as often as in the table. It is the shortest sheet with the turns in that order. Turns are numbered as the
- * sheet has them, so reading it back tells which turn a number means.
+ * comes as often as in the table. It is the shortest sheet with the turns in that order. Turns are numbered
+ * as the sheet has them, so reading it back tells which turn a number means.
  *
  * Refusals, in this order: 18, 3, 4; then, turn by turn as the table has them, 6, 7, 8, 9, 19; then 11 if
  * the sheet is longer than bytes_len. */
@@ -176,10 +178,16 @@ slopeboard_count_answer slopeboard_count(const uint8_t *board, size_t board_len)
  * board has no turn with this number. */
 bool slopeboard_is_chosen(const uint8_t *board, size_t board_len, size_t turn);
 
-/* Checks a board, whoever made it, against a sheet. The answer has the board's tally and worth. If
- * nothing is refused, no set of turns in which no two exclude each other is worth more than twice that tally;
- * where a turn names a driver and a slope has two turns, more than three times that tally. If no slope has two
- * turns and no turn names a driver, no such set is worth more than the board.
+/* Checks a board, whoever made it, against a sheet. The answer has the board's tally and worth, and the
+ * ceiling of its steps. If nothing is refused, no set of turns in which no two exclude each other is worth
+ * more than the ceiling. The ceiling is at most twice the tally; where a turn names a driver and a slope has
+ * two turns, three times the tally. If no slope has two turns and no turn names a driver, it is the tally, and
+ * no such set is worth more than the board.
+ *
+ * For the ceiling each step's amount counts once, twice or three times: as often as it takes groups, the
+ * fewest of three, to hold all turns from which the step takes. The groups are the turns of its own turn's
+ * slope, those that its turn's groomer cannot do beside it, and those that its turn's driver cannot do beside
+ * it. Its own turn is in all three.
  *
  * Refusals: those of slopeboard_read but 11, in their order; then 12 if the board does not open or is
  * not for as many turns as the sheet has; then 13, 14, 15, 16, 17. */
@@ -189,7 +197,7 @@ slopeboard_check_answer slopeboard_check(const uint8_t *sheet, size_t sheet_len,
  * ends every line, and no 0 byte stands behind the last. For each groomer of the sheet, by number, there
  * is a heading, such as "groomer 1", even if nothing is chosen for it; below it stands a line for each of
  * its chosen turns, the earliest start first, with start and end, slope and worth: "30-90 slope 2 worth
- * 150". The last line has the board's worth and tally: "worth 240 tally 240".
+ * 150". The last line has the board's worth, tally and ceiling: "worth 240 tally 240 ceiling 340".
  *
  * Refusals: those of slopeboard_read but 11, in their order; then, last of all, 11 if text_len is below
  * the bytes of this very listing. On a refusal nothing is written, not even a part of the listing.
@@ -197,11 +205,11 @@ slopeboard_check_answer slopeboard_check(const uint8_t *sheet, size_t sheet_len,
 slopeboard_list_answer slopeboard_list(const uint8_t *sheet, size_t sheet_len, uint8_t *text, size_t text_len);
 
 /* Assigns groomers to all turns of a sheet, as if any groomer could do any turn: the groomers, drivers and
- * slopes that the sheet names do not count, and the numbers, from 1, may pass 16. Turn by turn, the earliest start first
- * and of equal starts the lowest turn number, writes at the turn's place the smallest groomer number that
- * leaves ten minutes between this turn and every other that has this number. The answer has the number of
- * groomers used, 0 for no turns. It is the greatest number of turns that hold one minute together when each is
- * lengthened by ten minutes, and no assignment that leaves ten minutes between has fewer.
+ * slopes that the sheet names do not count, and the numbers, from 1, may pass 16. Turn by turn, the earliest
+ * start first and of equal starts the lowest turn number, writes at the turn's place the smallest groomer
+ * number that leaves ten minutes between this turn and every other that has this number. The answer has the
+ * number of groomers used, 0 for no turns. It is the greatest number of turns that hold one minute together
+ * when each is lengthened by ten minutes, and no assignment that leaves ten minutes between has fewer.
  *
  * Refusals: those of slopeboard_read but 11, in their order; then 11 if places_len is below the sheet's
  * turns. */

@@ -27,7 +27,7 @@ const TABLE: [u16; 24] = [
 ];
 
 const LISTING: &str = "groomer 1\n30-90 slope 2 worth 150\ngroomer 2\n\
-    120-180 slope 3 worth 90\nworth 240 tally 240\n";
+    120-180 slope 3 worth 90\nworth 240 tally 240 ceiling 340\n";
 
 /// What untouched places hold.
 const KEPT: u16 = 0xA5A5;
@@ -111,7 +111,10 @@ fn example_is_listed() {
 fn empty_groomers_keep_their_heading() {
     let mut out = [0; 64];
     let len = listing(b"GRM\x02\x01\0\0", &mut out).unwrap();
-    assert_eq!(out[..len], *b"groomer 1\ngroomer 2\nworth 0 tally 0\n");
+    assert_eq!(
+        out[..len],
+        *b"groomer 1\ngroomer 2\nworth 0 tally 0 ceiling 0\n"
+    );
 }
 
 #[test]

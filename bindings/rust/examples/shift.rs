@@ -46,7 +46,10 @@ fn main() -> Result<(), Box<dyn std::error::Error>> {
             println!("turn {turn} is driven");
         }
     }
-    println!("checked: worth {} tally {}", sums.worth, sums.tally);
+    println!(
+        "checked: worth {} tally {} ceiling {}",
+        sums.worth, sums.tally, sums.ceiling
+    );
 
     let mut text = [0; slopeboard::MOST_TEXT_BYTES];
     let len = slopeboard::list(sheet, &mut text)?;

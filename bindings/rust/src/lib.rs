@@ -19,7 +19,7 @@ pub use refusal::Refusal;
 
 /// The number of this interface, as `SLOPEBOARD_VERSION` in the header: each
 /// change that a caller can see raises it.
-pub const VERSION: u32 = 8;
+pub const VERSION: u32 = 9;
 
 /// Numbers that a turn takes in a turn table: slope, groomer, start, length,
 /// worth, driver. Driver 0 is none.
@@ -29,7 +29,7 @@ pub const MOST_TURNS: usize = 400;
 pub const MOST_SHORT_TURNS: usize = 96;
 /// Bytes that hold any sheet.
 pub const MOST_SHEET_BYTES: usize = 7 + 10 * MOST_TURNS;
-/// Bytes that hold any listing: no listing has more than 3,806.
+/// Bytes that hold any listing: no listing has more than 3,823.
 pub const MOST_TEXT_BYTES: usize = 4096;
 
 /// Bytes that [`plan`] asks for, for a sheet of so many turns.
@@ -46,15 +46,16 @@ pub struct Counts {
 }
 
 /// The sums of a board that passed. No set of the sheet's turns without a
-/// conflict is worth more than twice the tally or, on a sheet that names any
-/// driver and has two turns on one slope, three times the tally. Two turns
-/// conflict if they have the same slope, or if they have the same groomer or
+/// conflict is worth more than the ceiling. The ceiling is at most twice the
+/// tally or, on a sheet that names any driver and has two turns on one slope,
+/// three times the tally. Two turns conflict if they have the same slope, or if they have the same groomer or
 /// the same driver (other than 0) and neither starts ten minutes or more after
 /// the end of the other.
 #[derive(Clone, Copy, Debug, PartialEq, Eq)]
 pub struct Sums {
     pub tally: u32,
     pub worth: u32,
+    pub ceiling: u32,
 }
 
 // SAFETY, for each call below: a slice gives a pointer to as many elements as
@@ -129,6 +130,7 @@ pub fn check(sheet: &[u8], board: &[u8]) -> Result<Sums, Refusal> {
     Ok(Sums {
         tally: answer.tally,
         worth: answer.worth,
+        ceiling: answer.ceiling,
     })
 }
 

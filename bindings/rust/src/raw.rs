@@ -35,13 +35,14 @@ pub struct CountAnswer {
     pub turns: u32,
 }
 
-/// What checking a board gives. Both sums are 0 on a refusal.
+/// What checking a board gives. All sums are 0 on a refusal.
 #[repr(C)]
 #[derive(Clone, Copy, Debug, PartialEq, Eq)]
 pub struct CheckAnswer {
     pub refusal: u8,
     pub tally: u32,
     pub worth: u32,
+    pub ceiling: u32,
 }
 
 /// What assigning groomers to all turns gives; 0 groomers on a refusal.

@@ -15,7 +15,8 @@ use Rattle.sheet.specs.declared.reader.ReadAnswer.{ReadAnswer}
 use Rattle.sheet.specs.Read.{sheetCauses, answerOf}
 use Rattle.sheet.proofs.Readings.{sheet-numbered}
 use Rattle.sheet.proofs.Whole.{whole-refusal, whole-accepted, whole-turns}
-use Rattle.board.specs.Board.{boardHeader, boardTally, boardWorth}
+use Rattle.model.specs.Ceiling.{ceiling}
+use Rattle.board.specs.Board.{boardHeader, boardTally, boardWorth, writtenSteps}
 use Rattle.board.specs.Open.{malformed}
 use Rattle.board.proofs.Openings.{formed-header}
 use Rattle.problem.specs.declared.columns.Size.{Size}
@@ -23,16 +24,19 @@ use Rattle.problem.specs.Columns.{turnsBy, Held}
 use Rattle.problem.specs.Problem.{sheetTurns}
 use Rattle.problem.specs.Load.{shiftSize, Posed}
 use Rattle.audit.specs.declared.judge.CheckAnswer.{CheckAnswer}
+use Rattle.audit.specs.declared.replay.Judgement.{Judgement}
 use Rattle.audit.specs.Check.{boardCauses, checkCauses, checked, checkOf}
+use Rattle.audit.specs.Judged.{judged}
+use Rattle.audit.proofs.Faults.{judged-number, judged-limit}
 
 -- ---- a refusal, and a pass
 
 module _ (s b : List ℕ) where
-  check-refused : (f : ℕ) → firstOf (checkCauses s b) ≡ f → (f ≡ 0 → ⊥) → checked f 0 0 ≡ checkOf s b
+  check-refused : (f : ℕ) → firstOf (checkCauses s b) ≡ f → (f ≡ 0 → ⊥) → checked f 0 0 0 ≡ checkOf s b
   unfolding checkOf
   check-refused f e z = rw (e, ne-eqb f 0 z)
 
-  check-fine : firstOf (checkCauses s b) ≡ 0 → checked 0 (boardTally b) (boardWorth b) ≡ checkOf s b
+  check-fine : firstOf (checkCauses s b) ≡ 0 → checked 0 (boardTally b) (boardWorth b) (ceiling (sheetTurns s) (writtenSteps b)) ≡ checkOf s b
   unfolding checkOf
   check-fine e = rw e
 
@@ -50,14 +54,14 @@ unfolding firstOf
 head-none true cs e = absurd (omega arith)
 head-none false cs e = refl
 
-pub passed-header : (T : Turns) (b : List ℕ) {f : ℕ} → f ≡ firstOf (boardCauses T b) → f ≡ 0 → boardHeader ≤ length b
+pub passed-header : (T : Turns) (b : List ℕ) (limit : ℕ) {a : Judgement} → a ≡ judged (firstOf (boardCauses T b)) limit → a .fault ≡ 0 → boardHeader ≤ length b
 unfolding boardCauses
-passed-header T b e z = formed-header b (or-false-1 (malformed b) _ (head-none _ _ (sym e ∙ z)))
+passed-header T b limit e z = formed-header b (or-false-1 (malformed b) _ (head-none _ _ (sym (judged-number (firstOf (boardCauses T b)) limit e) ∙ z)))
 
 -- ---- the entry
 
 module _ (s b : List ℕ) {a : ReadAnswer} (e : a ≡ answerOf s) where
-  pub check-sheet : {x : CheckAnswer} → (a .refusal ≡ 0 → ⊥) → x ≡ checked (a .refusal) 0 0 → x ≡ checkOf s b
+  pub check-sheet : {x : CheckAnswer} → (a .refusal ≡ 0 → ⊥) → x ≡ checked (a .refusal) 0 0 0 → x ≡ checkOf s b
   check-sheet z x = x ∙ check-refused s b (a .refusal) (by-sheet s b (a .refusal) (sym (whole-refusal s e)) z) z
 
   module _ (z : a .refusal ≡ 0) (cols : List ℕ) {p : Size} (w : a .refusal ≡ 0 → Posed s cols) (q : p ≡ shiftSize (a .turns)) where
@@ -67,14 +71,17 @@ module _ (s b : List ℕ) {a : ReadAnswer} (e : a ≡ answerOf s) where
     turns-are : turnsBy p cols ≡ sheetTurns s
     turns-are = rw (q, whole-turns s e z) (w z .turns)
 
-    module _ {f : ℕ} (g : f ≡ firstOf (boardCauses (turnsBy p cols) b)) where
-      board-is : firstOf (checkCauses s b) ≡ f
-      board-is = by-board s b (whole-accepted s e z) ∙ sym (rw turns-are at g)
+    module _ {j : Judgement} (g : j ≡ judged (firstOf (boardCauses (turnsBy p cols) b)) (ceiling (turnsBy p cols) (writtenSteps b))) where
+      posed : j ≡ judged (firstOf (boardCauses (sheetTurns s) b)) (ceiling (sheetTurns s) (writtenSteps b))
+      posed = rw turns-are at g
 
-      pub check-board : {x : CheckAnswer} → (f ≡ 0 → ⊥) → x ≡ checked f 0 0 → x ≡ checkOf s b
-      check-board y x = x ∙ check-refused s b f board-is y
+      board-is : firstOf (checkCauses s b) ≡ j .fault
+      board-is = by-board s b (whole-accepted s e z) ∙ sym (judged-number (firstOf (boardCauses (sheetTurns s) b)) (ceiling (sheetTurns s) (writtenSteps b)) posed)
 
-      pub check-passed : {tallied worth : ℕ} → f ≡ 0 → tallied ≡ boardTally b → worth ≡ boardWorth b → checked 0 tallied worth ≡ checkOf s b
-      check-passed y t v = rw (t, v) (check-fine s b (board-is ∙ y))
+      pub check-board : {x : CheckAnswer} → (j .fault ≡ 0 → ⊥) → x ≡ checked (j .fault) 0 0 0 → x ≡ checkOf s b
+      check-board y x = x ∙ check-refused s b (j .fault) board-is y
 
-pub ruleset check-cases = (passed-header, check-sheet, check-held, check-board, check-passed)
+      pub check-passed : {tallied worth : ℕ} → j .fault ≡ 0 → tallied ≡ boardTally b → worth ≡ boardWorth b → checked 0 tallied worth (j .ceiling) ≡ checkOf s b
+      check-passed y t v = rw (t, v, judged-limit (firstOf (boardCauses (sheetTurns s) b)) (ceiling (sheetTurns s) (writtenSteps b)) posed y) (check-fine s b (board-is ∙ y))
+
+pub ruleset check-cases = (check-sheet, check-held, check-board, check-passed)

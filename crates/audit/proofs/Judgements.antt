@@ -1,5 +1,5 @@
 -- The check by its cases, each premise in the form in which the code's calls and tests leave it. Assumes nothing.
-use Prim.Native.Nat.{ℕ, _+_, _-_}
+use Prim.Native.Nat.{ℕ, _+_, _-_, _≤_}
 use mathlib.Core.Path.{_≡_, refl, sym, _∙_, ap}
 use mathlib.Core.List.{List, _++_}
 use mathlib.Core.Bool.{Bool, true, false, not, _&&_}
@@ -14,15 +14,19 @@ use Rattle.model.specs.Turns.{Turns}
 use Rattle.model.specs.Steps.{Step, tally}
 use Rattle.model.specs.Choice.{chosen}
 use Rattle.model.specs.Rules.{independent, maximal, sums}
+use Rattle.model.specs.Ceiling.{ceiling}
 use Rattle.board.specs.Choice.{choiceIn}
 use Rattle.board.specs.Board.{boardTurns, boardSteps, boardTally, boardWorth, boardMap, boardChoice, stepsIn, writtenSteps}
 use Rattle.board.specs.Open.{openOf, stepsPart}
-use Rattle.board.proofs.Openings.{opened, shut, formed-map, part-steps}
+use Rattle.board.proofs.Openings.{opened, shut, formed-steps, formed-map, part-steps}
 use Rattle.problem.specs.declared.columns.Size.{Size}
 use Rattle.problem.specs.Columns.{turnsBy, Held}
 use Rattle.choices.specs.Bounds.{Lent}
 use Rattle.choices.specs.Below.{apartBelow, independentBelow, maximalBelow, chosenBelow}
+use Rattle.audit.specs.declared.replay.Judgement.{Judgement}
 use Rattle.audit.specs.Check.{choiceCauses, stepCauses, ruleCauses, sumCauses, partCauses, boardCauses}
+use Rattle.audit.specs.Judged.{faultAt, judged}
+use Rattle.audit.proofs.Faults.{fault-judged, judged-number, judged-same}
 
 -- ---- the choice
 
@@ -100,57 +104,81 @@ module _ (T : Turns) (S : List Bool) (xs : List Step) where
   unfolding ruleCauses choiceCauses stepCauses
   rule-numbered = refl
 
-  module _ {f : ℕ} (e : f ≡ firstOf (choiceCauses T S)) where
-    pub rules-choice : (f ≡ 0 → ⊥) → f ≡ firstOf (ruleCauses T S xs)
+  module _ (limit : ℕ) {f : ℕ} (e : f ≡ firstOf (choiceCauses T S)) {a : Judgement} where
+    pub rules-choice : (f ≡ 0 → ⊥) → a ≡ faultAt f → a ≡ judged (firstOf (ruleCauses T S xs)) limit
     unfolding ruleCauses
-    rules-choice z = sym (first-stops (choiceCauses T S) (stepCauses T xs) f (sym e) z)
+    rules-choice z g = fault-judged limit (sym (first-stops (choiceCauses T S) (stepCauses T xs) f (sym e) z)) z g
 
-    pub rules-steps : {g : ℕ} → f ≡ 0 → g ≡ firstOf (stepCauses T xs) → g ≡ firstOf (ruleCauses T S xs)
+    pub rules-steps : f ≡ 0 → a ≡ judged (firstOf (stepCauses T xs)) limit → a ≡ judged (firstOf (ruleCauses T S xs)) limit
     unfolding ruleCauses
-    rules-steps z h = h ∙ sym (first-goes (choiceCauses T S) (stepCauses T xs) choice-numbered (sym e ∙ z))
+    rules-steps z g = judged-same (firstOf (stepCauses T xs)) limit g (sym (first-goes (choiceCauses T S) (stepCauses T xs) choice-numbered (sym e ∙ z)))
 
 pub ruleset rules-cases = (rules-choice, rules-steps)
 
-module _ (T : Turns) (S : List Bool) (bytes b : List ℕ) (m : ℕ) (p : m ≡ boardSteps b) {f : ℕ} (e : f ≡ firstOf (ruleCauses T S (stepsIn m bytes))) where
-  counted : f ≡ firstOf (ruleCauses T S (stepsIn (boardSteps b) bytes))
+module _ (T : Turns) (S : List Bool) (bytes b : List ℕ) (m : ℕ) (p : m ≡ boardSteps b) {a : Judgement} (e : a ≡ judged (firstOf (ruleCauses T S (stepsIn m bytes))) (ceiling T (stepsIn m bytes))) where
+  abbrev xs : List Step
+  xs = stepsIn (boardSteps b) bytes
+
+  counted : a ≡ judged (firstOf (ruleCauses T S xs)) (ceiling T xs)
   counted = rw p at e
 
-  pub parts-rules : (later : List Cause) → (f ≡ 0 → ⊥) → f ≡ firstOf (ruleCauses T S (stepsIn (boardSteps b) bytes) ++ later)
-  parts-rules later z = sym (first-stops (ruleCauses T S (stepsIn (boardSteps b) bytes)) later f (sym counted) z)
+  number : a .fault ≡ firstOf (ruleCauses T S xs)
+  number = judged-number (firstOf (ruleCauses T S xs)) (ceiling T xs) counted
 
-  pub parts-sums : {g : ℕ} → f ≡ 0 → g ≡ firstOf (sumCauses T S (stepsIn m bytes) (boardTally b) (boardWorth b))
-      → g ≡ firstOf (partCauses T S (stepsIn (boardSteps b) bytes) (boardTally b) (boardWorth b))
-  parts-sums z h =
-      rw p at h
-      ∙ sym (first-goes (ruleCauses T S (stepsIn (boardSteps b) bytes)) (sumCauses T S (stepsIn (boardSteps b) bytes) (boardTally b) (boardWorth b)) (rule-numbered T S (stepsIn (boardSteps b) bytes)) (sym counted ∙ z))
+  pub parts-rules : (a .fault ≡ 0 → ⊥) → a ≡ judged (firstOf (partCauses T S xs (boardTally b) (boardWorth b))) (ceiling T xs)
+  parts-rules z = judged-same (firstOf (ruleCauses T S xs)) (ceiling T xs) counted (sym number ∙ sym (first-stops (ruleCauses T S xs) (sumCauses T S xs (boardTally b) (boardWorth b)) (a .fault) (sym number) z))
 
-pub ruleset parts-cases = (parts-rules, parts-sums)
+  module _ (z : a .fault ≡ 0) {g : ℕ} (h : g ≡ firstOf (sumCauses T S (stepsIn m bytes) (boardTally b) (boardWorth b))) where
+    by-sums : g ≡ firstOf (partCauses T S xs (boardTally b) (boardWorth b))
+    by-sums = rw p at h ∙ sym (first-goes (ruleCauses T S xs) (sumCauses T S xs (boardTally b) (boardWorth b)) (rule-numbered T S xs) (sym number ∙ z))
+
+    pub parts-sums : {x : Judgement} → (g ≡ 0 → ⊥) → x ≡ faultAt g → x ≡ judged (firstOf (partCauses T S xs (boardTally b) (boardWorth b))) (ceiling T xs)
+    parts-sums y k = fault-judged (ceiling T xs) by-sums y k
+
+    pub parts-fine : g ≡ 0 → a ≡ judged (firstOf (partCauses T S xs (boardTally b) (boardWorth b))) (ceiling T xs)
+    parts-fine y = judged-same (firstOf (ruleCauses T S xs)) (ceiling T xs) counted (sym number ∙ z ∙ sym y ∙ by-sums)
+
+pub ruleset parts-cases = (parts-rules, parts-sums, parts-fine)
 
 -- ---- the board
 
 module _ (b : List ℕ) {r : ℕ} (e : r ≡ openOf b) where
-  pub board-malformed : (T : Turns) → (r ≡ 0 → ⊥) → malformedBoard ≡ firstOf (boardCauses T b)
+  shut-first : (T : Turns) → (r ≡ 0 → ⊥) → malformedBoard ≡ firstOf (boardCauses T b)
   unfolding boardCauses firstOf
-  board-malformed T z = rw (shut b e z)
+  shut-first T z = rw (shut b e z)
+
+  pub board-malformed : (T : Turns) {a : Judgement} → (r ≡ 0 → ⊥) → a ≡ faultAt malformedBoard → a ≡ judged (firstOf (boardCauses T b)) (ceiling T (writtenSteps b))
+  board-malformed T z g = fault-judged (ceiling T (writtenSteps b)) (shut-first T z) (λ y. omega arith) g
 
   module _ (size : Size) (cols : List ℕ) {k : ℕ} (z : r ≡ 0) (p : k ≡ boardTurns b) where
-    pub board-other : (k ≡ size .count → ⊥) → malformedBoard ≡ firstOf (boardCauses (turnsBy size cols) b)
+    other-first : (k ≡ size .count → ⊥) → malformedBoard ≡ firstOf (boardCauses (turnsBy size cols) b)
     unfolding boardCauses firstOf turnsBy
-    board-other h = rw (opened b e z, ← p, ne-eqb k (size .count) h)
+    other-first h = rw (opened b e z, ← p, ne-eqb k (size .count) h)
 
-    module _ (h : k ≡ size .count) {map steps : List ℕ} (q : map ≡ boardMap b) (s : steps ≡ stepsPart b) where
-      pub board-lent : Held size cols → Lent size cols map
-      board-lent held = record { held = held; bits = omega (arith, formed-map b (opened b e z), ap length q, p, h) }
+    pub board-other : {a : Judgement} → (k ≡ size .count → ⊥) → a ≡ faultAt malformedBoard → a ≡ judged (firstOf (boardCauses (turnsBy size cols) b)) (ceiling (turnsBy size cols) (writtenSteps b))
+    board-other h g = fault-judged (ceiling (turnsBy size cols) (writtenSteps b)) (other-first h) (λ y. omega arith) g
 
-      choice-is : choiceIn (size .count) map ≡ boardChoice b
-      unfolding boardChoice
-      choice-is = rw (q, ← p, h)
+    module _ (h : k ≡ size .count) where
+      pub board-few : boardSteps b ≤ size .count
+      board-few = omega (arith, formed-steps b (opened b e z))
 
-      steps-are : stepsIn (boardSteps b) steps ≡ writtenSteps b
-      steps-are = rw s (part-steps b (opened b e z))
+      module _ {map steps : List ℕ} (q : map ≡ boardMap b) (s : steps ≡ stepsPart b) where
+        pub board-lent : Held size cols → Lent size cols map
+        board-lent held = record { held = held; bits = omega (arith, formed-map b (opened b e z), ap length q, p, h) }
 
-      pub board-by-parts : {g : ℕ} → g ≡ firstOf (partCauses (turnsBy size cols) (choiceIn (size .count) map) (stepsIn (boardSteps b) steps) (boardTally b) (boardWorth b)) → g ≡ firstOf (boardCauses (turnsBy size cols) b)
-      unfolding boardCauses firstOf turnsBy
-      board-by-parts d = rw (opened b e z, ← p, eq-eqb k (size .count) h) (rw (choice-is, steps-are) at d)
+        choice-is : choiceIn (size .count) map ≡ boardChoice b
+        unfolding boardChoice
+        choice-is = rw (q, ← p, h)
 
-pub ruleset board-cases = (board-malformed, board-other, board-lent, board-by-parts)
+        steps-are : stepsIn (boardSteps b) steps ≡ writtenSteps b
+        steps-are = rw s (part-steps b (opened b e z))
+
+        parts-first : firstOf (partCauses (turnsBy size cols) (boardChoice b) (writtenSteps b) (boardTally b) (boardWorth b)) ≡ firstOf (boardCauses (turnsBy size cols) b)
+        unfolding boardCauses firstOf turnsBy
+        parts-first = rw (opened b e z, ← p, eq-eqb k (size .count) h)
+
+        pub board-by-parts : {a : Judgement} → a ≡ judged (firstOf (partCauses (turnsBy size cols) (choiceIn (size .count) map) (stepsIn (boardSteps b) steps) (boardTally b) (boardWorth b))) (ceiling (turnsBy size cols) (stepsIn (boardSteps b) steps))
+            → a ≡ judged (firstOf (boardCauses (turnsBy size cols) b)) (ceiling (turnsBy size cols) (writtenSteps b))
+        board-by-parts d = judged-same (firstOf (partCauses (turnsBy size cols) (boardChoice b) (writtenSteps b) (boardTally b) (boardWorth b))) (ceiling (turnsBy size cols) (writtenSteps b)) (rw (choice-is, steps-are) at d) parts-first
+
+pub ruleset board-cases = (board-malformed, board-other, board-few, board-lent, board-by-parts)

@@ -1,3 +1,4 @@
+pub mod Faults
 pub mod Replays
 pub mod Judgements
 pub mod Checks

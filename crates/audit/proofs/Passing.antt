@@ -13,6 +13,7 @@ use Rattle.wire.specs.Number.{Bytes}
 use Rattle.model.specs.Turns.{Turns}
 use Rattle.model.specs.Steps.{initial, afterSteps}
 use Rattle.model.specs.Rules.{independent, maximal, allRight, noneOpen, sums}
+use Rattle.model.specs.Ceiling.{ceiling}
 use Rattle.model.specs.Promises.{Promises}
 use Rattle.lists.proofs.Bools.{or-false-1, or-false-2}
 use Rattle.model.proofs.Readings.{keeps-is}
@@ -31,16 +32,16 @@ use Rattle.audit.specs.Check.{choiceCauses, stepCauses, ruleCauses, sumC
 
 -- ---- the number
 
-answer-number : (f t w : ℕ) → cond (eqb f 0) (checked 0 t w) (checked f 0 0) .refusal ≡ f
-answer-number f t w = go (eqb f 0) refl
+answer-number : (f t w c : ℕ) → cond (eqb f 0) (checked 0 t w c) (checked f 0 0 0) .refusal ≡ f
+answer-number f t w c = go (eqb f 0) refl
   where
-    go : (b : Bool) → eqb f 0 ≡ b → cond b (checked 0 t w) (checked f 0 0) .refusal ≡ f
+    go : (b : Bool) → eqb f 0 ≡ b → cond b (checked 0 t w c) (checked f 0 0 0) .refusal ≡ f
     go true e = sym (eqb-true f 0 e)
     go false e = refl
 
 pub check-number : (s b : List ℕ) → checkOf s b .refusal ≡ firstOf (checkCauses s b)
 unfolding checkOf
-check-number s b = answer-number (firstOf (checkCauses s b)) (boardTally b) (boardWorth b)
+check-number s b = answer-number (firstOf (checkCauses s b)) (boardTally b) (boardWorth b) (ceiling (sheetTurns s) (writtenSteps b))
 
 -- ---- a board without a cause
 
@@ -110,11 +111,11 @@ module _ (s b : List ℕ) where
     λ q. parts-pass (accepted-iff y .1 (q .0)) (q .1),
   )
 
-  -- the answer of a check that passes is the board's own tally and worth
-  pub passes-answer : Passes s b → checkOf s b ≡ checked 0 (boardTally b) (boardWorth b)
+  -- the answer of a check that passes is the board's own tally and worth, and the ceiling of its steps
+  pub passes-answer : Passes s b → checkOf s b ≡ checked 0 (boardTally b) (boardWorth b) (ceiling (sheetTurns s) (writtenSteps b))
   unfolding checkOf
   passes-answer p = let e : firstOf (checkCauses s b) ≡ 0 = sym (check-number s b) ∙ p in rw e
 
-  -- whoever made the board, and for every list of numbers: what passes binds every feasible set
-  pub passes-promises : Passes s b → Promises (sheetTurns s) (boardChoice b) (boardTally b) (boardWorth b)
-  passes-promises p = let q = passes-parts p in keeps-promises (sheetTurns s) (sheet-lengths s (q .0)) (q .1 .rules)
+  -- whoever made the board, and for every list of numbers: what passes binds every feasible set, by the ceiling that the check returns among others
+  pub passes-promises : Passes s b → Promises (sheetTurns s) (boardChoice b) (boardTally b) (boardWorth b) (checkOf s b .ceiling)
+  passes-promises p = let q = passes-parts p in rw (passes-answer p) (keeps-promises (sheetTurns s) (sheet-lengths s (q .0)) (q .1 .rules))

@@ -11,6 +11,7 @@ use Rattle.model.specs.Turns.{Turns, Conflict}
 use Rattle.model.specs.Steps.{Step, isOpen, initial, afterStep, afterSteps, tally}
 use Rattle.model.specs.Choice.{has, chosen}
 use Rattle.model.specs.Rules.{independent, maximal, allRight, noneOpen, sums, Right, Each, KeepsRules}
+use Rattle.model.specs.Ceiling.{ceiling}
 use Rattle.sheet.specs.Read.{turnCount, sheetCauses}
 use Rattle.sheet.specs.Accepted.{SheetCause, placeOf, FirstAmong}
 use Rattle.problem.specs.Problem.{sheetTurns}
@@ -48,15 +49,15 @@ boardCauses T b =
 unfoldable pub checkCauses : List ℕ → List ℕ → List Cause
 checkCauses s b = sheetCauses s ++ boardCauses (sheetTurns s) b
 
--- the check's answer: a refusal, a tally, a worth
-abbrev pub checked : ℕ → ℕ → ℕ → CheckAnswer
-checked refusal tally worth = record { refusal = refusal; tally = tally; worth = worth }
+-- the check's answer: a refusal, a tally, a worth, a ceiling
+abbrev pub checked : ℕ → ℕ → ℕ → ℕ → CheckAnswer
+checked refusal tally worth limit = record { refusal = refusal; tally = tally; worth = worth; ceiling = limit }
 
--- the check: the first cause's number and no sums, or the board's own tally and worth
+-- the check: the first cause's number and no sums, or the board's own tally and worth, and the ceiling of its steps
 unfoldable pub checkOf : List ℕ → List ℕ → CheckAnswer
 checkOf s b =
     let f = firstOf (checkCauses s b) in
-    cond (eqb f 0) (checked 0 (boardTally b) (boardWorth b)) (checked f 0 0)
+    cond (eqb f 0) (checked 0 (boardTally b) (boardWorth b) (ceiling (sheetTurns s) (writtenSteps b))) (checked f 0 0 0)
 
 -- the board passes: the check refuses nothing
 abbrev pub Passes : List ℕ → List ℕ → Type 0

@@ -6,21 +6,26 @@ ghost use lib.ListN.{length};
 ghost use lib.Dec.{eqb, leb};
 ghost use Rattle.refusal.specs.Cause.{firstOf};
 ghost use Rattle.board.specs.Choice.{choiceIn};
-ghost use Rattle.board.specs.Board.{boardHeader, stepSize, boardSteps, boardTally, boardWorth, stepsIn};
+ghost use Rattle.board.specs.Board.{boardHeader, stepSize, boardSteps, boardTally, boardWorth, stepsIn, writtenSteps};
 ghost use Rattle.problem.specs.Columns.{turnsBy, Held};
 ghost use Rattle.choices.specs.Bounds.{Lent};
-ghost use Rattle.audit.specs.Check.{choiceCauses, ruleCauses, sumCauses, partCauses, boardCauses, checkOf};
+ghost use Rattle.model.specs.Ceiling.{ceiling};
+ghost use Rattle.audit.specs.Judged.{judged};
+ghost use Rattle.audit.specs.Check.{choiceCauses, ruleCauses, sumCauses, partCauses, boardCauses, checked, checkOf};
+use super::replay::Judgement;
+use super::replay::fault_at;
 use super::replay::steps_fault;
 use problem::MOST_TURNS;
 use problem::PLACES;
 use problem::Size;
 
-// What the check returns: a refusal, 0 if none, and the board's tally and worth, 0 on a refusal.
+// What the check returns: a refusal, 0 if none, and the board's tally, worth and ceiling, 0 on a refusal.
 #[repr(C)]
 pub struct CheckAnswer {
     pub refusal: u8,
     pub tally: u32,
     pub worth: u32,
+    pub ceiling: u32,
 }
 
 fn choice_fault(p: Size, cols: &[u16; PLACES], map: &[u8]) -> u8
@@ -51,14 +56,15 @@ fn are_wrong(tally: u32, worth: u32, amounts: u32, earned: u32) -> bool
     worth < tally
 }
 
-// The first cause that the choice or the steps give, 0 if none.
-fn rules_fault(p: Size, cols: &[u16; PLACES], map: &[u8], steps: &[u8], m: usize) -> u8
-    requires { ⌜ Lent p (now cols) (now map) × (stepSize * m ≤ length (now steps)) ⌝ }
-    ensures { λ r. ⌜ r ≡ firstOf (ruleCauses (turnsBy p (now (cols .entry))) (choiceIn (p .count) (now (map .entry))) (stepsIn m (now (steps .entry)))) ⌝ }
+// The first cause that the choice or the steps give, and the ceiling of the steps.
+fn rules_fault(p: Size, cols: &[u16; PLACES], map: &[u8], steps: &[u8], m: usize) -> Judgement
+    requires { ⌜ Lent p (now cols) (now map) × (stepSize * m ≤ length (now steps)) × (m ≤ p .count) ⌝ }
+    ensures { λ r. ⌜ r ≡ judged (firstOf (ruleCauses (turnsBy p (now (cols .entry))) (choiceIn (p .count) (now (map .entry))) (stepsIn m (now (steps .entry)))))
+        (ceiling (turnsBy p (now (cols .entry))) (stepsIn m (now (steps .entry)))) ⌝ }
 {
     let fault = choice_fault(p, cols, map);
     if fault != 0 {
-        return fault;
+        return fault_at(fault);
     }
     let n = p.count;
     let mut space = [0i32; MOST_TURNS];
@@ -82,31 +88,37 @@ fn sums_fault(b: &[u8], p: Size, cols: &[u16; PLACES], map: &[u8], steps: &[u8],
     }
 }
 
-// The first cause that the parts of a board give, 0 if none: its map and its steps.
-fn parts_fault(b: &[u8], map: &[u8], steps: &[u8], p: Size, cols: &[u16; PLACES]) -> u8
+// The first cause that the parts of a board give, its map and its steps, and the ceiling of the steps.
+fn parts_fault(b: &[u8], map: &[u8], steps: &[u8], p: Size, cols: &[u16; PLACES]) -> Judgement
     requires { ⌜ (boardHeader ≤ length (now b)) × Lent p (now cols) (now map)
-        × (stepSize * boardSteps (now b) ≤ length (now steps)) ⌝ }
-    ensures { λ r. ⌜ r ≡ firstOf (partCauses (turnsBy p (now (cols .entry))) (choiceIn (p .count) (now (map .entry)))
-        (stepsIn (boardSteps (now (b .entry))) (now (steps .entry))) (boardTally (now (b .entry))) (boardWorth (now (b .entry)))) ⌝ }
+        × (stepSize * boardSteps (now b) ≤ length (now steps)) × (boardSteps (now b) ≤ p .count) ⌝ }
+    ensures { λ r. ⌜ r ≡ judged (firstOf (partCauses (turnsBy p (now (cols .entry))) (choiceIn (p .count) (now (map .entry)))
+        (stepsIn (boardSteps (now (b .entry))) (now (steps .entry))) (boardTally (now (b .entry))) (boardWorth (now (b .entry)))))
+        (ceiling (turnsBy p (now (cols .entry))) (stepsIn (boardSteps (now (b .entry))) (now (steps .entry)))) ⌝ }
 {
     let m = board::step_count(b);
-    let fault = rules_fault(p, cols, map, steps, m as usize);
-    if fault != 0 {
-        return fault;
+    let rules = rules_fault(p, cols, map, steps, m as usize);
+    if rules.fault != 0 {
+        return rules;
     }
-    sums_fault(b, p, cols, map, steps, m)
+    let fault = sums_fault(b, p, cols, map, steps, m);
+    if fault != 0 {
+        return fault_at(fault);
+    }
+    rules
 }
 
-// The first cause to refuse a board for a problem, 0 if none.
-fn board_fault(b: &[u8], p: Size, cols: &[u16; PLACES]) -> u8
+// The first cause to refuse a board for a problem, and the ceiling of its steps.
+fn board_fault(b: &[u8], p: Size, cols: &[u16; PLACES]) -> Judgement
     requires { ⌜ Held p (now cols) ⌝ }
-    ensures { λ r. ⌜ r ≡ firstOf (boardCauses (turnsBy p (now (cols .entry))) (now (b .entry))) ⌝ }
+    ensures { λ r. ⌜ r ≡ judged (firstOf (boardCauses (turnsBy p (now (cols .entry))) (now (b .entry))))
+        (ceiling (turnsBy p (now (cols .entry))) (writtenSteps (now (b .entry)))) ⌝ }
 {
     if board::open(b) != 0 {
-        return refusal::MALFORMED_BOARD;
+        return fault_at(refusal::MALFORMED_BOARD);
     }
     if board::turns(b) as usize != p.count {
-        return refusal::MALFORMED_BOARD;
+        return fault_at(refusal::MALFORMED_BOARD);
     }
     let map = board::map(b);
     let steps = board::steps(b);
@@ -114,12 +126,13 @@ fn board_fault(b: &[u8], p: Size, cols: &[u16; PLACES]) -> u8
 }
 
 fn refused(k: u8) -> CheckAnswer
-    ensures { λ r. ⌜ r ≡ record { refusal = k; tally = 0; worth = 0 } ⌝ }
+    ensures { λ r. ⌜ r ≡ checked k 0 0 0 ⌝ }
 {
     CheckAnswer {
         refusal: k,
         tally: 0,
         worth: 0,
+        ceiling: 0,
     }
 }
 
@@ -132,13 +145,14 @@ pub fn check(s: &[u8], b: &[u8]) -> CheckAnswer
     if sheet.refusal != 0 {
         return refused(sheet.refusal);
     }
-    let fault = board_fault(b, problem::shift_size(sheet.turns), &cols);
-    if fault != 0 {
-        return refused(fault);
+    let judgement = board_fault(b, problem::shift_size(sheet.turns), &cols);
+    if judgement.fault != 0 {
+        return refused(judgement.fault);
     }
     CheckAnswer {
         refusal: 0,
         tally: board::tally(b),
         worth: board::worth(b),
+        ceiling: judgement.ceiling,
     }
 }

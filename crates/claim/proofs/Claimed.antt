@@ -15,6 +15,7 @@ use Rattle.model.specs.Steps.{Step, tally}
 use Rattle.model.specs.Pick.{steps}
 use Rattle.model.specs.Choice.{chosen, choice, goBack}
 use Rattle.model.specs.Rules.{KeepsRules}
+use Rattle.model.specs.Ceiling.{ceiling}
 use Rattle.model.specs.IntervalSelection.{Selects}
 use Rattle.model.proofs.Promised.{planned-keeps}
 use Rattle.model.proofs.Selection.{selection-exists, selection-unique, selection-filled}
@@ -46,9 +47,9 @@ module _ (s : List ℕ) (e : firstOf (sheetCauses s) ≡ 0) where
       let r = planned-back s e in
       parts-pass s (plannedBoard s) e (record { form = rw (r .turns ∙ sheet-count s e) at (formed-board (plannedBoard s) (r .planned-opens)); rules = planned-rules })
 
-  -- and the check's answer is the plan's tally and worth
-  pub planned-answer : checkOf s (plannedBoard s) ≡ checked 0 (tally (steps (sheetTurns s))) (chosen (sheetTurns s .count) (choice (sheetTurns s)) (sheetTurns s .worth))
-  planned-answer = let r = planned-back s e in passes-answer s (plannedBoard s) planned-passes ∙ rw (r .tallied, r .worth)
+  -- and the check's answer is the plan's tally, worth and ceiling
+  pub planned-answer : checkOf s (plannedBoard s) ≡ checked 0 (tally (steps (sheetTurns s))) (chosen (sheetTurns s .count) (choice (sheetTurns s)) (sheetTurns s .worth)) (ceiling (sheetTurns s) (steps (sheetTurns s)))
+  planned-answer = let r = planned-back s e in passes-answer s (plannedBoard s) planned-passes ∙ rw (r .tallied, r .worth, r .step-list)
 
 -- ---- what a plan that is not refused has
 

@@ -27,7 +27,7 @@ module _ (s lent out : List ℕ) (a : PlanAnswer) (e : planned a out ≡ planOf 
   number : planOf s lent .refusal ≡ a .refusal
   number = ap (λ (p : Written). p .refusal) (sym e)
 
-  pub confirm-refused : (a .refusal ≡ 0 → ⊥) → confirmed (record { plan = a; check = record { refusal = a .refusal; tally = 0; worth = 0 } }) out ≡ confirmOf s lent
+  pub confirm-refused : (a .refusal ≡ 0 → ⊥) → confirmed (record { plan = a; check = record { refusal = a .refusal; tally = 0; worth = 0; ceiling = 0 } }) out ≡ confirmOf s lent
   unfolding confirmOf
   confirm-refused n = rw (e, number, ne-eqb (a .refusal) 0 n)
 

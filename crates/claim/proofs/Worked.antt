@@ -14,9 +14,10 @@ use Rattle.writer.specs.Write.{mapFor, recordsOf, sheetOf, turnsCauses, tableCa
 use Rattle.lists.specs.Lists.{every, tab}
 use Rattle.model.specs.Turns.{overlapping, overlap, bySlope, oneGroomer, byGroomer, oneDriver, byDriver, conflict}
 use Rattle.problem.specs.Problem.{problemOf, sheetTurns}
-use Rattle.model.specs.Steps.{isOpen, left, initial, reduced, change, afterStep, afterSteps, tally}
+use Rattle.model.specs.Steps.{isOpen, left, initial, touches, reduced, change, afterStep, afterSteps, tally}
 use Rattle.model.specs.Pick.{sooner, better, best, pick, nextStep, plan, steps}
 use Rattle.model.specs.Choice.{chosen, fits, choose, back, fill, goBack, choice}
+use Rattle.model.specs.Ceiling.{inGroups, holdAll, fewestGroups, stepCost, ceiling}
 use Rattle.model.specs.Rules.{independent, maximal, noEarlier, right, allRight, noneOpen, sums}
 use Rattle.board.specs.Choice.{bitOf, chosenIn, choiceIn, clearPast, byteOf, mapOf, onesOf, onesIn}
 use Rattle.board.specs.Chosen.{countOf, turnChosen}
@@ -27,11 +28,11 @@ use Rattle.planner.specs.Plan.{boardFor, plannedBoard, planCauses, planOf}
 use Rattle.text.specs.Decimal.{decimalIn, decimal}
 use Rattle.listing.specs.Round.{startsAt, startsBelow, roundFrom, roundOf}
 use Rattle.listing.specs.Text.{labelled, twoLabelled, headingOf, lineOf, linesOf, groomerText, groomersFrom, sumsLine, listingOf}
-use Rattle.listing.specs.List.{listingFor, sheetListing, listCauses, listOf}
+use Rattle.listing.specs.List.{sumsFor, listingFor, sheetListing, listCauses, listOf}
 use Rattle.claim.specs.Cases.{WorkedCases}
 
 pub worked-cases : WorkedCases
-unfolding insertBy sortBy numbersAtMost turnAtMost sortedTurns firstOf opensWith widthOf field turnFrom badMapFor endAt turnAt cursorAfter recordCauses firstCursor countCauses headerCauses recordsCauses turnsFrom rows garage causesFor sheetCauses turnsOf tableOf readCausesFor readFor readOf outsideRange pastShift turnCauses writtenUnless recordOf mapFor recordsOf sheetOf turnsOfTable turnsCauses tableCauses writeCauses writeOf problemOf sheetTurns overlapping overlap bySlope oneGroomer byGroomer oneDriver byDriver conflict every tab isOpen left initial reduced change afterStep afterSteps tally sooner better best pick nextStep plan steps chosen fits choose back fill goBack choice bitOf chosenIn choiceIn clearPast byteOf mapOf boardMap boardChoice stepsIn writtenSteps stepBytes boardOf badSizes malformed openOf stepsPart boardFor plannedBoard planCauses planOf decimalIn decimal startsAt startsBelow roundFrom roundOf labelled twoLabelled headingOf lineOf linesOf groomerText groomersFrom sumsLine listingOf listingFor sheetListing listCauses listOf onesOf onesIn countOf turnChosen independent maximal noEarlier right allRight noneOpen sums choiceCauses stepCauses ruleCauses sumCauses boardCauses checkCauses checkOf
+unfolding insertBy sortBy numbersAtMost turnAtMost sortedTurns firstOf opensWith widthOf field turnFrom badMapFor endAt turnAt cursorAfter recordCauses firstCursor countCauses headerCauses recordsCauses turnsFrom rows garage causesFor sheetCauses turnsOf tableOf readCausesFor readFor readOf outsideRange pastShift turnCauses writtenUnless recordOf mapFor recordsOf sheetOf turnsOfTable turnsCauses tableCauses writeCauses writeOf problemOf sheetTurns overlapping overlap bySlope oneGroomer byGroomer oneDriver byDriver conflict every tab isOpen left initial touches reduced change inGroups holdAll fewestGroups stepCost ceiling afterStep afterSteps tally sooner better best pick nextStep plan steps chosen fits choose back fill goBack choice bitOf chosenIn choiceIn clearPast byteOf mapOf boardMap boardChoice stepsIn writtenSteps stepBytes boardOf badSizes malformed openOf stepsPart boardFor plannedBoard planCauses planOf decimalIn decimal startsAt startsBelow roundFrom roundOf labelled twoLabelled headingOf lineOf linesOf groomerText groomersFrom sumsLine listingOf sumsFor listingFor sheetListing listCauses listOf onesOf onesIn countOf turnChosen independent maximal noEarlier right allRight noneOpen sums choiceCauses stepCauses ruleCauses sumCauses boardCauses checkCauses checkOf
 worked-cases =
     record {
       shift-read = refl;

@@ -44,27 +44,27 @@ pub record WorkedCases : Type 0 where
   pub shift-chosen : turnChosen shiftBoard 1 ≡ true
   pub shift-not-chosen : turnChosen shiftBoard 0 ≡ false
   pub shift-no-turn : turnChosen shiftBoard 4 ≡ false
-  pub shift-checked : checkOf shift shiftBoard ≡ checked 0 240 240
+  pub shift-checked : checkOf shift shiftBoard ≡ checked 0 240 240 340
   -- its first step leaves 0, 50, -20 and 90; going back over its steps chooses 3 and 1, and filling adds none: turn 2 ends just where turn 3 starts
   pub shift-stepped : afterStep shiftTurns (initial shiftTurns) (record { turn = 0; amount = 100 }) ≡ pos 0 ∷ pos 50 ∷ negsuc 19 ∷ pos 90 ∷ []
   pub shift-gone-back : goBack shiftTurns (steps shiftTurns) ≡ false ∷ true ∷ false ∷ true ∷ []
   pub shift-filled : choice shiftTurns ≡ false ∷ true ∷ false ∷ true ∷ []
-  pub shift-listed : listOf shift (lent 90) ≡ record { refusal = 0; bytes = 89; lent = shiftListing ++ lent 1 }
+  pub shift-listed : listOf shift (lent 102) ≡ record { refusal = 0; bytes = 101; lent = shiftListing ++ lent 1 }
   -- no bytes
   pub nothing-read : readOf [] (lent 3) ≡ outcome (readRefused 1) (lent 3)
   pub nothing-planned : planOf [] (lent 3) ≡ record { refusal = 1; bytes = 0; lent = lent 3 }
-  pub nothing-checked : checkOf [] shiftBoard ≡ checked 1 0 0
+  pub nothing-checked : checkOf [] shiftBoard ≡ checked 1 0 0 0
   -- no turns
   pub empty-read : readOf (header 0 0) [] ≡ outcome (record { refusal = 0; groomers = 2; slopes = 3; turns = 0 }) []
   pub empty-planned : planOf (header 0 0) (lent 16) ≡ record { refusal = 0; bytes = 15; lent = emptyBoard ++ lent 1 }
-  pub empty-checked : checkOf (header 0 0) emptyBoard ≡ checked 0 0 0
+  pub empty-checked : checkOf (header 0 0) emptyBoard ≡ checked 0 0 0 0
   -- a header of 400 turns and no record, and one of 401
   pub most-read : readOf (header 1 0x90) [] ≡ outcome (readRefused 1) []
   pub most-planned : planOf (header 1 0x90) [] ≡ record { refusal = 1; bytes = 0; lent = [] }
-  pub most-checked : checkOf (header 1 0x90) emptyBoard ≡ checked 1 0 0
+  pub most-checked : checkOf (header 1 0x90) emptyBoard ≡ checked 1 0 0 0
   pub many-read : readOf (header 1 0x91) [] ≡ outcome (readRefused 4) []
   pub many-planned : planOf (header 1 0x91) [] ≡ record { refusal = 4; bytes = 0; lent = [] }
-  pub many-checked : checkOf (header 1 0x91) emptyBoard ≡ checked 4 0 0
+  pub many-checked : checkOf (header 1 0x91) emptyBoard ≡ checked 4 0 0 0
   -- an end at minute 960, and one minute later; worth 60,000, and one more
   pub end-read : readOf (lateTurn 60 0 1) (lent 6) ≡ outcome (record { refusal = 0; groomers = 1; slopes = 1; turns = 1 }) (1 ∷ 1 ∷ 900 ∷ 60 ∷ 1 ∷ 0 ∷ [])
   pub late-read : readOf (lateTurn 61 0 1) (lent 6) ≡ outcome (readRefused 8) (lent 6)
@@ -78,10 +78,10 @@ pub record WorkedCases : Type 0 where
   pub no-driver-written : writeOf (record { groomers = 1; slopes = 1 }) (drivenTable 0) (lent 17) ≡ record { refusal = 0; bytes = 16; lent = undrivenTurn ++ lent 1 }
   -- two turns that overlap, on two slopes and two groomers: with one driver the first step takes 100 from both and the second turn alone is chosen; with driver 0 both are
   pub driven-planned : planOf (drivenShift 7) (lent 24) ≡ record { refusal = 0; bytes = 24; lent = twoTurns 150 150 2 50 }
-  pub driven-checked : checkOf (drivenShift 7) (twoTurns 150 150 2 50) ≡ checked 0 150 150
-  pub driven-twice : checkOf (drivenShift 7) (twoTurns 150 250 3 50) ≡ checked 13 0 0
+  pub driven-checked : checkOf (drivenShift 7) (twoTurns 150 150 2 50) ≡ checked 0 150 150 150
+  pub driven-twice : checkOf (drivenShift 7) (twoTurns 150 250 3 50) ≡ checked 13 0 0 0
   pub undriven-planned : planOf (drivenShift 0) (lent 24) ≡ record { refusal = 0; bytes = 24; lent = twoTurns 250 250 3 150 }
   -- other choices with the shift's steps
-  pub wrong-worth : checkOf shift wrongWorth ≡ checked 17 0 0
-  pub leaves-room : checkOf shift leavesRoom ≡ checked 14 0 0
-  pub touching-turns : checkOf shift touchingTurns ≡ checked 13 0 0
+  pub wrong-worth : checkOf shift wrongWorth ≡ checked 17 0 0 0
+  pub leaves-room : checkOf shift leavesRoom ≡ checked 14 0 0 0
+  pub touching-turns : checkOf shift touchingTurns ≡ checked 13 0 0 0

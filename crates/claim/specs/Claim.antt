@@ -7,6 +7,7 @@ use lib.ListN.{length, take}
 use Prim.Native.Nat.{ℕ, _≤_}
 use Rattle.model.specs.Steps.{Step, tally}
 use Rattle.model.specs.Choice.{chosen, fits, fill}
+use Rattle.model.specs.Ceiling.{ceiling}
 use Rattle.model.specs.Promises.{Promises}
 use Rattle.model.specs.IntervalSelection.{Selects}
 use Rattle.sheet.specs.Read.{countsIn, turnCount, turnsOf}
@@ -38,8 +39,8 @@ pub record Claim (s b : List ℕ) : Type 0 where
   pub reading : (a : Accepted s) → ReadsAs s a
   -- the check passes b for s exactly if s is accepted and b keeps the rules for it
   pub exactly : Passes s b ↔ (Accepted s × BoardKeeps s b)
-  -- and its answer is then the board's own tally and worth
-  pub answers : Passes s b → checkOf s b ≡ checked 0 (boardTally b) (boardWorth b)
+  -- and its answer is then the board's own tally and worth, and the ceiling of its steps
+  pub answers : Passes s b → checkOf s b ≡ checked 0 (boardTally b) (boardWorth b) (ceiling (sheetTurns s) (writtenSteps b))
   -- the planner's board of an accepted sheet passes
   pub ours : Accepted s → Passes s (plannedBoard s)
   -- the planner refuses nothing exactly if s is accepted and the lent bytes hold a board with as many steps as turns
@@ -49,5 +50,5 @@ pub record Claim (s b : List ℕ) : Type 0 where
   -- the published algorithm returns a choice and makes steps, and whatever these are, the planner's board is theirs
   pub method-returns : Accepted s → (S : List Bool) × (xs : List Step) × Selects (sheetTurns s) S xs
   pub method : Accepted s → (S : List Bool) (xs : List Step) → Selects (sheetTurns s) S xs → ByMethod s S xs
-  -- whenever b passes, whoever made it, it binds every feasible set of the sheet's turns
-  pub promises : Passes s b → Promises (sheetTurns s) (boardChoice b) (boardTally b) (boardWorth b)
+  -- whenever b passes, whoever made it, it binds every feasible set of the sheet's turns: among others, none is worth more than the ceiling that the check returns
+  pub promises : Passes s b → Promises (sheetTurns s) (boardChoice b) (boardTally b) (boardWorth b) (checkOf s b .ceiling)

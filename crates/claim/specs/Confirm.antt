@@ -1,4 +1,4 @@
--- Planning, then checking: the check's answer is the plan's own tally and worth. Assumes nothing.
+-- Planning, then checking: the check's answer is the plan's own tally, worth and ceiling. Assumes nothing.
 use Prim.Native.Nat.{ℕ}
 use mathlib.Core.Bool.{cond}
 use mathlib.Core.List.{List}
@@ -7,6 +7,7 @@ use Rattle.refusal.specs.Written.{Written}
 use Rattle.model.specs.Steps.{tally}
 use Rattle.model.specs.Pick.{steps}
 use Rattle.model.specs.Choice.{chosen, choice}
+use Rattle.model.specs.Ceiling.{ceiling}
 use Rattle.audit.specs.declared.judge.CheckAnswer.{CheckAnswer}
 use Rattle.problem.specs.Problem.{sheetTurns}
 use Rattle.audit.specs.Check.{checked}
@@ -23,12 +24,12 @@ pub record Confirmation : Type 0 where
 abbrev pub confirmed : Confirmed → List ℕ → Confirmation
 confirmed answer lent = record { plan = planned (answer .plan) lent; check = answer .check }
 
--- the tally and the worth of the planner's board of a sheet
+-- the tally, the worth and the ceiling of the planner's board of a sheet
 abbrev pub plannedSums : List ℕ → CheckAnswer
-plannedSums s = checked 0 (tally (steps (sheetTurns s))) (chosen (sheetTurns s .count) (choice (sheetTurns s)) (sheetTurns s .worth))
+plannedSums s = checked 0 (tally (steps (sheetTurns s))) (chosen (sheetTurns s .count) (choice (sheetTurns s)) (sheetTurns s .worth)) (ceiling (sheetTurns s) (steps (sheetTurns s)))
 
 -- what the plan gives; the sums are what the check of that board returns
 unfoldable pub confirmOf : List ℕ → List ℕ → Confirmation
 confirmOf s lent =
     let p = planOf s lent in
-    record { plan = p; check = cond (eqb (p .refusal) 0) (plannedSums s) (checked (p .refusal) 0 0) }
+    record { plan = p; check = cond (eqb (p .refusal) 0) (plannedSums s) (checked (p .refusal) 0 0 0) }

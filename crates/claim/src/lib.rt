@@ -21,6 +21,7 @@ pub fn plan_and_check(s: &[u8], out: &mut [u8]) -> Confirmed
             refusal: fault,
             tally: 0,
             worth: 0,
+            ceiling: 0,
         };
         return Confirmed {
             plan: plan,

@@ -22,7 +22,8 @@ use Rattle.partition.specs.Partition.{Partition, partitioned, partitionOf}
 use Rattle.corpus.specs.declared.tools.Counts.{Counts}
 use Rattle.corpus.specs.declared.entries.Line.{Line}
 use Rattle.corpus.specs.declared.entries.ReadLine.{ReadLine}
-use Rattle.corpus.specs.Line.{numberOr, countsHeld, unpacked, heldBefore, mixed, sumFrom, sumOf, writtenLine, readLine, partitionLine}
+use Rattle.corpus.specs.declared.entries.CheckLine.{CheckLine}
+use Rattle.corpus.specs.Line.{numberOr, countsHeld, unpacked, heldBefore, mixed, sumFrom, sumOf, writtenLine, readLine, partitionLine, checkLine}
 
 -- ---- a number that may not be there
 
@@ -154,7 +155,8 @@ module _ (s lent : List ℕ) {a : PartitionAnswer} {l : List ℕ} (e : partition
 pub open-line : (b : List ℕ) {r sum : ℕ} {steps : List ℕ} → r ≡ openOf b → steps ≡ stepsPart b → sum ≡ sumOf steps → _≡_ {A = Line} (record { refusal = r; value = length steps; last = sum }) (record { refusal = openOf b; value = length (stepsPart b); last = sumOf (stepsPart b) })
 open-line b e f g = rw (e, g, f)
 
-pub check-line : (s b : List ℕ) {a : CheckAnswer} → a ≡ checkOf s b → _≡_ {A = Line} (record { refusal = a .refusal; value = a .tally; last = a .worth }) (record { refusal = checkOf s b .refusal; value = checkOf s b .tally; last = checkOf s b .worth })
+pub check-line : (s b : List ℕ) {a : CheckAnswer} → a ≡ checkOf s b → _≡_ {A = CheckLine} (record { refusal = a .refusal; tally = a .tally; worth = a .worth; ceiling = a .ceiling }) (checkLine (checkOf s b))
+unfolding checkLine
 check-line s b e = rw e
 
 module _ (counts table lent : List ℕ) {c : Counts} (f : c ≡ countsHeld counts) {a b : ℕ} {l : List ℕ} (e : _≡_ {A = Written} (record { refusal = a; bytes = b; lent = l }) (writeOf (countsOf (c .groomers) (c .slopes)) table lent)) where

@@ -12,6 +12,8 @@ use Rattle.partition.specs.Partition.{Partition}
 use Rattle.corpus.specs.declared.tools.Counts.{Counts}
 use Rattle.corpus.specs.declared.entries.Line.{Line}
 use Rattle.corpus.specs.declared.entries.ReadLine.{ReadLine}
+use Rattle.corpus.specs.declared.entries.CheckLine.{CheckLine}
+use Rattle.audit.specs.declared.judge.CheckAnswer.{CheckAnswer}
 
 -- the number in the k bytes from a place on, 0 where they are not all there
 unfoldable pub numberOr : List ℕ → ℕ → ℕ → ℕ
@@ -55,6 +57,10 @@ writtenLine w = record { refusal = w .refusal; value = w .bytes; last = sumOf (w
 -- the reader's line: the refusal, the counts, the checksum of the lent table
 unfoldable pub readLine : Outcome → ReadLine
 readLine o = record { refusal = o .answer .refusal; groomers = o .answer .groomers; slopes = o .answer .slopes; turns = o .answer .turns; last = sumOf (o .table) }
+
+-- the check's line: the refusal, and the three sums
+unfoldable pub checkLine : CheckAnswer → CheckLine
+checkLine a = record { refusal = a .refusal; tally = a .tally; worth = a .worth; ceiling = a .ceiling }
 
 -- the line of the groomers for all turns: the refusal, how many are used, the checksum of the lent places
 unfoldable pub partitionLine : Partition → Line

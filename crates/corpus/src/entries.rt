@@ -10,7 +10,7 @@ ghost use Rattle.planner.specs.Plan.{planOf};
 ghost use Rattle.listing.specs.List.{listOf};
 ghost use Rattle.partition.specs.Partition.{partitionOf};
 ghost use Rattle.screen.specs.Screen.{readShortOf};
-ghost use Rattle.corpus.specs.Line.{countsHeld, unpacked, sumOf, writtenLine, readLine, partitionLine};
+ghost use Rattle.corpus.specs.Line.{countsHeld, unpacked, sumOf, writtenLine, readLine, partitionLine, checkLine};
 use super::tools;
 use board::CountAnswer;
 
@@ -29,6 +29,14 @@ pub struct ReadLine {
     pub slopes: u16,
     pub turns: u16,
     pub last: u32,
+}
+
+// The check's line ends with the ceiling.
+pub struct CheckLine {
+    pub refusal: u8,
+    pub tally: u32,
+    pub worth: u32,
+    pub ceiling: u32,
 }
 
 // Reading a sheet into the lent table.
@@ -109,19 +117,16 @@ pub fn chosen(board: &[u8], turn: u16) -> bool
     board::chooses(board, turn as usize)
 }
 
-// Checking a board against a sheet: nothing is lent, and the worth ends the line.
-pub fn check(sheet: &[u8], board: &[u8]) -> Line
-    ensures { λ r. ⌜ r ≡ record {
-      refusal = checkOf (now (sheet .entry)) (now (board .entry)) .refusal;
-      value = checkOf (now (sheet .entry)) (now (board .entry)) .tally;
-      last = checkOf (now (sheet .entry)) (now (board .entry)) .worth;
-    } ⌝ }
+// Checking a board against a sheet: nothing is lent, and the ceiling ends the line.
+pub fn check(sheet: &[u8], board: &[u8]) -> CheckLine
+    ensures { λ r. ⌜ r ≡ checkLine (checkOf (now (sheet .entry)) (now (board .entry))) ⌝ }
 {
     let answer = audit::check(sheet, board);
-    Line {
+    CheckLine {
         refusal: answer.refusal,
-        value: answer.tally as u64,
-        last: answer.worth,
+        tally: answer.tally,
+        worth: answer.worth,
+        ceiling: answer.ceiling,
     }
 }
 

@@ -81,6 +81,15 @@ fn print_read(name: &[u8], line: entries::ReadLine) {
     io::write_all(STDOUT_FILENO, b"\n");
 }
 
+fn print_check(line: entries::CheckLine) {
+    io::write_all(STDOUT_FILENO, b"check");
+    put(line.refusal as u64);
+    put(line.tally as u64);
+    put(line.worth as u64);
+    put(line.ceiling as u64);
+    io::write_all(STDOUT_FILENO, b"\n");
+}
+
 fn print_count(line: CountAnswer) {
     io::write_all(STDOUT_FILENO, b"count");
     put(line.refusal as u64);
@@ -113,7 +122,7 @@ fn run_entry(
         ),
         3 => print_line(b"plan", entries::plan(front, &mut *bytes)),
         4 => print_line(b"open", entries::open(front)),
-        5 => print_line(b"check", entries::check(front, rest)),
+        5 => print_check(entries::check(front, rest)),
         6 => print_line(b"list", entries::list(front, &mut *bytes)),
         7 => print_count(entries::count(front)),
         8 => print_chosen(entries::chosen(front, first)),

@@ -2,7 +2,7 @@
 use Prim.Native.Nat.{ℕ, _+_, _-_, _*_, _<_, _≤_}
 use mathlib.Core.Path.{_≡_, refl, sym, _∙_, ap}
 use mathlib.Core.List.{List, [], _∷_, _++_}
-use mathlib.Core.Bool.{false}
+use mathlib.Core.Bool.{true, false}
 use native.Mathlib.Omega.{arith}
 use lib.Dec.{ltb}
 use lib.ListN.{length, take, drop, replicate}
@@ -16,7 +16,13 @@ use Rattle.wire.proofs.Puts.{puts-front, puts-length}
 use lib.Seq.{take-at}
 use Rattle.text.specs.Place.{lastPlace}
 use Rattle.model.specs.Turns.{Turns, PositiveLengths}
+use Rattle.model.specs.Steps.{initial}
+use Rattle.model.specs.Pick as pick
+use Rattle.model.specs.Rules.{allRight}
+use Rattle.model.specs.Ceiling.{ceiling}
 use Rattle.model.specs.Choice.{choice}
+use Rattle.model.proofs.Planned.{planned-right, steps-few}
+use Rattle.model.proofs.Readings.{allRight-is}
 use Rattle.model.proofs.Promised.{planned-keeps}
 use Rattle.sheet.specs.declared.reader.ReadAnswer.{ReadAnswer}
 use Rattle.sheet.specs.Kind.{mostTurns}
@@ -24,9 +30,9 @@ use Rattle.sheet.specs.Read.{countsIn, turnCount, sheetCauses, answerOf}
 use Rattle.sheet.proofs.Readings.{sheet-numbered}
 use Rattle.sheet.proofs.Whole.{whole-refusal, whole-accepted, whole-answer, whole-turns}
 use Rattle.board.specs.Choice.{choiceIn, Clean}
-use Rattle.board.specs.Board.{boardHeader, boardTurns, boardTally, boardWorth, boardMap, boardChoice, boardLength}
-use Rattle.board.specs.Open.{malformed}
-use Rattle.board.proofs.Openings.{formed-header}
+use Rattle.board.specs.Board.{boardHeader, stepSize, boardTurns, boardSteps, boardTally, boardWorth, boardMap, boardChoice, boardLength, stepsIn}
+use Rattle.board.specs.Open.{malformed, stepsPart}
+use Rattle.board.proofs.Openings.{formed-header, part-length, part-steps}
 use Rattle.board.proofs.OpenCauses.{formed-clean}
 use Rattle.problem.specs.declared.columns.Size.{Size}
 use Rattle.problem.specs.Columns.{turnsBy, Held}
@@ -35,11 +41,12 @@ use Rattle.problem.specs.Load.{shiftSize, Posed}
 use Rattle.problem.proofs.Rows.{count-is, lengths-are}
 use Rattle.planner.specs.Plan.{boardFor}
 use Rattle.planner.proofs.Boards.{planned-bytes, board-most, ReadsBack, board-back}
+use Rattle.listing.specs.declared.lines.Sums.{Sums}
 use Rattle.listing.specs.Text.{listingOf}
 use Rattle.listing.specs.Ready.{Ready}
 use Rattle.listing.specs.Limits.{listingBytes}
 use Rattle.listing.specs.declared.ListAnswer.{ListAnswer}
-use Rattle.listing.specs.List.{listingFor, sheetListing, listCauses, listOf}
+use Rattle.listing.specs.List.{sumsFor, listingFor, sheetListing, listCauses, listOf}
 use Rattle.listing.specs.Answer.{listed, listRefused, textAnswer}
 use Rattle.listing.proofs.Rounds.{apart-starts}
 use Rattle.listing.proofs.Bytes.{listing-bytes}
@@ -119,18 +126,45 @@ module _ (size : Size) (cols b : List ℕ) (e : b ≡ boardFor (turnsBy size col
     pub board-ready : Ready size cols map
     board-ready = record { held = held; clean = map-clean; apart = rw choice-is (apart-starts T (choice T) (planned-keeps T lengths .apart) lengths) }
 
-    module _ (groomers : ℕ) {tallied worth : ℕ} (t : tallied ≡ boardTally b) (w : worth ≡ boardWorth b) where
-      listing-is : listingOf groomers T (choiceIn (size .count) map) worth tallied ≡ listingFor groomers T
+    module _ (groomers : ℕ) {sums : Sums} (w : sums ≡ sumsFor T) where
+      listing-is : listingOf groomers T (choiceIn (size .count) map) sums ≡ listingFor groomers T
       unfolding listingFor
-      listing-is = rw (choice-is, t, w, back .tallied, back .worth)
+      listing-is = rw (choice-is, w)
 
-      pub listing-fits : length (listingFor groomers T) ≤ listingBytes → length (listingOf groomers T (choiceIn (size .count) map) worth tallied) ≤ listingBytes
+      pub listing-fits : length (listingFor groomers T) ≤ listingBytes → length (listingOf groomers T (choiceIn (size .count) map) sums) ≤ listingBytes
       listing-fits g = rw listing-is g
 
-      pub listing-answer : {x : Written} (lent : List ℕ) → x ≡ textAnswer (listingOf groomers T (choiceIn (size .count) map) worth tallied) lent → x ≡ textAnswer (listingFor groomers T) lent
+      pub listing-answer : {x : Written} (lent : List ℕ) → x ≡ textAnswer (listingOf groomers T (choiceIn (size .count) map) sums) lent → x ≡ textAnswer (listingFor groomers T) lent
       listing-answer lent g = rw listing-is at g
 
 pub ruleset board-cases = (board-opens, board-header, board-ready, listing-fits, listing-answer)
+
+-- ---- its sums
+
+module _ (size : Size) (cols b : List ℕ) (e : b ≡ boardFor (turnsBy size cols)) (held : Held size cols) where
+  abbrev planned : ReadsBack (turnsBy size cols) b
+  planned = back size cols b e held
+
+  pub sums-header : boardHeader ≤ length b
+  sums-header = board-header size cols b e held
+
+  module _ {steps : List ℕ} {m : ℕ} (q : steps ≡ stepsPart b) (p : m ≡ boardSteps b) where
+    steps-are : stepsIn m steps ≡ pick.steps (turnsBy size cols)
+    steps-are = rw (p, q) (part-steps b (planned .planned-opens) ∙ planned .step-list)
+
+    pub sums-room : stepSize * m ≤ length steps
+    sums-room = rw (p, q) (omega (arith, part-length b (planned .planned-opens)))
+
+    pub sums-few : m ≤ size .count
+    sums-few = omega (arith, planned .step-count, steps-few (turnsBy size cols), count-is size cols)
+
+    pub sums-right : allRight (turnsBy size cols) (initial (turnsBy size cols)) (stepsIn m steps) ≡ true
+    sums-right = rw steps-are (allRight-is (turnsBy size cols) (initial (turnsBy size cols)) (pick.steps (turnsBy size cols)) .1 (planned-right (turnsBy size cols)))
+
+    pub sums-are : {worth tallied limit : ℕ} → worth ≡ boardWorth b → tallied ≡ boardTally b → limit ≡ ceiling (turnsBy size cols) (stepsIn m steps)
+        → _≡_ {A = Sums} (record { worth = worth; tally = tallied; ceiling = limit }) (sumsFor (turnsBy size cols))
+    unfolding sumsFor
+    sums-are w t l = rw (w, t, l, planned .worth, planned .tallied, steps-are)
 
 -- ---- planned into a place of its own
 

@@ -16,6 +16,7 @@ use Rattle.model.specs.Choice.{chosen, choice}
 use Rattle.model.specs.Rules.{Independent}
 use Rattle.model.proofs.Planned.{planned-right}
 use Rattle.model.proofs.Limits.{sums-limits}
+use Rattle.model.proofs.Ceilings.{ceiling-thrice}
 use Rattle.model.proofs.Promised.{planned-keeps}
 use Rattle.sheet.specs.Kind.{mostTurns}
 use Rattle.sheet.specs.Read.{countsIn, turnCount, sheetCauses}
@@ -23,9 +24,10 @@ use Rattle.sheet.proofs.Unrefused.{few-groomers, few-slopes, few-turns}
 use Rattle.turns.specs.Turn.{mostWorth}
 use Rattle.problem.specs.Problem.{sheetTurns}
 use Rattle.problem.proofs.Posed.{sheet-count, sheet-lengths, sheet-ends, sheet-worths, sheet-slopes, sheet-groomers}
+use Rattle.listing.specs.declared.lines.Sums.{Sums}
 use Rattle.listing.specs.Round.{roundOf, shiftMinutes, In, here, later, StartsApart}
-use Rattle.listing.specs.Text.{labelled, twoLabelled, headingOf, lineOf, linesOf, groomerText, groomersFrom, sumsLine, listingOf, groomerWord, slopeWord, worthWord, sumWord, tallyWord, hyphen, lineFeed}
-use Rattle.listing.specs.List.{listingFor, sheetListing}
+use Rattle.listing.specs.Text.{labelled, twoLabelled, headingOf, lineOf, linesOf, groomerText, groomersFrom, sumsLine, listingOf, groomerWord, slopeWord, worthWord, sumWord, tallyWord, ceilingWord, hyphen, lineFeed}
+use Rattle.listing.specs.List.{sumsFor, listingFor, sheetListing}
 use Rattle.listing.proofs.Rounds.{apart-starts, round-is, rounds-count}
 use Rattle.listing.proofs.Slopes.{chosen-few}
 
@@ -45,10 +47,16 @@ heading-bytes : (h : ℕ) → h ≤ 16 → length (headingOf h) ≤ 11
 unfolding headingOf
 heading-bytes h l = omega (arith, length-append (labelled groomerWord h) lineFeed, labelled-bytes groomerWord 2 h (omega arith) (omega arith))
 
--- "worth 24000000 tally 24000000"
-sums-bytes : (worth tallied : ℕ) → worth ≤ 24000000 → tallied ≤ 24000000 → length (sumsLine worth tallied) ≤ 30
+-- "worth 24000000 tally 24000000 ceiling 72000000"
+sums-bytes : (sums : Sums) → sums .worth ≤ 24000000 → sums .tally ≤ 24000000 → sums .ceiling ≤ 72000000 → length (sumsLine sums) ≤ 47
 unfolding sumsLine
-sums-bytes worth tallied w t = omega (arith, two-bytes sumWord 8 worth tallyWord 8 tallied (omega arith) (omega arith) (omega arith) (omega arith))
+sums-bytes sums w t c =
+    omega (
+      arith,
+      length-append (labelled sumWord (sums .worth)) (twoLabelled tallyWord (sums .tally) ceilingWord (sums .ceiling)),
+      labelled-bytes sumWord 8 (sums .worth) (omega arith) (omega arith),
+      two-bytes tallyWord 8 (sums .tally) ceilingWord 8 (sums .ceiling) (omega arith) (omega arith) (omega arith) (omega arith),
+    )
 
 -- "959-960 slope 120 worth 60000"
 line-bytes : (T : Turns) (u : ℕ) → T .start u < 960 → T .end u ≤ 960 → T .slope u ≤ 120 → T .worth u ≤ 60000 → length (lineOf T u) ≤ 30
@@ -125,19 +133,19 @@ module _ (s : List ℕ) (z : firstOf (sheetCauses s) ≡ 0) where
   short : (u : ℕ) → u < T .count → length (lineOf T u) ≤ 30
   short u l = line-bytes T u (starts u l) (ends u l) (omega (arith, sheet-slopes s z u (inside u l) .1, few-slopes s z)) (worths u l)
 
-  -- 16 headings of 11 bytes, 120 turns of 30, and the last line of 30
-  pub listing-bytes : length (sheetListing s) ≤ 3806
-  unfolding sheetListing listingFor listingOf
+  -- 16 headings of 11 bytes, 120 turns of 30, and the last line of 47
+  pub listing-bytes : length (sheetListing s) ≤ 3823
+  unfolding sheetListing listingFor listingOf sumsFor
   listing-bytes =
       let apart : Independent T (choice T) = planned-keeps T lengths .apart in
       let sums = sums-limits T worths few (planned-right T) (choice T) in
       omega (
         arith,
-        length-append (groomersFrom T (choice T) (countsIn s .groomers) 1) (sumsLine (chosen (T .count) (choice T) (T .worth)) (tally (steps T))),
+        length-append (groomersFrom T (choice T) (countsIn s .groomers) 1) (sumsLine (sumsFor T)),
         groomers-bytes T (choice T) (apart-starts T (choice T) apart lengths) starts short (countsIn s .groomers) 1 (omega (arith, few-groomers s z)),
         rounds-count T (choice T) (countsIn s .groomers) (λ u l. sheet-groomers s z u (inside u l) .0) (λ u l. sheet-groomers s z u (inside u l) .1) starts,
         chosen-few T (choice T) apart (countsIn s .slopes) (λ u l. sheet-slopes s z u (inside u l) .0) (λ u l. sheet-slopes s z u (inside u l) .1),
         few-groomers s z,
         few-slopes s z,
-        sums-bytes (chosen (T .count) (choice T) (T .worth)) (tally (steps T)) (sums .1) (sums .0),
+        sums-bytes (sumsFor T) (sums .1) (sums .0) (omega (arith, sums .0, ceiling-thrice T (planned-right T))),
       )

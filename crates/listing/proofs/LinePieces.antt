@@ -12,7 +12,8 @@ use Rattle.problem.specs.declared.ways.Row.{Row}
 use Rattle.problem.specs.declared.columns.Size.{Size}
 use Rattle.problem.specs.Columns.{rowIn, turnsBy}
 use Rattle.problem.proofs.Rows.{slope-at, start-at, end-at, worth-at}
-use Rattle.listing.specs.Text.{labelled, twoLabelled, headingOf, lineOf, sumsLine, groomerWord, slopeWord, worthWord, sumWord, tallyWord, refusedWord, hyphen, lineFeed, refusedLine}
+use Rattle.listing.specs.declared.lines.Sums.{Sums}
+use Rattle.listing.specs.Text.{labelled, twoLabelled, headingOf, lineOf, sumsLine, groomerWord, slopeWord, worthWord, sumWord, tallyWord, ceilingWord, refusedWord, hyphen, lineFeed, refusedLine}
 use Rattle.listing.proofs.Pieces.{first-fits, second-fits, both-place, both-put, middle-fits, third-fits, three-place, three-put}
 
 -- ---- a word and a number
@@ -88,20 +89,25 @@ pub ruleset heading-cases = (heading-fits, heading-feed, heading-place, heading-
 
 -- ---- the last line
 
-module _ (worth tally at : ℕ) where
-  pub sums-fits : at + length (sumsLine worth tally) ≤ lastPlace → at + length (twoLabelled sumWord worth tallyWord tally) ≤ lastPlace
+module _ (sums : Sums) (at : ℕ) where
+  pub sums-fits : at + length (sumsLine sums) ≤ lastPlace → at + length (labelled sumWord (sums .worth)) ≤ lastPlace
   unfolding sumsLine
-  sums-fits h = h
+  sums-fits h = first-fits (labelled sumWord (sums .worth)) (twoLabelled tallyWord (sums .tally) ceilingWord (sums .ceiling)) at h
 
-  pub sums-place : {r : ℕ} → r ≡ at + length (twoLabelled sumWord worth tallyWord tally) → r ≡ at + length (sumsLine worth tally)
-  unfolding sumsLine
-  sums-place e = e
+  module _ {next : ℕ} (e : next ≡ at + length (labelled sumWord (sums .worth))) where
+    pub sums-rest-fits : at + length (sumsLine sums) ≤ lastPlace → next + length (twoLabelled tallyWord (sums .tally) ceilingWord (sums .ceiling)) ≤ lastPlace
+    unfolding sumsLine
+    sums-rest-fits h = second-fits (labelled sumWord (sums .worth)) (twoLabelled tallyWord (sums .tally) ceilingWord (sums .ceiling)) at e h
 
-  pub sums-put : (l : List ℕ) {l₁ : List ℕ} → l₁ ≡ puts l at (twoLabelled sumWord worth tallyWord tally) → l₁ ≡ puts l at (sumsLine worth tally)
-  unfolding sumsLine
-  sums-put l p = p
+    pub sums-place : {r : ℕ} → r ≡ next + length (twoLabelled tallyWord (sums .tally) ceilingWord (sums .ceiling)) → r ≡ at + length (sumsLine sums)
+    unfolding sumsLine
+    sums-place f = both-place (labelled sumWord (sums .worth)) (twoLabelled tallyWord (sums .tally) ceilingWord (sums .ceiling)) at e f
 
-pub ruleset sums-cases = (sums-fits, sums-place, sums-put)
+    pub sums-put : (l : List ℕ) {l₁ l₂ : List ℕ} → l₁ ≡ puts l at (labelled sumWord (sums .worth)) → l₂ ≡ puts l₁ next (twoLabelled tallyWord (sums .tally) ceilingWord (sums .ceiling)) → l₂ ≡ puts l at (sumsLine sums)
+    unfolding sumsLine
+    sums-put l p q = both-put (labelled sumWord (sums .worth)) (twoLabelled tallyWord (sums .tally) ceilingWord (sums .ceiling)) at e l p q
+
+pub ruleset sums-cases = (sums-fits, sums-rest-fits, sums-place, sums-put)
 
 -- ---- a turn's line
 

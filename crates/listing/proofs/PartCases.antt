@@ -16,6 +16,7 @@ use Rattle.model.specs.Choice.{has}
 use Rattle.lists.proofs.Sums.{tab-length, tab-at, tab-same}
 use Rattle.board.specs.Choice.{choiceIn}
 use Rattle.board.proofs.Clean.{zeros-at, zeros-clean}
+use Rattle.listing.specs.declared.lines.Sums.{Sums}
 use Rattle.listing.specs.Round.{startsAt, startsBelow, roundFrom, roundOf, shiftMinutes, StartsApart}
 use Rattle.listing.specs.Text.{lineOf, linesOf, headingOf, groomerText, groomersFrom, sumsLine, listingOf}
 use Rattle.listing.specs.Notes.{noteOf, notesOf, noteText, notesText, NotesBelow, Marked}
@@ -212,22 +213,22 @@ pub ruleset parts-cases = (parts-start, parts-begin, part-fits, part-place, part
 
 -- ---- the whole
 
-module _ (groomers : ℕ) (T : Turns) (S : List Bool) (worth tally : ℕ) where
-  pub groomers-room : length (listingOf groomers T S worth tally) ≤ lastPlace → length (groomersFrom T S groomers 1) ≤ lastPlace
+module _ (groomers : ℕ) (T : Turns) (S : List Bool) (sums : Sums) where
+  pub groomers-room : length (listingOf groomers T S sums) ≤ lastPlace → length (groomersFrom T S groomers 1) ≤ lastPlace
   unfolding listingOf
-  groomers-room m = let q : 0 + length (groomersFrom T S groomers 1 ++ sumsLine worth tally) ≤ lastPlace = omega (arith, m) in omega (arith, first-fits (groomersFrom T S groomers 1) (sumsLine worth tally) 0 q)
+  groomers-room m = let q : 0 + length (groomersFrom T S groomers 1 ++ sumsLine sums) ≤ lastPlace = omega (arith, m) in omega (arith, first-fits (groomersFrom T S groomers 1) (sumsLine sums) 0 q)
 
   module _ {last : ℕ} (e : last ≡ length (groomersFrom T S groomers 1)) where
-    pub last-fits : length (listingOf groomers T S worth tally) ≤ lastPlace → last + length (sumsLine worth tally) ≤ lastPlace
+    pub last-fits : length (listingOf groomers T S sums) ≤ lastPlace → last + length (sumsLine sums) ≤ lastPlace
     unfolding listingOf
-    last-fits m = let q : 0 + length (groomersFrom T S groomers 1 ++ sumsLine worth tally) ≤ lastPlace = omega (arith, m) in second-fits (groomersFrom T S groomers 1) (sumsLine worth tally) 0 (e ∙ plus-none _) q
+    last-fits m = let q : 0 + length (groomersFrom T S groomers 1 ++ sumsLine sums) ≤ lastPlace = omega (arith, m) in second-fits (groomersFrom T S groomers 1) (sumsLine sums) 0 (e ∙ plus-none _) q
 
-    pub listing-place : {r : ℕ} → r ≡ last + length (sumsLine worth tally) → r ≡ length (listingOf groomers T S worth tally)
+    pub listing-place : {r : ℕ} → r ≡ last + length (sumsLine sums) → r ≡ length (listingOf groomers T S sums)
     unfolding listingOf
-    listing-place f = both-place (groomersFrom T S groomers 1) (sumsLine worth tally) 0 (e ∙ plus-none _) f ∙ sym (plus-none _)
+    listing-place f = both-place (groomersFrom T S groomers 1) (sumsLine sums) 0 (e ∙ plus-none _) f ∙ sym (plus-none _)
 
-    pub listing-put : (l : List ℕ) {l₁ l₂ : List ℕ} → l₁ ≡ puts l 0 (groomersFrom T S groomers 1) → l₂ ≡ puts l₁ last (sumsLine worth tally) → l₂ ≡ puts l 0 (listingOf groomers T S worth tally)
+    pub listing-put : (l : List ℕ) {l₁ l₂ : List ℕ} → l₁ ≡ puts l 0 (groomersFrom T S groomers 1) → l₂ ≡ puts l₁ last (sumsLine sums) → l₂ ≡ puts l 0 (listingOf groomers T S sums)
     unfolding listingOf
-    listing-put l p q = both-put (groomersFrom T S groomers 1) (sumsLine worth tally) 0 (e ∙ plus-none _) l p q
+    listing-put l p q = both-put (groomersFrom T S groomers 1) (sumsLine sums) 0 (e ∙ plus-none _) l p q
 
 pub ruleset listing-cases = (groomers-room, last-fits, listing-place, listing-put)

@@ -5,6 +5,6 @@ use Prim.Native.Nat.{ℕ}
 abbrev pub inputBytes : ℕ
 inputBytes = 4008
 
--- enough for every listing: 16 headings of at most 11 bytes, a line of at most 30 for each of at most 120 chosen turns, one a slope, and a last line of at most 30
+-- enough for every listing: 16 headings of at most 11 bytes, a line of at most 30 for each of at most 120 chosen turns, one a slope, and a last line of at most 47
 abbrev pub listingBytes : ℕ
-listingBytes = 3806
+listingBytes = 3823

@@ -10,14 +10,20 @@ use Rattle.model.specs.Turns.{Turns}
 use Rattle.model.specs.Steps.{tally}
 use Rattle.model.specs.Pick.{steps}
 use Rattle.model.specs.Choice.{chosen, choice}
+use Rattle.model.specs.Ceiling.{ceiling}
 use Rattle.sheet.specs.Read.{countsIn, sheetCauses}
 use Rattle.sheet.specs.Accepted.{LentCause, FirstAmong}
 use Rattle.problem.specs.Problem.{sheetTurns}
+use Rattle.listing.specs.declared.lines.Sums.{Sums}
 use Rattle.listing.specs.Text.{listingOf}
 
--- the listing of some turns: the planner's choice, what it is worth, and the tally of the planner's steps
+-- what the planner's choice of some turns is worth, and the tally and the ceiling of the planner's steps
+unfoldable pub sumsFor : Turns → Sums
+sumsFor T = record { worth = chosen (T .count) (choice T) (T .worth); tally = tally (steps T); ceiling = ceiling T (steps T) }
+
+-- the listing of some turns: the planner's choice, and these sums
 unfoldable pub listingFor : ℕ → Turns → List ℕ
-listingFor groomers T = listingOf groomers T (choice T) (chosen (T .count) (choice T) (T .worth)) (tally (steps T))
+listingFor groomers T = listingOf groomers T (choice T) (sumsFor T)
 
 -- the listing of a sheet
 unfoldable pub sheetListing : List ℕ → List ℕ

@@ -4,6 +4,7 @@ use mathlib.Core.Bool.{Bool}
 use mathlib.Core.List.{List, [], _∷_, _++_}
 use Rattle.text.specs.Decimal.{decimal}
 use Rattle.model.specs.Turns.{Turns}
+use Rattle.listing.specs.declared.lines.Sums.{Sums}
 use Rattle.listing.specs.Round.{roundOf}
 
 -- "groomer ", with its space
@@ -25,6 +26,10 @@ sumWord = 119 ∷ 111 ∷ 114 ∷ 116 ∷ 104 ∷ 32 ∷ []
 -- " tally "
 abbrev pub tallyWord : List ℕ
 tallyWord = 32 ∷ 116 ∷ 97 ∷ 108 ∷ 108 ∷ 121 ∷ 32 ∷ []
+
+-- " ceiling "
+abbrev pub ceilingWord : List ℕ
+ceilingWord = 32 ∷ 99 ∷ 101 ∷ 105 ∷ 108 ∷ 105 ∷ 110 ∷ 103 ∷ 32 ∷ []
 
 -- what stands between start and end
 abbrev pub hyphen : List ℕ
@@ -64,13 +69,13 @@ unfoldable pub groomersFrom : Turns → List Bool → ℕ → ℕ → List ℕ
 groomersFrom T S zero h = []
 groomersFrom T S (suc d) h = groomerText T S h ++ groomersFrom T S d (h + 1)
 
--- the last line: what the board earns, and its tally
-unfoldable pub sumsLine : ℕ → ℕ → List ℕ
-sumsLine worth tally = twoLabelled sumWord worth tallyWord tally
+-- the last line: what the board earns, its tally, and its ceiling
+unfoldable pub sumsLine : Sums → List ℕ
+sumsLine sums = labelled sumWord (sums .worth) ++ twoLabelled tallyWord (sums .tally) ceilingWord (sums .ceiling)
 
--- the listing of some turns, a choice of them and two sums
-unfoldable pub listingOf : ℕ → Turns → List Bool → ℕ → ℕ → List ℕ
-listingOf groomers T S worth tally = groomersFrom T S groomers 1 ++ sumsLine worth tally
+-- the listing of some turns, a choice of them and three sums
+unfoldable pub listingOf : ℕ → Turns → List Bool → Sums → List ℕ
+listingOf groomers T S sums = groomersFrom T S groomers 1 ++ sumsLine sums
 
 -- ---- the one line in place of a listing where a sheet is refused
 

@@ -13,7 +13,7 @@ ghost use Rattle.planner.specs.Plan.{boardFor};
 ghost use Rattle.listing.specs.Text.{listingOf, refusedLine};
 ghost use Rattle.listing.specs.Ready.{Ready};
 ghost use Rattle.listing.specs.Limits.{listingBytes};
-ghost use Rattle.listing.specs.List.{listingFor, listOf};
+ghost use Rattle.listing.specs.List.{sumsFor, listingFor, listOf};
 ghost use Rattle.listing.specs.Answer.{listed, listRefused, textAnswer};
 use lines::Sums;
 use lines::put_refused;
@@ -22,7 +22,7 @@ use problem::PLACES;
 use problem::Size;
 
 // Places for every listing.
-const LISTING_BYTES: usize = 3806;
+const LISTING_BYTES: usize = 3823;
 
 // What the listing returns: a refusal, 0 if none, and the bytes written, 0 on a refusal.
 #[repr(C)]
@@ -51,9 +51,9 @@ fn list_map(
     out: &mut [u8],
 ) -> ListAnswer
     requires { ⌜ Ready p (now cols) (now map)
-        × (length (listingOf groomers (turnsBy p (now cols)) (choiceIn (p .count) (now map)) (sums .worth) (sums .tally)) ≤ listingBytes) ⌝ }
+        × (length (listingOf groomers (turnsBy p (now cols)) (choiceIn (p .count) (now map)) sums) ≤ listingBytes) ⌝ }
     ensures { λ r. ⌜ listed r (now (out .exit)) ≡ textAnswer
-        (listingOf groomers (turnsBy p (now (cols .entry))) (choiceIn (p .count) (now (map .entry))) (sums .worth) (sums .tally)) (now (out .entry)) ⌝ }
+        (listingOf groomers (turnsBy p (now (cols .entry))) (choiceIn (p .count) (now (map .entry))) sums) (now (out .entry)) ⌝ }
 {
     let mut text = [0u8; LISTING_BYTES];
     let bytes = put_listing(&mut text, p, cols, map, groomers, sums);
@@ -67,15 +67,26 @@ fn list_map(
     }
 }
 
+// The sums of the planner's board.
+fn sums_of(p: Size, cols: &[u16; PLACES], b: &[u8]) -> Sums
+    requires { ⌜ Held p (now cols) × (now b ≡ boardFor (turnsBy p (now cols))) ⌝ }
+    ensures { λ r. ⌜ r ≡ sumsFor (turnsBy p (now (cols .entry))) ⌝ }
+{
+    let steps = board::steps(b);
+    let m = board::step_count(b);
+    Sums {
+        worth: board::worth(b),
+        tally: board::tally(b),
+        ceiling: ratio::ceiling_of(p, cols, steps, m as usize),
+    }
+}
+
 // The listing of the planner's board.
 fn list_board(p: Size, cols: &[u16; PLACES], groomers: u16, b: &[u8], out: &mut [u8]) -> ListAnswer
     requires { ⌜ Held p (now cols) × (length (listingFor groomers (turnsBy p (now cols))) ≤ listingBytes) × (now b ≡ boardFor (turnsBy p (now cols))) ⌝ }
     ensures { λ r. ⌜ listed r (now (out .exit)) ≡ textAnswer (listingFor groomers (turnsBy p (now (cols .entry)))) (now (out .entry)) ⌝ }
 {
-    let sums = Sums {
-        worth: board::worth(b),
-        tally: board::tally(b),
-    };
+    let sums = sums_of(p, cols, b);
     list_map(p, cols, groomers, board::map(b), sums, &mut *out)
 }
 

@@ -15,6 +15,7 @@ use problem::row_at;
 pub struct Sums {
     pub worth: u32,
     pub tally: u32,
+    pub ceiling: u32,
 }
 
 const GROOMER: [u8; 8] = *b"groomer ";
@@ -28,6 +29,8 @@ const WORTH: [u8; 7] = *b" worth ";
 const SUM: [u8; 6] = *b"worth ";
 
 const TALLY: [u8; 7] = *b" tally ";
+
+const CEILING: [u8; 9] = *b" ceiling ";
 
 const REFUSED: [u8; 8] = *b"refused ";
 
@@ -87,13 +90,14 @@ pub fn put_line(out: &mut [u8], at: usize, p: Size, cols: &[u16; PLACES], u: usi
 
 // The last line.
 pub fn put_sums(out: &mut [u8], at: usize, sums: Sums) -> usize
-    requires { ⌜ at + length (sumsLine (sums .worth) (sums .tally)) ≤ lastPlace ⌝ }
-    ensures { λ r. ⌜ (r ≡ at + length (sumsLine (sums .worth) (sums .tally)))
-        × (now (out .exit) ≡ puts (now (out .entry)) at (sumsLine (sums .worth) (sums .tally))) ⌝ }
+    requires { ⌜ at + length (sumsLine sums) ≤ lastPlace ⌝ }
+    ensures { λ r. ⌜ (r ≡ at + length (sumsLine sums)) × (now (out .exit) ≡ puts (now (out .entry)) at (sumsLine sums)) ⌝ }
 {
     let first = SUM;
     let second = TALLY;
-    put_two(&mut *out, at, &first, sums.worth, &second, sums.tally)
+    let third = CEILING;
+    let next = put_labelled(&mut *out, at, &first, sums.worth);
+    put_two(&mut *out, next, &second, sums.tally, &third, sums.ceiling)
 }
 
 // The line of a refusal.

@@ -66,10 +66,10 @@ pub fn put_listing(
     sums: Sums,
 ) -> usize
     requires { ⌜ Ready p (now cols) (now map)
-        × (length (listingOf groomers (turnsBy p (now cols)) (choiceIn (p .count) (now map)) (sums .worth) (sums .tally)) ≤ lastPlace) ⌝ }
-    ensures { λ r. ⌜ r ≡ length (listingOf groomers (turnsBy p (now (cols .entry))) (choiceIn (p .count) (now (map .entry))) (sums .worth) (sums .tally)) ⌝ }
+        × (length (listingOf groomers (turnsBy p (now cols)) (choiceIn (p .count) (now map)) sums) ≤ lastPlace) ⌝ }
+    ensures { λ r. ⌜ r ≡ length (listingOf groomers (turnsBy p (now (cols .entry))) (choiceIn (p .count) (now (map .entry))) sums) ⌝ }
     ensures { λ _. ⌜ now (out .exit) ≡ puts (now (out .entry)) 0
-        (listingOf groomers (turnsBy p (now (cols .entry))) (choiceIn (p .count) (now (map .entry))) (sums .worth) (sums .tally)) ⌝ }
+        (listingOf groomers (turnsBy p (now (cols .entry))) (choiceIn (p .count) (now (map .entry))) sums) ⌝ }
 {
     let last = put_groomers(&mut *out, p, cols, map, groomers);
     put_sums(&mut *out, last, sums)

@@ -25,10 +25,10 @@ use Rattle.model.proofs.Minutes
 
 module _ (T : Turns) (s : List ℤ) (x : Step) where
   -- any two turns of this group that are touched conflict
-  abbrev Group : (ℕ → Bool) → Type 0
+  abbrev pub Group : (ℕ → Bool) → Type 0
   Group G = Clique (λ t. t < T .count) (conflict T) (λ t. touches T s (x .turn) t && G t)
 
-  slope-group : Group (bySlope T (x .turn))
+  pub slope-group : Group (bySlope T (x .turn))
   unfolding Clique
   slope-group y z hy hz e f = Conflicts.slope-conflict T (x .turn) y z (search and-2) (search and-2)
 
@@ -42,11 +42,17 @@ module _ (T : Turns) (s : List ℤ) (x : Step) where
       after t l e = late t l (Residuals.touched-open T s x (x .turn) t (search and-1)) (search and-2)
 
   module _ (q : Right T s x) where
-    groomer-group : Group (byGroomer T (x .turn))
+    pub groomer-group : Group (byGroomer T (x .turn))
     groomer-group = machine-group (byGroomer T (x .turn)) (λ t l o g. q .early t l o (Conflicts.groomer-is T (x .turn) t g .0)) (Conflicts.groomer-conflict T (x .turn))
 
-    driver-group : Group (byDriver T (x .turn))
+    pub driver-group : Group (byDriver T (x .turn))
     driver-group = machine-group (byDriver T (x .turn)) (λ t l o g. q .early-driver t l o (Conflicts.driver-is T (x .turn) t g .0)) (Conflicts.driver-conflict T (x .turn))
+
+-- a cost of k times the amount comes to k times the tally
+pub total-times : (T : Turns) (k : ℕ) (s : List ℤ) (xs : List Step) → total (afterStep T) (λ s x. k * x .amount) s xs ≡ k * tally xs
+unfolding tally
+total-times T k s [] = omega arith
+total-times T k s (x ∷ xs) = omega (arith, total-times T k (afterStep T s x) xs)
 
 -- ---- against a set in which no two conflict
 
@@ -68,13 +74,8 @@ module _ (T : Turns) (R : List ℕ) (range : All (λ t. t < T .count) R) (apart 
 
   -- with a cost of k times the amount
   module _ (k : ℕ) (h : (s : List ℤ) (x : Step) → Right T s x → sum (taken T s x) R ≤ k * x .amount) where
-    totals : (s : List ℤ) (xs : List Step) → total (afterStep T) (λ s x. k * x .amount) s xs ≡ k * tally xs
-    unfolding tally
-    totals s [] = omega arith
-    totals s (x ∷ xs) = omega (arith, totals (afterStep T s x) xs)
-
     pub bound-times : {xs : List Step} → RightSteps T (initial T) xs → Closed T (afterSteps T (initial T) xs) → sum (T .worth) R ≤ k * tally xs
-    bound-times {xs} r p = omega (arith, totals (initial T) xs, bound-cost (λ s x. k * x .amount) h r p)
+    bound-times {xs} r p = omega (arith, total-times T k (initial T) xs, bound-cost (λ s x. k * x .amount) h r p)
 
   -- k groups, J in each, that hold what a step touches, any two of a group in conflict: at most k times the amount
   pub by-groups : (s : List ℤ) (x : Step) (Gs : List (ℕ → Bool)) → ((t : ℕ) → t < T .count → touches T s (x .turn) t ≡ true → held (joinedAll (x .turn) Gs) t ≡ true) →
@@ -150,26 +151,26 @@ module _ (T : Turns) (lengths : PositiveLengths T) {R : List ℕ} (feasible : Fe
   apart-all none Distinct.empty none = empty
   apart-all (more l ls) (Distinct.other d ds) (more h hs) = other (apart-head l ls d (all-tail h)) (apart-all ls ds (all-map (λ u k. all-tail k) hs))
 
-  apart : Apart (conflict T) R
-  apart = apart-all (feasible .numbers) (feasible .once) (feasible .apart)
+  pub apart-set : Apart (conflict T) R
+  apart-set = apart-all (feasible .numbers) (feasible .once) (feasible .apart)
 
   module _ {xs : List Step} (right : RightSteps T (initial T) xs) (closed : Closed T (afterSteps T (initial T) xs)) where
     -- any factor k, if a right step takes at most k times its amount from the set
     bound-by : (k : ℕ) → ((s : List ℤ) (x : Step) → Right T s x → sum (taken T s x) R ≤ k * x .amount) → worthOf T R ≤ k * tally xs
-    bound-by k h = bound-times T R (feasible .numbers) apart k h right closed
+    bound-by k h = bound-times T R (feasible .numbers) apart-set k h right closed
 
     -- the factor 3 of 5.2.4, two machines: every feasible set is worth at most three times the tally
     pub bound-thrice : worthOf T R ≤ 3 * tally xs
-    bound-thrice = bound-by 3 (three-groups T R (feasible .numbers) apart)
+    bound-thrice = bound-by 3 (three-groups T R (feasible .numbers) apart-set)
 
     -- twice, where no slope has two turns
     pub bound-twice-one-turn : OneTurnASlope T → worthOf T R ≤ 2 * tally xs
-    bound-twice-one-turn single = bound-by 2 (λ s x q. machine-groups T R (feasible .numbers) apart s x q single)
+    bound-twice-one-turn single = bound-by 2 (λ s x q. machine-groups T R (feasible .numbers) apart-set s x q single)
 
     -- without drivers, the factor 2 of 5.2.1 and 5.2.4, one machine: at most twice the tally
     pub bound-twice : NoDrivers T → worthOf T R ≤ 2 * tally xs
-    bound-twice free = bound-by 2 (λ s x q. two-groups T R (feasible .numbers) apart s x q free)
+    bound-twice free = bound-by 2 (λ s x q. two-groups T R (feasible .numbers) apart-set s x q free)
 
     -- without drivers, the factor 1 of 5.2.2: at most the tally, where no slope has two turns
     pub bound-once : NoDrivers T → OneTurnASlope T → worthOf T R ≤ tally xs
-    bound-once free single = omega (arith, bound-by 1 (λ s x q. single-group T R (feasible .numbers) apart s x q free single))
+    bound-once free single = omega (arith, bound-by 1 (λ s x q. single-group T R (feasible .numbers) apart-set s x q free single))

@@ -4,12 +4,14 @@ pub mod Conflicts
 pub mod Residuals
 pub mod Minutes
 pub mod Bound
+pub mod Ceilings
 pub mod Choices
 pub mod Earnings
 pub mod Filled
 pub mod Picks
 pub mod Planned
 pub mod Readings
+pub mod Members
 pub mod Promised
 pub mod Limits
 pub mod Selection

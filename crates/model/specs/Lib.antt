@@ -6,3 +6,4 @@ pub mod Choice
 pub mod Feasible
 pub mod Promises
 pub mod IntervalSelection
+pub mod Ceiling

@@ -5,3 +5,5 @@ pub mod Remaining
 pub mod Removing
 pub mod Picks
 pub mod Planning
+pub mod Replaying
+pub mod Holdings

@@ -1,3 +1,4 @@
 pub mod Bounds
 pub mod Below
 pub mod Remaining
+pub mod Counting

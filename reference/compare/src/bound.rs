@@ -2,6 +2,7 @@
 //! choice of turns without a conflict is worth more than twice its tally, and
 //! none is worth more than the board where no slope has two turns. With
 //! drivers it is three times the tally, or twice where no slope has two turns.
+//! And none is worth more than the ceiling, which keeps to these bounds itself.
 //! Tried out on every choice; the judge's check and planner have no part in it.
 
 use slopeboard_reference::boards;
@@ -10,7 +11,7 @@ use slopeboard_reference::naive::turns::turns_of;
 use slopeboard_reference::naive::{any_driver, best_worth, one_turn_a_slope, times_the_tally};
 use slopeboard_reference::shapes;
 
-use crate::foreign;
+use crate::foreign::{self, CheckAnswer};
 use crate::report::{show, Report};
 use crate::sheets;
 
@@ -124,10 +125,23 @@ impl Run {
         let over = best.drivers && best.one_a_slope && most > worth;
         self.report
             .property("best worth above the board's, one turn a slope", over);
-        if !same || !holds || !exact {
+        if !same || !holds || !exact || !self.ceiling(&answer, best) {
             let text = || format!("{answer:?}, best {most}: {}", show(sheet, 0));
             self.report.differs(text);
         }
         true
+    }
+
+    /// Whether the ceiling of a board that passes is one, and is where it may
+    /// be.
+    fn ceiling(&mut self, answer: &CheckAnswer, best: Best) -> bool {
+        let (tally, ceiling) = (answer.tally, answer.ceiling);
+        let reached = best.worth == ceiling && ceiling > tally;
+        self.report.property("best worth at the ceiling", reached);
+        let twice = best.one_a_slope || !best.drivers;
+        let most = if twice { 2 * tally } else { 3 * tally };
+        let exact = best.one_a_slope && !best.drivers;
+        let at_tally = !exact || ceiling == tally;
+        best.worth <= ceiling && tally <= ceiling && ceiling <= most && at_tally
     }
 }

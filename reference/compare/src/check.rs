@@ -2,7 +2,8 @@
 
 use slopeboard_reference::boards::{self, Draft, Order};
 use slopeboard_reference::gen::{self, Rng, Shift};
-use slopeboard_reference::{naive, shapes};
+use slopeboard_reference::naive::{self, Sums};
+use slopeboard_reference::shapes;
 
 use crate::foreign::{self, CheckAnswer};
 use crate::placed::Placed;
@@ -239,6 +240,7 @@ impl Run {
         let ours = answer(naive::check(sheet, board));
         let theirs = foreign::check(sheet, board);
         self.report.count(ours.refusal);
+        note_ceiling(&mut self.report, &ours);
         if ours != theirs {
             let text = || {
                 let (sheet, board) = (show(sheet, 0), show(board, 0));
@@ -250,12 +252,26 @@ impl Run {
     }
 }
 
+/// Notes where the ceiling of a board that passes is.
+fn note_ceiling(report: &mut Report, sums: &CheckAnswer) {
+    let (tally, ceiling) = (sums.tally, sums.ceiling);
+    let some = tally > 0;
+    report.property("a ceiling of the tally itself", some && ceiling == tally);
+    let between = ceiling > tally && ceiling < 2 * tally;
+    report.property("a ceiling between the tally and twice it", between);
+    report.property("a ceiling above twice the tally", ceiling > 2 * tally);
+}
+
 /// The judge's result in the form that the library gives.
-fn answer(result: Result<(u32, u32), u8>) -> CheckAnswer {
-    let (refusal, (tally, worth)) = result.map_or_else(|number| (number, (0, 0)), |sums| (0, sums));
+fn answer(result: Result<Sums, u8>) -> CheckAnswer {
+    let (refusal, [tally, worth, ceiling]) = match result {
+        Ok(sums) => (0, [sums.tally, sums.worth, sums.ceiling]),
+        Err(number) => (number, [0; 3]),
+    };
     CheckAnswer {
         refusal,
         tally,
         worth,
+        ceiling,
     }
 }

@@ -1,8 +1,8 @@
 //! The drivers' listing.
 
 use slopeboard::MOST_TEXT_BYTES;
-use slopeboard_reference::gen::{self, Rng, Shift};
-use slopeboard_reference::naive;
+use slopeboard_reference::gen::{self, Rng, Row, Shift};
+use slopeboard_reference::{naive, shapes};
 
 use crate::bytes::{answer, Lent};
 use crate::foreign;
@@ -11,7 +11,7 @@ use crate::report::{show, Report};
 use crate::sheets;
 
 /// The most bytes of a listing, as the C header counts them.
-const LONGEST: usize = 3687;
+const LONGEST: usize = 3704;
 
 /// How many of the sheets with the longest listing are compared.
 const LONGEST_SHEETS: u32 = 300;
@@ -35,26 +35,30 @@ pub fn run() -> bool {
 
 /// A turn on each of 120 slopes, for each groomer one behind the other with
 /// ten minutes or more between them, with as many digits as a start, an end
-/// and a worth can have.
+/// and a worth can have. Each of them also has a poor turn on its slope and,
+/// but for the last ones, a poor turn of its groomer, so that its step counts
+/// twice and the ceiling has the most digits.
 fn longest(rng: &mut Rng) -> Shift {
     let slopes = rng.shuffled(120);
-    let turns = slopes.iter().enumerate().map(|(turn, slope)| {
-        let start = 100 * (1 + turn as u32 / 16) + rng.below(50);
-        [
-            *slope as u16 + 1,
-            turn as u16 % 16 + 1,
-            start as u16,
-            rng.between(1, 41) as u16,
-            rng.between(10_000, 60_000) as u16,
-            0,
-        ]
-    });
-    let turns = turns.collect();
-    Shift {
+    let mut turns: Vec<Row> = Vec::new();
+    for (turn, slope) in slopes.iter().enumerate() {
+        let (slope, groomer) = (*slope as u16 + 1, turn as u16 % 16 + 1);
+        let start = (100 * (1 + turn as u32 / 16) + rng.below(50)) as u16;
+        let length = rng.between(1, 41) as u16;
+        let worth = rng.between(50_000, 60_000) as u16;
+        turns.push([slope, groomer, start, length, worth, 0]);
+        turns.push([slope, 17 - groomer, 900, rng.between(1, 60) as u16, 1, 0]);
+        // On the slope of a turn that ends later.
+        if let Some(later) = slopes.get(turn + 16) {
+            turns.push([*later as u16 + 1, groomer, start, length + 1, 1, 0]);
+        }
+    }
+    let shift = Shift {
         groomers: 16,
         slopes: 120,
         turns,
-    }
+    };
+    shapes::shuffled(rng, &shift)
 }
 
 struct Run {

@@ -37,9 +37,10 @@
 //! has the entry's name, the refusal, the values returned (0 on a refusal) and
 //! a checksum of all that was lent, as it is after the call: from 1, for each
 //! place, times 31 plus what it holds, modulo 65,521. For `open` the values
-//! are the length of the steps handed back, and the checksum is theirs;
-//! `check` and `count` have none. `chosen` can refuse nothing: its line has
-//! the name, and 1 or 0 for chosen or not.
+//! are the length of the steps handed back, and the checksum is theirs.
+//! `check`, whose values are tally, worth and ceiling, and `count` have no
+//! checksum. `chosen` can refuse nothing: its line has the name, and 1 or 0 for
+//! chosen or not.
 
 use std::path::Path;
 use std::process::ExitCode;

@@ -22,7 +22,7 @@ pub fn listing(sheet: &[u8], out: &mut [u8]) -> Result<usize, u8> {
 
 fn text(groomers: u16, turns: &[Turn]) -> String {
     let mut bytes = vec![0; board_len(turns.len(), turns.len())];
-    let len = plan_turns(turns, &mut bytes);
+    let (len, ceiling) = plan_turns::<true>(turns, &mut bytes);
     let board = view(&bytes[..len]).expect("the planner writes well-formed boards");
     let mut text = String::new();
     for groomer in 1..=groomers {
@@ -32,7 +32,10 @@ fn text(groomers: u16, turns: &[Turn]) -> String {
         }
     }
     let (worth, tally) = (board.worth, board.tally);
-    put_line(&mut text, format_args!("worth {worth} tally {tally}"));
+    put_line(
+        &mut text,
+        format_args!("worth {worth} tally {tally} ceiling {ceiling}"),
+    );
     text
 }
 

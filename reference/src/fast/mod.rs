@@ -13,7 +13,7 @@ mod sheet;
 mod turns;
 mod write;
 
-pub use check::check;
+pub use check::{check, Sums};
 pub use listing::listing;
 pub use partition::assign;
 pub use plan::plan;

@@ -47,6 +47,16 @@ impl Turn {
         u32::from(self.start) + u32::from(self.length)
     }
 
+    /// The groups of this turn's step that the other turn is in, a bit each:
+    /// of this slope, too close on this groomer, too close with this driver.
+    pub fn groups_with(&self, other: &Turn) -> u8 {
+        let close = self.is_close(other);
+        let driver = (self.driver == other.driver) & (self.driver != 0);
+        u8::from(self.slope == other.slope)
+            | u8::from((self.groomer == other.groomer) & close) << 1
+            | u8::from(driver & close) << 2
+    }
+
     /// Whether the turns need one groomer or one driver.
     pub fn share_groomer_or_driver(&self, other: &Turn) -> bool {
         (self.groomer == other.groomer) | ((self.driver == other.driver) & (self.driver != 0))
@@ -55,8 +65,12 @@ impl Turn {
     /// Whether the two turns have one groomer or one driver, and it could not
     /// be driven from one to the other in time.
     fn too_close(&self, other: &Turn) -> bool {
-        self.share_groomer_or_driver(other)
-            & (u32::from(self.start) < other.end() + DRIVE_OVER)
+        self.share_groomer_or_driver(other) & self.is_close(other)
+    }
+
+    /// Whether neither turn leaves the time to drive over to the other.
+    fn is_close(&self, other: &Turn) -> bool {
+        (u32::from(self.start) < other.end() + DRIVE_OVER)
             & (u32::from(other.start) < self.end() + DRIVE_OVER)
     }
 

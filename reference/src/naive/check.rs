@@ -1,13 +1,22 @@
 //! The check of a board against a sheet.
 
 use super::board::opened;
+use super::ceiling::ceiling;
 use super::planning::{fits, is_open, take, tally, worth, worths};
 use super::sheet::accept;
 use super::turns::{conflict, same_driver, Turn};
 
+/// What a board that passes has: its tally and worth, and its steps' ceiling.
+#[derive(Clone, Copy, Debug, PartialEq, Eq)]
+pub struct Sums {
+    pub tally: u32,
+    pub worth: u32,
+    pub ceiling: u32,
+}
+
 /// Checks a board against a sheet: the sheet's refusals, then 12 to 17, in
-/// their order. Gives the board's tally and worth.
-pub fn check(sheet: &[u8], board: &[u8]) -> Result<(u32, u32), u8> {
+/// their order.
+pub fn check(sheet: &[u8], board: &[u8]) -> Result<Sums, u8> {
     let turns = accept(sheet)?.turns;
     let board = opened(board)?;
     if board.chosen.len() != turns.len() {
@@ -20,7 +29,11 @@ pub fn check(sheet: &[u8], board: &[u8]) -> Result<(u32, u32), u8> {
     if !tally_is_right || !worth_is_right || board.worth < board.tally {
         return Err(17);
     }
-    Ok((board.tally as u32, board.worth as u32))
+    Ok(Sums {
+        tally: board.tally as u32,
+        worth: board.worth as u32,
+        ceiling: ceiling(&turns, &board.steps) as u32,
+    })
 }
 
 /// Refusals 13, two chosen turns that conflict, and 14, an unchosen turn that

@@ -1,5 +1,6 @@
 //! The drivers' listing.
 
+use super::ceiling::ceiling;
 use super::lend;
 use super::planning::planned;
 use super::sheet::{accept, Sheet};
@@ -35,6 +36,8 @@ fn text(sheet: &Sheet) -> String {
             text += &format!("{start}-{end} slope {slope} worth {worth}\n");
         }
     }
-    text += &format!("worth {} tally {}\n", board.worth, board.tally);
+    let (worth, tally) = (board.worth, board.tally);
+    let ceiling = ceiling(&sheet.turns, &board.steps);
+    text += &format!("worth {worth} tally {tally} ceiling {ceiling}\n");
     text
 }

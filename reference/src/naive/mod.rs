@@ -6,6 +6,7 @@
 //! is the number of a refusal.
 
 pub mod board;
+pub mod ceiling;
 mod check;
 mod listing;
 pub mod partition;
@@ -15,7 +16,7 @@ pub mod sheet;
 pub mod turns;
 
 pub use board::{count, is_chosen, open, steps};
-pub use check::check;
+pub use check::{check, Sums};
 pub use listing::{listing, refused_line};
 pub use partition::assign;
 pub use planning::plan;

@@ -4,7 +4,7 @@
 // Each test file uses some of these.
 #![allow(dead_code)]
 
-use slopeboard_reference::naive::Counts;
+use slopeboard_reference::naive::{Counts, Sums};
 use slopeboard_reference::{fast, naive};
 
 pub fn read(sheet: &[u8], table: &mut [u16]) -> Result<Counts, u8> {
@@ -63,10 +63,20 @@ pub fn listing(sheet: &[u8], text: &mut [u8]) -> Result<usize, u8> {
     written(sheet, text, [naive::listing, fast::listing])
 }
 
-pub fn check(sheet: &[u8], board: &[u8]) -> Result<(u32, u32), u8> {
+pub fn sums(sheet: &[u8], board: &[u8]) -> Result<Sums, u8> {
     let answer = naive::check(sheet, board);
-    assert_eq!(fast::check(sheet, board), answer, "{sheet:?} {board:?}");
+    let fast = fast::check(sheet, board).map(|sums| Sums {
+        tally: sums.tally,
+        worth: sums.worth,
+        ceiling: sums.ceiling,
+    });
+    assert_eq!(fast, answer, "{sheet:?} {board:?}");
     answer
+}
+
+/// The tally and the worth alone.
+pub fn check(sheet: &[u8], board: &[u8]) -> Result<(u32, u32), u8> {
+    sums(sheet, board).map(|sums| (sums.tally, sums.worth))
 }
 
 pub fn assign(sheet: &[u8], places: &mut [u16]) -> Result<u16, u8> {

@@ -3,11 +3,8 @@ use borrow.Author.Needs.{needs}
 use Rattle.listing.proofs.list_board.Statement.{statement}
 use Rattle.listing.proofs.list_board.Tie as tie
 
-worth-requires : tie.Need-worth-requires
-worth-requires c κs = search (needs, board-cases)
-
-tally-requires : tie.Need-tally-requires
-tally-requires c κs = search (needs, board-cases)
+sums-of-requires : tie.Need-sums-of-requires
+sums-of-requires c κs = search needs
 
 map-requires : tie.Need-map-requires
 map-requires c κs = search (needs, board-cases)
@@ -24,4 +21,4 @@ returns c = search (needs, board-cases)
 pub list-board-spec : {M : Type 1} → statement M
 list-board-spec =
     tie.close
-    (tie.spec worth-requires tally-requires map-requires list-map-requires same-length returns)
+    (tie.spec sums-of-requires map-requires list-map-requires same-length returns)

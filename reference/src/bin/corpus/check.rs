@@ -24,9 +24,11 @@ pub fn add(corpus: &mut Corpus) {
 }
 
 fn case(corpus: &mut Corpus, sheet: &[u8], board: &[u8]) {
-    let result = check(sheet, board);
-    let (refusal, (tally, worth)) = result.map_or_else(|number| (number, (0, 0)), |sums| (0, sums));
-    let line = format!("check {refusal} {tally} {worth}");
+    let (refusal, [tally, worth, ceiling]) = match check(sheet, board) {
+        Ok(sums) => (0, [sums.tally, sums.worth, sums.ceiling]),
+        Err(number) => (number, [0; 3]),
+    };
+    let line = format!("check {refusal} {tally} {worth} {ceiling}");
     let input = [sheet, board].concat();
     corpus.push_with(ENTRY, sheet.len(), board.len(), &input, &line);
 }

@@ -7,6 +7,9 @@ use Rattle.audit.proofs.judge.board_fault.Tie as tie
 open-requires : tie.Need-open-requires
 open-requires c κs = search needs
 
+fault-at-requires : tie.Need-fault-at-requires
+fault-at-requires c κs = search needs
+
 returns : tie.Need-returns
 returns c = search (needs, opened-cases, board-cases)
 
@@ -15,6 +18,9 @@ turns-requires c κs = search (needs, opened-cases, board-cases)
 
 cast-if2 : tie.Need-cast-if2
 cast-if2 c = search needs
+
+fault-at-requires-2 : tie.Need-fault-at-requires-2
+fault-at-requires-2 c κs = search needs
 
 returns-2 : tie.Need-returns-2
 returns-2 c = search (needs, opened-cases, board-cases)
@@ -36,9 +42,11 @@ board-fault-spec =
     tie.close
     (tie.spec
     open-requires
+    fault-at-requires
     returns
     turns-requires
     cast-if2
+    fault-at-requires-2
     returns-2
     map-requires
     steps-requires

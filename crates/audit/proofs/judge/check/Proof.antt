@@ -1,4 +1,4 @@
-use Rattle.audit.proofs.Checks.{check-cases}
+use Rattle.audit.proofs.Checks.{passed-header, check-cases}
 use borrow.Author.Needs.{needs}
 use Rattle.audit.proofs.judge.check.Statement.{statement}
 use Rattle.audit.proofs.judge.check.Tie as tie
@@ -25,10 +25,10 @@ returns-2 : tie.Need-returns-2
 returns-2 c = search (needs, check-cases)
 
 tally-requires : tie.Need-tally-requires
-tally-requires c κs = search (needs, check-cases)
+tally-requires c κs = passed-header _ _ _ (c .before .before .board-fault .ensures) (c .if2 .left)
 
 worth-requires : tie.Need-worth-requires
-worth-requires c κs = search (needs, check-cases)
+worth-requires c κs = passed-header _ _ _ (c .before .before .before .board-fault .ensures) (c .before .if2 .left)
 
 returns-3 : tie.Need-returns-3
 returns-3 c = search (needs, check-cases)

@@ -18,8 +18,14 @@ returns c = search (needs, parts-cases)
 sums-fault-requires : tie.Need-sums-fault-requires
 sums-fault-requires c κs = search needs
 
+fault-at-requires : tie.Need-fault-at-requires
+fault-at-requires c κs = search needs
+
 returns-2 : tie.Need-returns-2
 returns-2 c = search (needs, parts-cases)
+
+returns-3 : tie.Need-returns-3
+returns-3 c = search (needs, parts-cases)
 
 pub parts-fault-spec : {M : Type 1} → statement M
 parts-fault-spec =
@@ -30,4 +36,6 @@ parts-fault-spec =
     rules-fault-requires
     returns
     sums-fault-requires
-    returns-2)
+    fault-at-requires
+    returns-2
+    returns-3)

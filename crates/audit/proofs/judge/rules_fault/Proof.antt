@@ -9,6 +9,9 @@ use Rattle.audit.proofs.judge.rules_fault.Tie as tie
 choice-fault-requires : tie.Need-choice-fault-requires
 choice-fault-requires c κs = search needs
 
+fault-at-requires : tie.Need-fault-at-requires
+fault-at-requires c κs = search needs
+
 returns : tie.Need-returns
 returns c = search (needs, rules-cases)
 
@@ -19,7 +22,7 @@ slice-aggregate-steps-fault : tie.Need-slice-aggregate-steps-fault
 slice-aggregate-steps-fault c = sym (length-take-le _ _ (omega arith))
 
 steps-fault-requires : tie.Need-steps-fault-requires
-steps-fault-requires c κs = (length-take-le _ _ (omega arith), search needs, search needs)
+steps-fault-requires c κs = (length-take-le _ _ (omega arith), search needs, search needs, search needs)
 
 returns-2 : tie.Need-returns-2
 returns-2 c = search (needs, rules-cases)
@@ -29,6 +32,7 @@ rules-fault-spec =
     tie.close
     (tie.spec
     choice-fault-requires
+    fault-at-requires
     returns
     array-borrow-prefix-space
     slice-aggregate-steps-fault

@@ -1,4 +1,4 @@
-use Rattle.audit.proofs.Replays.{one-cases}
+use Rattle.audit.proofs.Replays.{one-is-right, one-cases}
 use borrow.Author.Needs.{needs}
 use Rattle.audit.proofs.replay.replay_one.Statement.{statement}
 use Rattle.audit.proofs.replay.replay_one.Tie as tie
@@ -12,23 +12,20 @@ step-amount-requires c κs = search needs
 is-right-requires : tie.Need-is-right-requires
 is-right-requires c κs = search needs
 
-cast-apply-step : tie.Need-cast-apply-step
-cast-apply-step c = search needs
-
-apply-step-requires : tie.Need-apply-step-requires
-apply-step-requires c κs = (search one-cases, search needs, search needs, search one-cases)
+replay-step-requires : tie.Need-replay-step-requires
+replay-step-requires c κs = (search needs, search needs, search needs, search one-is-right)
 
 same-length : tie.Need-same-length
 same-length c = search needs
 
 returns : tie.Need-returns
-returns c = search (needs, one-cases)
+returns c = (search one-cases, search needs, search needs, search needs, search needs)
 
 same-length-2 : tie.Need-same-length-2
 same-length-2 c = search needs
 
 returns-2 : tie.Need-returns-2
-returns-2 c = search (needs, one-cases)
+returns-2 c = (search one-cases, search needs, search needs, search needs, search needs)
 
 pub replay-one-spec : {M : Type 1} → statement M
 replay-one-spec =
@@ -37,8 +34,7 @@ replay-one-spec =
     step-turn-requires
     step-amount-requires
     is-right-requires
-    cast-apply-step
-    apply-step-requires
+    replay-step-requires
     same-length
     returns
     same-length-2

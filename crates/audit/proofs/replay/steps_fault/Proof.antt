@@ -12,6 +12,12 @@ replay-requires c κs = search needs
 none-open-requires : tie.Need-none-open-requires
 none-open-requires c κs = search needs
 
+fault-at-requires : tie.Need-fault-at-requires
+fault-at-requires c κs = search needs
+
+fault-at-requires-2 : tie.Need-fault-at-requires-2
+fault-at-requires-2 c κs = search needs
+
 same-length : tie.Need-same-length
 same-length c = search needs
 
@@ -37,6 +43,8 @@ steps-fault-spec =
     set-initial-requires
     replay-requires
     none-open-requires
+    fault-at-requires
+    fault-at-requires-2
     same-length
     returns
     same-length-2

@@ -6,11 +6,8 @@ use Rattle.corpus.proofs.entries.check.Tie as tie
 check-requires : tie.Need-check-requires
 check-requires c κs = search needs
 
-cast-t4 : tie.Need-cast-t4
-cast-t4 c = search needs
-
 returns : tie.Need-returns
 returns c = search (needs, line-cases)
 
 pub check-spec : {M : Type 1} → statement M
-check-spec = tie.close (tie.spec check-requires cast-t4 returns)
+check-spec = tie.close (tie.spec check-requires returns)
