@@ -41,7 +41,7 @@ extern "C" {
 #endif
 
 /* The number of this interface. Each change that a caller can see raises it. */
-#define SLOPEBOARD_VERSION 9
+#define SLOPEBOARD_VERSION 10
 
 /* The refusals. */
 enum {
@@ -64,7 +64,8 @@ enum {
     SLOPEBOARD_WRONG_SUMS = 17,       /* tally or worth is not its sum, or the worth is below the tally */
     SLOPEBOARD_PARTIAL_TURN = 18,     /* a turn table's length is no multiple of six */
     SLOPEBOARD_BAD_DRIVER = 19,       /* a turn's driver is above 40 */
-    SLOPEBOARD_TOO_MANY_FOR_SHORT = 20 /* more than 96 turns, for slopeboard_read_short */
+    SLOPEBOARD_TOO_MANY_FOR_SHORT = 20, /* more than 96 turns, for slopeboard_read_short */
+    SLOPEBOARD_NOT_SIMPLE = 21        /* a slope has two turns, or a turn names a driver */
 };
 
 /* The limits, and what buffers can need at most. */
@@ -77,6 +78,9 @@ enum {
 #define SLOPEBOARD_MOST_NUMBERS (SLOPEBOARD_NUMBERS_PER_TURN * SLOPEBOARD_MOST_TURNS)
 /* A header of 7 bytes and records of at most 10. */
 #define SLOPEBOARD_MOST_SHEET_BYTES (7 + 10 * SLOPEBOARD_MOST_TURNS)
+/* A choice map of so many turns. Turn t is bit t % 8, bit 0 being the lowest, of byte t / 8; bits past the last
+ * turn are clear. */
+#define SLOPEBOARD_MAP_BYTES(turns) (((turns) + 7) / 8)
 /* What slopeboard_plan asks for, for a sheet of so many turns. */
 #define SLOPEBOARD_BOARD_BYTES(turns) (15 + ((turns) + 7) / 8 + 4 * (turns))
 #define SLOPEBOARD_MOST_BOARD_BYTES SLOPEBOARD_BOARD_BYTES(SLOPEBOARD_MOST_TURNS)
@@ -125,6 +129,11 @@ typedef struct {
     uint8_t refusal;
     uint16_t groomers; /* how many groomers do all the turns */
 } slopeboard_assign_answer;
+
+typedef struct {
+    uint8_t refusal;
+    uint32_t worth;
+} slopeboard_best_answer;
 
 /* Reads a sheet into a turn table: six numbers a turn, which are slope, groomer, start, length, worth and
  * driver, the last 0 where the turn names none. The answer has the counts of the sheet's header.
@@ -214,6 +223,15 @@ slopeboard_list_answer slopeboard_list(const uint8_t *sheet, size_t sheet_len, u
  * Refusals: those of slopeboard_read but 11, in their order; then 11 if places_len is below the sheet's
  * turns. */
 slopeboard_assign_answer slopeboard_assign(const uint8_t *sheet, size_t sheet_len, uint16_t *places, size_t places_len);
+
+/* Works out the best worth on a sheet on which no slope has two turns and no turn names a driver: no set of
+ * turns in which no two exclude each other is worth more, and the board that slopeboard_plan writes is worth
+ * just as much. Writes the choice map of a set that earns it. The turns of each groomer are gone through by
+ * end, those of one end by number, and where a turn makes no more of those up to it, it is left out.
+ *
+ * Refusals: those of slopeboard_read but 11, in their order; then 21 for any other sheet; then 11 if map_len
+ * is below SLOPEBOARD_MAP_BYTES of the sheet's turns. */
+slopeboard_best_answer slopeboard_best(const uint8_t *sheet, size_t sheet_len, uint8_t *map, size_t map_len);
 
 #ifdef __cplusplus
 }

@@ -138,6 +138,21 @@ pub fn one_turn_a_slope(shift: &Shift) -> Shift {
     shift
 }
 
+/// The shift with a slope of its own for each turn, in any order, and without
+/// drivers.
+pub fn simple(rng: &mut Rng, shift: &Shift) -> Shift {
+    let mut shift = one_turn_a_slope(shift);
+    let slopes = rng.shuffled(shift.turns.len());
+    for (turn, slope) in shift.turns.iter_mut().zip(slopes) {
+        turn[0] = slope as u16 + 1;
+        turn[5] = 0;
+    }
+    if rng.percent(50) {
+        shift.slopes = MAX_SLOPES as u8;
+    }
+    shift
+}
+
 /// A shift in which few turns come again and again, some of them with all
 /// values but one alike.
 pub fn few_kinds(rng: &mut Rng, turns: usize) -> Shift {

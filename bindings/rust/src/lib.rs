@@ -19,7 +19,7 @@ pub use refusal::Refusal;
 
 /// The number of this interface, as `SLOPEBOARD_VERSION` in the header: each
 /// change that a caller can see raises it.
-pub const VERSION: u32 = 9;
+pub const VERSION: u32 = 10;
 
 /// Numbers that a turn takes in a turn table: slope, groomer, start, length,
 /// worth, driver. Driver 0 is none.
@@ -35,6 +35,11 @@ pub const MOST_TEXT_BYTES: usize = 4096;
 /// Bytes that [`plan`] asks for, for a sheet of so many turns.
 pub const fn board_bytes(turns: usize) -> usize {
     15 + turns.div_ceil(8) + 4 * turns
+}
+
+/// Bytes of a choice map of so many turns.
+pub const fn map_bytes(turns: usize) -> usize {
+    turns.div_ceil(8)
 }
 
 /// The counts in the header of a sheet.
@@ -150,6 +155,18 @@ pub fn assign(sheet: &[u8], places: &mut [u16]) -> Result<u16, Refusal> {
     let answer = unsafe { raw::slopeboard_assign(sheet.as_ptr(), sheet.len(), places, places_len) };
     refusal::none(answer.refusal)?;
     Ok(answer.groomers)
+}
+
+/// Works out the best worth on a sheet on which no slope has two turns and no
+/// turn names a driver, and refuses every other. Writes the choice map of a set
+/// that earns it, and gives it: no set of the sheet's turns without a conflict
+/// is worth more, and it is the worth of the board that [`plan`] writes. Asks
+/// for [`map_bytes`] of the sheet's turns.
+pub fn best(sheet: &[u8], map: &mut [u8]) -> Result<u32, Refusal> {
+    let (map, map_len) = (map.as_mut_ptr(), map.len());
+    let answer = unsafe { raw::slopeboard_best(sheet.as_ptr(), sheet.len(), map, map_len) };
+    refusal::none(answer.refusal)?;
+    Ok(answer.worth)
 }
 
 fn counts(answer: raw::ReadAnswer) -> Result<Counts, Refusal> {

@@ -53,6 +53,14 @@ pub struct AssignAnswer {
     pub groomers: u16,
 }
 
+/// What working out the best worth gives; 0 on a refusal.
+#[repr(C)]
+#[derive(Clone, Copy, Debug, PartialEq, Eq)]
+pub struct BestAnswer {
+    pub refusal: u8,
+    pub worth: u32,
+}
+
 extern "C" {
     pub fn slopeboard_read(
         sheet: *const u8,
@@ -112,4 +120,11 @@ extern "C" {
         places: *mut u16,
         places_len: usize,
     ) -> AssignAnswer;
+
+    pub fn slopeboard_best(
+        sheet: *const u8,
+        sheet_len: usize,
+        map: *mut u8,
+        map_len: usize,
+    ) -> BestAnswer;
 }

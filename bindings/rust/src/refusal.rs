@@ -47,10 +47,12 @@ pub enum Refusal {
     BadDriver = 19,
     /// More than 96 turns, which are too many for the short reader.
     TooManyForShort = 20,
+    /// A slope has two turns, or a turn names a driver.
+    NotSimple = 21,
 }
 
 /// By number, from 1.
-const ALL: [Refusal; 20] = [
+const ALL: [Refusal; 21] = [
     Refusal::Truncated,
     Refusal::BadMagic,
     Refusal::BadCounts,
@@ -71,6 +73,7 @@ const ALL: [Refusal; 20] = [
     Refusal::PartialTurn,
     Refusal::BadDriver,
     Refusal::TooManyForShort,
+    Refusal::NotSimple,
 ];
 
 impl Refusal {
@@ -78,7 +81,7 @@ impl Refusal {
         self as u8
     }
 
-    /// The refusal with this number; none for 0 and for numbers above 20.
+    /// The refusal with this number; none for 0 and for numbers above 21.
     pub fn from_number(number: u8) -> Option<Refusal> {
         let place = usize::from(number).checked_sub(1)?;
         ALL.get(place).copied()
@@ -90,7 +93,7 @@ pub(crate) fn none(number: u8) -> Result<(), Refusal> {
     if number == 0 {
         return Ok(());
     }
-    Err(Refusal::from_number(number).expect("the library gives the numbers 0 to 20 only"))
+    Err(Refusal::from_number(number).expect("the library gives the numbers 0 to 21 only"))
 }
 
 impl fmt::Display for Refusal {

@@ -19,11 +19,12 @@ use Rattle.audit.specs.declared.judge.CheckAnswer.{CheckAnswer}
 use Rattle.audit.specs.Check.{checkOf}
 use Rattle.partition.specs.declared.PartitionAnswer.{PartitionAnswer}
 use Rattle.partition.specs.Partition.{Partition, partitioned, partitionOf}
+use Rattle.exact.specs.Exact.{Earned}
 use Rattle.corpus.specs.declared.tools.Counts.{Counts}
 use Rattle.corpus.specs.declared.entries.Line.{Line}
 use Rattle.corpus.specs.declared.entries.ReadLine.{ReadLine}
 use Rattle.corpus.specs.declared.entries.CheckLine.{CheckLine}
-use Rattle.corpus.specs.Line.{numberOr, countsHeld, unpacked, heldBefore, mixed, sumFrom, sumOf, writtenLine, readLine, partitionLine, checkLine}
+use Rattle.corpus.specs.Line.{numberOr, countsHeld, unpacked, heldBefore, mixed, sumFrom, sumOf, writtenLine, readLine, partitionLine, earnedLine, checkLine}
 
 -- ---- a number that may not be there
 
@@ -152,6 +153,14 @@ module _ (s lent : List ℕ) {a : PartitionAnswer} {l : List ℕ} (e : partition
   pub partition-places : l ≡ partitionOf s lent .places
   partition-places = ap (λ (o : Partition). o .places) e
 
+module _ (o : Earned) {a b : ℕ} {l : List ℕ} (e : _≡_ {A = Earned} (record { refusal = a; worth = b; lent = l }) o) where
+  pub earned-line : {sum : ℕ} → sum ≡ sumOf l → _≡_ {A = Line} (record { refusal = a; value = b; last = sum }) (earnedLine o)
+  unfolding earnedLine
+  earned-line s = rw (s, ← e)
+
+  pub earned-lent : l ≡ o .lent
+  earned-lent = ap (λ (x : Earned). x .lent) e
+
 pub open-line : (b : List ℕ) {r sum : ℕ} {steps : List ℕ} → r ≡ openOf b → steps ≡ stepsPart b → sum ≡ sumOf steps → _≡_ {A = Line} (record { refusal = r; value = length steps; last = sum }) (record { refusal = openOf b; value = length (stepsPart b); last = sumOf (stepsPart b) })
 open-line b e f g = rw (e, g, f)
 
@@ -171,4 +180,4 @@ module _ (counts table lent : List ℕ) {c : Counts} (f : c ≡ countsHeld count
 
 pub ruleset write-cases = (write-line, write-lent)
 
-pub ruleset line-cases = (held-counts, line-is, lent-is, read-line, read-table, partition-line, partition-places, open-line, check-line)
+pub ruleset line-cases = (held-counts, line-is, lent-is, read-line, read-table, partition-line, partition-places, earned-line, earned-lent, open-line, check-line)

@@ -9,6 +9,7 @@ use Rattle.lists.specs.Lists.{tab}
 use Rattle.refusal.specs.Written.{Written}
 use Rattle.sheet.specs.Read.{Outcome}
 use Rattle.partition.specs.Partition.{Partition}
+use Rattle.exact.specs.Exact.{Earned}
 use Rattle.corpus.specs.declared.tools.Counts.{Counts}
 use Rattle.corpus.specs.declared.entries.Line.{Line}
 use Rattle.corpus.specs.declared.entries.ReadLine.{ReadLine}
@@ -65,3 +66,7 @@ checkLine a = record { refusal = a .refusal; tally = a .tally; worth = a .worth;
 -- the line of the groomers for all turns: the refusal, how many are used, the checksum of the lent places
 unfoldable pub partitionLine : Partition → Line
 partitionLine o = record { refusal = o .answer .refusal; value = o .answer .groomers; last = sumOf (o .places) }
+
+-- the line of the best worth: the refusal, the worth, the checksum of the lent map
+unfoldable pub earnedLine : Earned → Line
+earnedLine o = record { refusal = o .refusal; value = o .worth; last = sumOf (o .lent) }

@@ -10,7 +10,8 @@ ghost use Rattle.planner.specs.Plan.{planOf};
 ghost use Rattle.listing.specs.List.{listOf};
 ghost use Rattle.partition.specs.Partition.{partitionOf};
 ghost use Rattle.screen.specs.Screen.{readShortOf};
-ghost use Rattle.corpus.specs.Line.{countsHeld, unpacked, sumOf, writtenLine, readLine, partitionLine, checkLine};
+ghost use Rattle.exact.specs.Exact.{exactOf};
+ghost use Rattle.corpus.specs.Line.{countsHeld, unpacked, sumOf, writtenLine, readLine, partitionLine, earnedLine, checkLine};
 use super::tools;
 use board::CountAnswer;
 
@@ -166,5 +167,18 @@ pub fn assign(sheet: &[u8], places: &mut [u16]) -> Line
         refusal: answer.refusal,
         value: answer.groomers as u64,
         last: tools::number_sum(&*places),
+    }
+}
+
+// The best of a sheet with one turn a slope, its map into the lent bytes.
+pub fn best(sheet: &[u8], map: &mut [u8]) -> Line
+    ensures { λ r. ⌜ (r ≡ earnedLine (exactOf (now (sheet .entry)) (now (map .entry))))
+        × (now (map .exit) ≡ exactOf (now (sheet .entry)) (now (map .entry)) .lent) ⌝ }
+{
+    let answer = exact::best(sheet, &mut *map);
+    Line {
+        refusal: answer.refusal,
+        value: answer.worth as u64,
+        last: tools::byte_sum(&*map),
     }
 }

@@ -20,7 +20,7 @@ const MOST_BYTES: usize = 8192;
 // How many bytes of input follow a case's head.
 fn input_size(entry: u8, first: u16, second: u16) -> usize {
     match entry {
-        1 | 3 | 4 | 6 | 7 | 8 | 9 | 10 => second as usize,
+        1 | 3 | 4 | 6 | 7 | 8 | 9 | 10 | 11 => second as usize,
         2 => 8 + 2 * (second as usize),
         5 => first as usize + second as usize,
         _ => 0,
@@ -31,7 +31,7 @@ fn input_size(entry: u8, first: u16, second: u16) -> usize {
 // board to be checked, or the numbers of the writer's table.
 fn front_size(entry: u8, first: u16, second: u16) -> usize {
     match entry {
-        1 | 3 | 4 | 6 | 7 | 8 | 9 | 10 => second as usize,
+        1 | 3 | 4 | 6 | 7 | 8 | 9 | 10 | 11 => second as usize,
         2 => 8,
         5 => first as usize,
         _ => 0,
@@ -51,7 +51,7 @@ fn numbers_lent(entry: u8, first: u16, second: u16) -> usize {
 // How many bytes are lent.
 fn bytes_lent(entry: u8, first: u16) -> usize {
     match entry {
-        2 | 3 | 6 => first as usize,
+        2 | 3 | 6 | 11 => first as usize,
         _ => 0,
     }
 }
@@ -128,6 +128,7 @@ fn run_entry(
         8 => print_chosen(entries::chosen(front, first)),
         9 => print_line(b"assign", entries::assign(front, &mut *numbers)),
         10 => print_read(b"short", entries::short(front, &mut *numbers)),
+        11 => print_line(b"best", entries::best(front, &mut *bytes)),
         _ => {
             return false;
         }

@@ -88,6 +88,10 @@ module _ (s : List ℕ) (z : firstOf (sheetCauses s) ≡ 0) where
   unfolding sheetTurns problemOf
   sheet-worths t h = sheet-range t h .worth-to
 
+  pub sheet-worths-from : (t : ℕ) → t < turnCount s → 1 ≤ sheetTurns s .worth t
+  unfolding sheetTurns problemOf
+  sheet-worths-from t h = sheet-range t h .worth-from
+
   pub sheet-slopes : (t : ℕ) → t < turnCount s → (1 ≤ sheetTurns s .slope t) × (sheetTurns s .slope t ≤ countsIn s .slopes)
   unfolding sheetTurns problemOf
   sheet-slopes t h = (sheet-range t h .slope-from, sheet-range t h .slope-to)

@@ -56,6 +56,14 @@ module _ (cs : List Cause) (need : ℕ) (text lent : List ℕ) where
     pub wrote-enough : need ≤ length lent → writtenUnless (cs ++ bufferTooSmall when ltb (length lent) need ∷ []) text lent ≡ wrote text lent
     wrote-enough h = wrote-all (cs ++ bufferTooSmall when ltb (length lent) need ∷ []) text lent (alone (le-ltb (length lent) need h))
 
+-- lists with the same first cause have it before the same list too
+pub first-append : (a b cs : List Cause) → numbered a ≡ true → numbered b ≡ true → firstOf a ≡ firstOf b → firstOf (a ++ cs) ≡ firstOf (b ++ cs)
+first-append a b cs p q e = go (ℕ-discrete (firstOf b) 0)
+  where
+    go : Dec (firstOf b ≡ 0) → firstOf (a ++ cs) ≡ firstOf (b ++ cs)
+    go (yes z) = first-goes a cs p (e ∙ z) ∙ sym (first-goes b cs q z)
+    go (no n) = first-stops a cs (firstOf b) e n ∙ sym (first-stops b cs (firstOf b) refl n)
+
 -- nothing is given exactly where no cause before it is there and the lent bytes are enough
 pub enough-iff : (cs : List Cause) (places need : ℕ) → numbered cs ≡ true → (firstOf (cs ++ bufferTooSmall when ltb places need ∷ []) ≡ 0) ↔ ((firstOf cs ≡ 0) × (need ≤ places))
 unfolding firstOf

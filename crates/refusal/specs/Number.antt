@@ -80,3 +80,11 @@ badDriver = 19
 -- more than 96 turns, for the lift desk's screen
 abbrev pub tooManyForScreen : ℕ
 tooManyForScreen = 20
+
+-- a slope with two turns, or a driver, on a sheet that may have neither
+abbrev pub notSingleTurns : ℕ
+notSingleTurns = 21
+
+-- a seed that no draw can be
+abbrev pub badSeed : ℕ
+badSeed = 23

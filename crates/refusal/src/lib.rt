@@ -40,3 +40,7 @@ pub const PARTIAL_TURN: u8 = 18; // uneven: the numbers of a turn table do not m
 pub const BAD_DRIVER: u8 = 19; // the driver is above 40
 
 pub const TOO_MANY_FOR_SCREEN: u8 = 20; // more than 96 turns, for the lift desk's screen
+
+pub const NOT_SINGLE_TURNS: u8 = 21; // a slope with two turns, or a driver, on a sheet that may have neither
+
+pub const BAD_SEED: u8 = 23; // a seed that no draw can be: 0, or the generator's modulus or above

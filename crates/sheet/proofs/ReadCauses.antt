@@ -38,7 +38,7 @@ records-places K zero s limits c = refl
 records-places K (suc n) s limits c = omega (arith, records-places K n s limits (cursorAfter s c))
 
 -- the place behind the sheet's causes
-sheet-places : (K : Kind) (s : List ℕ) → length (causesFor K s) ≡ placeOf (turnCount s) 1
+pub sheet-places : (K : Kind) (s : List ℕ) → length (causesFor K s) ≡ placeOf (turnCount s) 1
 unfolding causesFor headerCauses countCauses
 sheet-places K s = omega (arith, records-places K (turnCount s) s (countsIn s) firstCursor)
 

@@ -16,6 +16,7 @@ pub use kind::TABLE_PLACES;
 pub use kind::garage;
 pub use reader::ReadAnswer;
 pub use reader::first_cursor;
+pub use reader::put_turn;
 pub use reader::read;
 pub use reader::read_as;
 pub use reader::read_table;

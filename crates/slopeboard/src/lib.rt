@@ -13,9 +13,12 @@ ghost use Rattle.listing.specs.Answer.{listed};
 ghost use Rattle.listing.specs.List.{listOf};
 ghost use Rattle.partition.specs.Partition.{partitioned, partitionOf};
 ghost use Rattle.screen.specs.Screen.{readShortOf};
+ghost use Rattle.exact.specs.Answer.{earned};
+ghost use Rattle.exact.specs.Exact.{exactOf};
 ghost use Rattle.slopeboard.specs.Part.{stepsPartAt};
 use audit::CheckAnswer;
 use board::CountAnswer;
+use exact::BestAnswer;
 use listing::ListAnswer;
 use partition::PartitionAnswer;
 use planner::PlanAnswer;
@@ -122,4 +125,11 @@ pub extern "C" fn slopeboard_assign(sheet: &[u8], places: &mut [u16]) -> Partiti
     ensures { λ r. ⌜ partitioned r (now (places .exit)) ≡ partitionOf (now (sheet .entry)) (now (places .entry)) ⌝ }
 {
     partition::assign(sheet, &mut *places)
+}
+
+#[no_mangle]
+pub extern "C" fn slopeboard_best(sheet: &[u8], map: &mut [u8]) -> BestAnswer
+    ensures { λ r. ⌜ earned r (now (map .exit)) ≡ exactOf (now (sheet .entry)) (now (map .entry)) ⌝ }
+{
+    exact::best(sheet, &mut *map)
 }

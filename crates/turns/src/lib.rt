@@ -8,7 +8,7 @@ ghost use Rattle.turns.specs.Turn.{rowNumbers, turnIn, outsideRange, pas
 // A shift's last minute, as an end, and the greatest worth of a turn.
 pub const SHIFT_MINUTES: u32 = 960;
 
-const MOST_WORTH: u16 = 60000;
+pub const MOST_WORTH: u16 = 60000;
 
 // The greatest number of a driver; 0 is none.
 const MOST_DRIVER: u16 = 40;

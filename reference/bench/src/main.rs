@@ -119,6 +119,13 @@ const ASSIGN: Entry = Entry {
     reference: |job| fast::assign(&job.sheet, &mut job.numbers).is_ok(),
 };
 
+/// The entry for sheets with one turn a slope.
+const BEST: Entry = Entry {
+    name: "best",
+    library: |job| slopeboard::best(&job.sheet, &mut job.bytes).is_ok(),
+    reference: |job| fast::best(&job.sheet, &mut job.bytes).is_ok(),
+};
+
 /// Best and median time of one call, in nanoseconds.
 #[derive(Clone, Copy, Default)]
 struct Times {
@@ -279,6 +286,18 @@ fn main() {
             print_row(WRITE.name, &format!("n={turns} {order}"), times, growth);
             before = Some(times[0].median);
         }
+    }
+    let simple: Kind = |rng, turns| {
+        let shift = shapes::usual(rng, turns);
+        shapes::simple(rng, &shift)
+    };
+    let mut before: Option<f64> = None;
+    for turns in [60, 120] {
+        let mut jobs = jobs(&mut rng, simple, turns);
+        let times = measure_all(&BEST, &mut jobs);
+        let growth = before.map(|before| times[0].median / before);
+        print_row(BEST.name, &size(&jobs), times, growth);
+        before = Some(times[0].median);
     }
     for kind in CROWDS {
         let mut before: Option<f64> = None;

@@ -4,7 +4,7 @@ use std::fmt::Debug;
 
 use slopeboard_reference::gen::Rng;
 
-use crate::foreign::{AssignAnswer, BytesAnswer};
+use crate::foreign::{AssignAnswer, BestAnswer, BytesAnswer};
 use crate::report::{show, Report};
 
 /// Places before and after the lent ones that must stay as they are.
@@ -40,6 +40,12 @@ impl Answer for BytesAnswer {
 }
 
 impl Answer for AssignAnswer {
+    fn refusal(&self) -> u8 {
+        self.refusal
+    }
+}
+
+impl Answer for BestAnswer {
     fn refusal(&self) -> u8 {
         self.refusal
     }

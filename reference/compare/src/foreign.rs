@@ -2,7 +2,9 @@
 //! `bindings/rust`.
 
 use slopeboard::raw;
-pub use slopeboard::raw::{AssignAnswer, BytesAnswer, CheckAnswer, CountAnswer, Part, ReadAnswer};
+pub use slopeboard::raw::{
+    AssignAnswer, BestAnswer, BytesAnswer, CheckAnswer, CountAnswer, Part, ReadAnswer,
+};
 
 /// A slice as the library takes it. An empty one may come with any pointer,
 /// so it comes with the worst.
@@ -89,4 +91,10 @@ pub fn list(sheet: &[u8], out: &mut [u8]) -> BytesAnswer {
 pub fn assign(sheet: &[u8], places: &mut [u16]) -> AssignAnswer {
     let ((sheet, sheet_len), (places, places_len)) = (parts(sheet), parts_mut(places));
     unsafe { raw::slopeboard_assign(sheet, sheet_len, places, places_len) }
+}
+
+/// Works out the best worth of a sheet.
+pub fn best(sheet: &[u8], map: &mut [u8]) -> BestAnswer {
+    let ((sheet, sheet_len), (map, map_len)) = (parts(sheet), parts_mut(map));
+    unsafe { raw::slopeboard_best(sheet, sheet_len, map, map_len) }
 }

@@ -4,6 +4,7 @@
 //! Each entry of the library has a module of its own with a `run` that says
 //! whether all went well.
 
+mod best;
 mod bound;
 mod bytes;
 mod check;
@@ -33,6 +34,7 @@ fn main() -> ExitCode {
         bound::run,
         list::run,
         partition::run,
+        best::run,
     ];
     let mut good = true;
     for run in entries {

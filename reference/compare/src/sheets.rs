@@ -61,7 +61,7 @@ fn shaped(rng: &mut Rng, run: &mut impl FnMut(&mut Rng, &[u8])) {
 }
 
 /// Sheets with one fault or several. Some are accepted all the same.
-fn refused(rng: &mut Rng, run: &mut impl FnMut(&mut Rng, &[u8])) {
+pub fn refused(rng: &mut Rng, run: &mut impl FnMut(&mut Rng, &[u8])) {
     for _ in 0..9000 {
         let turns = rng.between(1, 12) as usize;
         let shift = gen::shift(rng, turns);
@@ -79,7 +79,7 @@ fn refused(rng: &mut Rng, run: &mut impl FnMut(&mut Rng, &[u8])) {
 
 /// Sheets without turns, headers at their bounds, marks, tails, and every
 /// length of some sheets.
-fn edges(rng: &mut Rng, run: &mut impl FnMut(&mut Rng, &[u8])) {
+pub fn edges(rng: &mut Rng, run: &mut impl FnMut(&mut Rng, &[u8])) {
     for groomers in 0..=17 {
         for slopes in [0, 1, 2, 119, 120, 121, 255] {
             for turns in [0, 1] {

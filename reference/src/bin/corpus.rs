@@ -10,7 +10,7 @@
 //! repository, with the entries that the crate runs:
 //!
 //! ```text
-//! cargo run --release --manifest-path reference/Cargo.toml --bin corpus -- crates/corpus read write plan open check list count chosen assign short
+//! cargo run --release --manifest-path reference/Cargo.toml --bin corpus -- crates/corpus read write plan open check list count chosen assign short best
 //! ```
 //!
 //! A case is five bytes and an input. Byte 0 is the entry's number, bytes 1
@@ -29,6 +29,7 @@
 //! | 8 chosen | a turn's number | bytes of the board | the board |
 //! | 9 assign | numbers lent | bytes of the sheet | the sheet |
 //! | 10 short | numbers lent | bytes of the sheet | the sheet |
+//! | 11 best | bytes lent | bytes of the sheet | the sheet |
 //!
 //! No input has more than 16,384 bytes, no case lends more than 2,408 numbers
 //! or 4,096 bytes, and no table has more than 2,408 numbers.
@@ -48,6 +49,8 @@ use std::{env, fs, io};
 
 use slopeboard_reference::naive::plan;
 
+#[path = "corpus/best.rs"]
+mod best;
 #[path = "corpus/check.rs"]
 mod check;
 #[path = "corpus/choice.rs"]
@@ -90,7 +93,7 @@ const NUMBER_FILL: u16 = 0xA5A5;
 /// An entry's name and what adds its cases.
 type Entry = (&'static str, fn(&mut Corpus));
 
-const ENTRIES: [Entry; 10] = [
+const ENTRIES: [Entry; 11] = [
     ("read", read::add),
     ("write", write::add),
     ("plan", planning::add),
@@ -101,6 +104,7 @@ const ENTRIES: [Entry; 10] = [
     ("chosen", choice::add_turns),
     ("assign", partition::add),
     ("short", read::add_short),
+    ("best", best::add),
 ];
 
 /// The two files as they grow.

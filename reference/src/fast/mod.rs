@@ -1,7 +1,8 @@
-//! The baseline of the bench: reading, writing, planning, checking, listing and
-//! assigning, made to be fast. It judges nothing; the tests hold it to
+//! The baseline of the bench: reading, writing, planning, checking, listing,
+//! assigning and the best worth, made to be fast. It judges nothing; the tests hold it to
 //! [`crate::naive`].
 
+mod best;
 mod board;
 mod check;
 mod listing;
@@ -13,6 +14,7 @@ mod sheet;
 mod turns;
 mod write;
 
+pub use best::best;
 pub use check::{check, Sums};
 pub use listing::listing;
 pub use partition::assign;

@@ -40,3 +40,5 @@ pub const PARTIAL_TURN: u8 = 18;
 pub const BAD_DRIVER: u8 = 19;
 /// The sheet has over 96 turns, which are too many for the short reader.
 pub const TOO_MANY_FOR_SHORT: u8 = 20;
+/// A slope has two turns, or a turn names a driver.
+pub const NOT_SIMPLE: u8 = 21;

@@ -22,19 +22,24 @@ impl Board {
         put(&mut bytes, self.steps.len() as u32, 2);
         put(&mut bytes, self.tally as u32, 4);
         put(&mut bytes, self.worth as u32, 4);
-        let mut map = vec![0; n.div_ceil(8)];
-        for turn in 0..n {
-            if self.chosen[turn] {
-                map[turn / 8] |= 1 << (turn % 8);
-            }
-        }
-        bytes.extend(map);
+        bytes.extend(choice_map(&self.chosen));
         for &(turn, amount) in &self.steps {
             put(&mut bytes, turn as u32, 2);
             put(&mut bytes, amount as u32, 2);
         }
         bytes
     }
+}
+
+/// The choice map of these turns.
+pub fn choice_map(chosen: &[bool]) -> Vec<u8> {
+    let mut map = vec![0; chosen.len().div_ceil(8)];
+    for turn in 0..chosen.len() {
+        if chosen[turn] {
+            map[turn / 8] |= 1 << (turn % 8);
+        }
+    }
+    map
 }
 
 /// Opens a board by its own count of turns: refusal 12.

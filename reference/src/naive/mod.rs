@@ -5,6 +5,7 @@
 //! for each part of it. The numbers in it are the description's own; an error
 //! is the number of a refusal.
 
+pub mod best;
 pub mod board;
 pub mod ceiling;
 mod check;
@@ -15,6 +16,7 @@ mod sets;
 pub mod sheet;
 pub mod turns;
 
+pub use best::best;
 pub use board::{count, is_chosen, open, steps};
 pub use check::{check, Sums};
 pub use listing::{listing, refused_line};

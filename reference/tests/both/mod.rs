@@ -79,6 +79,14 @@ pub fn check(sheet: &[u8], board: &[u8]) -> Result<(u32, u32), u8> {
     sums(sheet, board).map(|sums| (sums.tally, sums.worth))
 }
 
+pub fn best(sheet: &[u8], map: &mut [u8]) -> Result<u32, u8> {
+    let mut other = map.to_vec();
+    let answer = naive::best(sheet, map);
+    assert_eq!(fast::best(sheet, &mut other), answer, "{sheet:?}");
+    assert_eq!(other, map, "{sheet:?}");
+    answer
+}
+
 pub fn assign(sheet: &[u8], places: &mut [u16]) -> Result<u16, u8> {
     let mut other = places.to_vec();
     let answer = naive::assign(sheet, places);

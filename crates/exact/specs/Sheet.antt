@@ -1,0 +1,31 @@
+-- What the best worth of a sheet and its set promise, beside the planned board of the same sheet. Assumes nothing.
+use mathlib.Core.Path.{_≡_}
+use mathlib.Core.List.{List}
+use Prim.Native.Nat.{ℕ, _≤_}
+use Rattle.model.specs.Choice.{chosen}
+use Rattle.model.specs.Rules.{Independent}
+use Rattle.model.specs.Feasible.{Feasible, worthOf}
+use Rattle.board.specs.Choice.{mapOf}
+use Rattle.board.specs.Board.{boardTally, boardWorth, boardMap}
+use Rattle.problem.specs.Problem.{sheetTurns}
+use Rattle.planner.specs.Plan.{plannedBoard}
+use Rattle.exact.specs.Table.{bestWorth, bestChoice, LeavesOutLatest}
+
+-- ---- as statements
+
+-- of a sheet with one turn a slope and no drivers
+pub record BestOfSheet (s : List ℕ) : Type 0 where
+  -- no two turns of the set conflict
+  pub apart : Independent (sheetTurns s) (bestChoice (sheetTurns s))
+  -- it earns the best worth
+  pub earns : chosen (sheetTurns s .count) (bestChoice (sheetTurns s)) (sheetTurns s .worth) ≡ bestWorth (sheetTurns s)
+  -- no feasible set earns more
+  pub greatest : (R : List ℕ) → Feasible (sheetTurns s) R → worthOf (sheetTurns s) R ≤ bestWorth (sheetTurns s)
+  -- the planned board has this tally
+  pub tallied : boardTally (plannedBoard s) ≡ bestWorth (sheetTurns s)
+  -- and this worth
+  pub planned-worth : boardWorth (plannedBoard s) ≡ bestWorth (sheetTurns s)
+  -- and the same choice map, bit for bit
+  pub planned-map : boardMap (plannedBoard s) ≡ mapOf (bestChoice (sheetTurns s))
+  -- of two best sets that differ, this one is without the latest of the turns in which they differ
+  pub latest : LeavesOutLatest (sheetTurns s) (bestChoice (sheetTurns s))
