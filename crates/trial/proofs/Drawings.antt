@@ -1,0 +1,179 @@
+-- Drawing by its cases, each premise in the form in which the code's calls and tests leave it. Assumes nothing.
+use Prim.Native.Nat.{ℕ, zero, suc, _+_, _-_, _*_, _%_, _<_, _≤_}
+use mathlib.Core.Path.{_≡_, refl, sym, _∙_, ap}
+use mathlib.Core.List.{List, _∷_}
+use native.Mathlib.Omega.{arith}
+use native.Mathlib.Numerals.{sub-one}
+use lib.ListN.{length, take}
+use lib.Seq.{take-append-seam}
+use mir.Syntax.{w16}
+use mir.Val.{Fits}
+use borrow.Author.Tests.{lt-ltb, le-ltb, ne-eqb}
+use Rattle.refusal.specs.Number.{badSeed}
+use Rattle.refusal.specs.Cause.{firstOf}
+use Rattle.refusal.specs.Written.{Written}
+use Rattle.refusal.proofs.Written.{kept-before}
+use Rattle.wire.specs.Number.{puts}
+use Rattle.wire.proofs.Puts.{puts-append, puts-front, puts-length}
+use Rattle.turns.specs.declared.Turn.{Turn}
+use Rattle.turns.specs.declared.Counts.{Counts}
+use Rattle.turns.specs.Turn.{countsOf, rowNumbers, rowOf, rows, outsideRange}
+use Rattle.sheet.specs.declared.kind.Kind.{Kind}
+use Rattle.sheet.specs.Kind.{garage, tablePlaces}
+use Rattle.sheet.specs.Read.{countCauses}
+use Rattle.sheet.specs.Accepted.{Legal}
+use Rattle.writer.specs.Write.{written, writeOf}
+use Rattle.trial.specs.declared.Drawn.{Drawn}
+use Rattle.trial.specs.Draw.{drawFactor, drawModulus, mostDraw, nextDraw, drawNumber, drawnLength, lengthPlaces, drawnStarts, fromOne, turnDrawn, turnDraws, turnAfter, drawnTurns, drawnTable, Drawable}
+use Rattle.trial.specs.Trial.{seedCauses, drawCauses, drawOf}
+use Rattle.trial.proofs.Draws.{draw-drawable}
+use Rattle.trial.proofs.Trials.{drawn-numbers, seed-iff, drawn-as-written}
+
+-- ---- one draw
+
+pub next-drawn : (x : ℕ) → Drawable x → (drawFactor * x % drawModulus ≡ nextDraw x) × Drawable (drawFactor * x % drawModulus)
+unfolding nextDraw
+next-drawn x d = (refl, draw-drawable x d)
+
+-- one draw more, until none is left
+module _ (n x : ℕ) where
+  pub number-more : {y a : ℕ} → 0 < n → y ≡ nextDraw x → drawNumber n x ≡ a → drawNumber (n - 1) y ≡ a
+  unfolding drawNumber
+  number-more h e i = let k : n ≡ suc (n - 1) = omega arith in rw e (rw k at i)
+
+  pub number-done : {a : ℕ} → n ≤ 0 → drawNumber n x ≡ a → x ≡ a
+  unfolding drawNumber
+  number-done h i = let z : n ≡ 0 = omega arith in rw z at i
+
+pub ruleset draw-number-cases = (number-more, number-done)
+
+module _ (p : ℕ) where
+  pub length-first : p ≤ 39 → 30 ≡ drawnLength p
+  unfolding drawnLength
+  length-first h = rw (lt-ltb p 40 (omega arith))
+
+  pub length-second : 40 ≤ p → p ≤ 69 → 45 ≡ drawnLength p
+  unfolding drawnLength
+  length-second h k = rw (le-ltb p 40 h, lt-ltb p 70 (omega arith))
+
+  pub length-third : 70 ≤ p → p ≤ 89 → 60 ≡ drawnLength p
+  unfolding drawnLength
+  length-third h k = rw (le-ltb p 40 (omega arith), le-ltb p 70 h, lt-ltb p 90 (omega arith))
+
+  pub length-fourth : 90 ≤ p → 90 ≡ drawnLength p
+  unfolding drawnLength
+  length-fourth h = rw (le-ltb p 40 (omega arith), le-ltb p 70 (omega arith), le-ltb p 90 h)
+
+-- ---- one turn
+
+module _ (counts : Counts) (slope groomer start minutes worth : ℕ) where
+  pub turn-of-draws : {a b c d : ℕ} → a ≡ fromOne (counts .slopes) slope → b ≡ fromOne (counts .groomers) groomer → c ≡ drawnLength (minutes % lengthPlaces) → d ≡ fromOne 60000 worth
+      → _≡_ {A = Turn} (record { slope = a; groomer = b; start = start % drawnStarts; length = c; worth = d; driver = 0 }) (turnDrawn counts slope groomer start minutes worth)
+  unfolding turnDrawn
+  turn-of-draws p q r s = rw (p, q, r, s)
+
+module _ (counts : Counts) (x : ℕ) {a b c d e : ℕ} (p : a ≡ nextDraw x) (q : b ≡ nextDraw a) (r : c ≡ nextDraw b) (s : d ≡ nextDraw c) (t : e ≡ nextDraw d) where
+  pub turn-of-five : {u : Turn} → u ≡ turnDrawn counts a b c d e → u ≡ turnAfter counts x
+  unfolding turnAfter drawNumber
+  turn-of-five h = h ∙ rw (t, s, r, q, p)
+
+  pub last-of-five : e ≡ drawNumber turnDraws x
+  unfolding drawNumber
+  last-of-five = rw (t, s, r, q, p)
+
+-- ---- turns one after another
+
+turns-more : (n : ℕ) (counts : Counts) (x : ℕ) → 0 < n → drawnTurns n counts x ≡ turnAfter counts x ∷ drawnTurns (n - 1) counts (drawNumber turnDraws x)
+unfolding drawnTurns
+turns-more zero counts x h = absurd (omega arith)
+turns-more (suc n) counts x h = simp sub-one
+
+module _ (n : ℕ) (counts : Counts) (x at : ℕ) (l : List ℕ) where
+  pub draw-more : {d : Drawn} {next : ℕ} {l′ a : List ℕ} → 0 < n → d .turn ≡ turnAfter counts x → d .last ≡ drawNumber turnDraws x → next ≡ at + rowNumbers → l′ ≡ puts l at (rowOf (d .turn))
+      → puts l at (drawnTable n counts x) ≡ a → puts l′ next (drawnTable (n - 1) counts (d .last)) ≡ a
+  unfolding rows
+  draw-more {d = d} {next = next} h p q b e i =
+      let m : drawnTurns n counts x ≡ d .turn ∷ drawnTurns (n - 1) counts (d .last) = turns-more n counts x h ∙ rw (p, q) in
+      rw e (puts-append (rowOf (d .turn)) (drawnTable (n - 1) counts (d .last)) l at next (omega arith) ∙ ap (λ (ts : List Turn). puts l at (rows ts)) (sym m) ∙ i)
+
+  pub draw-done : {a : List ℕ} → n ≤ 0 → puts l at (drawnTable n counts x) ≡ a → l ≡ a
+  unfolding drawnTurns rows
+  draw-done h i = let z : n ≡ 0 = omega arith in rw z at i
+
+pub ruleset draw-turns-cases = (draw-more, draw-done)
+
+-- ---- the writer's answer
+
+-- a table with the drawn rows at its front
+module _ (n : ℕ) (counts : Counts) (seed : ℕ) (places : List ℕ) {table : List ℕ} (e : table ≡ puts places 0 (drawnTable n counts seed)) (l : Legal garage counts n) (h : tablePlaces ≤ length places) where
+  pub table-room : rowNumbers * n ≤ length table
+  unfolding garage
+  table-room = rw e (omega (arith, puts-length (drawnTable n counts seed) places 0, l .turns-to))
+
+  table-front : take (rowNumbers * n) table ≡ drawnTable n counts seed
+  unfolding garage
+  table-front =
+      let k = drawn-numbers seed counts n in
+      let r : length (drawnTable n counts seed) ≤ length places = omega (arith, l .turns-to) in
+      rw (e, puts-front (drawnTable n counts seed) places r, ← k) (take-append-seam _ _)
+
+  pub table-part : rowNumbers * n ≡ length (take (rowNumbers * n) table)
+  table-part = rw table-front (sym (drawn-numbers seed counts n))
+
+  pub table-written : (lent : List ℕ) {w : Written} → w ≡ writeOf counts (take (rowNumbers * n) table) lent → w ≡ writeOf counts (drawnTable n counts seed) lent
+  table-written lent i = rw table-front at i
+
+pub legal-room : (n : ℕ) (counts : Counts) (seed : ℕ) → Drawable seed → Legal garage counts n → (1 ≤ counts .groomers) × (1 ≤ counts .slopes) × Drawable seed × (rowNumbers * n ≤ tablePlaces)
+unfolding garage
+legal-room n counts seed d l = (l .groomers-from, l .slopes-from, d, omega (arith, l .turns-to))
+
+-- ---- the seed and the counts
+
+module _ (seed : ℕ) (counts : Counts) (turns : ℕ) where
+  pub seed-none : seed ≡ 0 → badSeed ≡ firstOf (seedCauses seed counts turns)
+  unfolding seedCauses firstOf outsideRange
+  seed-none h = rw h
+
+  pub seed-large : (seed ≡ 0 → ⊥) → drawModulus ≤ seed → badSeed ≡ firstOf (seedCauses seed counts turns)
+  unfolding seedCauses firstOf outsideRange
+  seed-large z h = rw (ne-eqb seed 0 z, lt-ltb mostDraw seed (omega arith))
+
+  pub seed-right : {K : Kind} {f : ℕ} → (seed ≡ 0 → ⊥) → seed < drawModulus → K ≡ garage → f ≡ firstOf (countCauses K counts turns) → f ≡ firstOf (seedCauses seed counts turns)
+  unfolding seedCauses firstOf outsideRange
+  seed-right z h k e = rw (ne-eqb seed 0 z, le-ltb mostDraw seed (omega arith)) (rw k at e)
+
+pub ruleset seed-cases = (seed-none, seed-large, seed-right)
+
+-- ---- the entry
+
+module _ (seed groomers slopes turns : ℕ) {f : ℕ} (e : f ≡ firstOf (seedCauses seed (countsOf groomers slopes) turns)) where
+  pub draw-refused : (lent : List ℕ) → (f ≡ 0 → ⊥) → written (record { refusal = f; bytes = 0 }) lent ≡ drawOf seed (countsOf groomers slopes) turns lent
+  unfolding drawOf drawCauses
+  draw-refused lent z = sym (kept-before (seedCauses seed (countsOf groomers slopes) turns) _ _ lent f (sym e) z)
+
+  module _ (z : f ≡ 0) where
+    parts : Drawable seed × Legal garage (countsOf groomers slopes) turns
+    parts = seed-iff seed (countsOf groomers slopes) turns .0 (sym e ∙ z)
+
+    pub seed-fits : Drawable seed
+    seed-fits = parts .0
+
+    pub counts-fit : Legal garage (countsOf groomers slopes) turns
+    counts-fit = parts .1
+
+    pub groomer-count-fits : Fits w16 groomers
+    unfolding garage
+    groomer-count-fits = let h = parts .1 .groomers-to in record { fits = omega arith }
+
+    pub slope-count-fits : Fits w16 slopes
+    unfolding garage
+    slope-count-fits = let h = parts .1 .slopes-to in record { fits = omega arith }
+
+    pub turn-count-fits : Fits w16 turns
+    unfolding garage
+    turn-count-fits = let h = parts .1 .turns-to in record { fits = omega arith }
+
+    pub draw-fine : (lent : List ℕ) {w : Written} → w ≡ writeOf (countsOf groomers slopes) (drawnTable turns (countsOf groomers slopes) seed) lent → w ≡ drawOf seed (countsOf groomers slopes) turns lent
+    draw-fine lent h = h ∙ sym (drawn-as-written seed (countsOf groomers slopes) turns lent (parts .0))
+
+pub ruleset draw-cases = (draw-refused, draw-fine, seed-fits, counts-fit)

@@ -1,0 +1,111 @@
+-- Draws stay where they can be drawn, and each drawn turn is in range. Assumes nothing.
+use Prim.Native.Nat.{ℕ, zero, suc, _+_, _*_, _/_, _%_, _<_, _≤_}
+use mathlib.Core.Path.{_≡_, refl}
+use mathlib.Core.Bool.{Bool, true, false, cond}
+use native.Mathlib.Omega.{arith}
+use native.Mathlib.Nat.{mod-lt}
+use lib.Dec.{ltb}
+use lib.ListN.{length, getD}
+use borrow.Author.Tests.{ltb-true, ltb-false}
+use Rattle.sorting.specs.Sorting.{AllOf}
+use Rattle.turns.specs.declared.Turn.{Turn}
+use Rattle.turns.specs.declared.Counts.{Counts}
+use Rattle.turns.specs.Turn.{mostWorth, InRange}
+use Rattle.trial.specs.Draw.{drawFactor, drawModulus, nextDraw, drawNumber, drawnLength, lengthPlaces, fromOne, turnDrawn, turnDraws, turnAfter, drawnTurns, Drawable}
+
+-- ---- the generator
+
+-- the factor times this is 1 more than the modulus times that
+abbrev inverse : ℕ
+inverse = 1407677000
+
+abbrev wholes : ℕ
+wholes = 11017
+
+-- so if the factor times x were the modulus times q, x would be the modulus times inverse * q - wholes * x: none, or too much
+draw-positive : (x : ℕ) → Drawable x → 1 ≤ drawFactor * x % drawModulus
+draw-positive x d = go (ltb (wholes * x) (inverse * (drawFactor * x / drawModulus))) refl
+  where
+    go : (b : Bool) → ltb (wholes * x) (inverse * (drawFactor * x / drawModulus)) ≡ b → 1 ≤ drawFactor * x % drawModulus
+    go true e = omega (arith, d .to, ltb-true (wholes * x) (inverse * (drawFactor * x / drawModulus)) e)
+    go false e = omega (arith, d .from, ltb-false (wholes * x) (inverse * (drawFactor * x / drawModulus)) e)
+
+pub draw-drawable : (x : ℕ) → Drawable x → Drawable (nextDraw x)
+unfolding nextDraw
+draw-drawable x d = record { from = draw-positive x d; to = omega arith }
+
+pub number-drawable : (k x : ℕ) → Drawable x → Drawable (drawNumber k x)
+unfolding drawNumber
+number-drawable zero x d = d
+number-drawable (suc k) x d = number-drawable k (nextDraw x) (draw-drawable x d)
+
+-- draws from a draw on are draws from the seed on
+pub number-add : (j k x : ℕ) → drawNumber k (drawNumber j x) ≡ drawNumber (j + k) x
+unfolding drawNumber
+number-add zero k x = let e : 0 + k ≡ k = omega arith in rw e
+number-add (suc j) k x = let e : suc j + k ≡ suc (j + k) = omega arith in rw e (number-add j k (nextDraw x))
+
+pub ten-thousandth : drawNumber 10000 1 ≡ 1043618065
+unfolding drawNumber nextDraw
+ten-thousandth = refl
+
+-- ---- a turn
+
+pub from-one-range : (count d : ℕ) → 1 ≤ count → (1 ≤ fromOne count d) × (fromOne count d ≤ count)
+from-one-range count d h = let l : d % count < count = mod-lt d h in (omega arith, omega arith)
+
+length-range : (p : ℕ) → (1 ≤ drawnLength p) × (drawnLength p ≤ 90)
+unfolding drawnLength
+length-range p = go (ltb p 40) (ltb p 70) (ltb p 90)
+  where
+    go : (a b c : Bool) → (1 ≤ cond a 30 (cond b 45 (cond c 60 90))) × (cond a 30 (cond b 45 (cond c 60 90)) ≤ 90)
+    go true b c = (omega arith, omega arith)
+    go false true c = (omega arith, omega arith)
+    go false false true = (omega arith, omega arith)
+    go false false false = (omega arith, omega arith)
+
+module _ (counts : Counts) (g : 1 ≤ counts .groomers) (s : 1 ≤ counts .slopes) where
+  -- whatever the draws are
+  pub drawn-in-range : (slope groomer start minutes worth : ℕ) → InRange counts (turnDrawn counts slope groomer start minutes worth)
+  unfolding turnDrawn
+  drawn-in-range slope groomer start minutes worth =
+      let a = from-one-range (counts .slopes) slope s in
+      let b = from-one-range (counts .groomers) groomer g in
+      let l = length-range (minutes % lengthPlaces) in
+      let w = from-one-range mostWorth worth (omega arith) in
+      record {
+        slope-from = a .0;
+        slope-to = a .1;
+        groomer-from = b .0;
+        groomer-to = b .1;
+        length-from = l .0;
+        end-to = omega (arith, l .1);
+        worth-from = w .0;
+        worth-to = w .1;
+        driver-to = omega arith;
+      }
+
+  pub drawn-all : (n x : ℕ) → AllOf (InRange counts) (drawnTurns n counts x)
+  unfolding drawnTurns turnAfter
+  drawn-all zero x = AllOf.none
+  drawn-all (suc n) x =
+      AllOf.more (drawn-in-range _ _ _ _ _) (drawn-all n (drawNumber turnDraws x))
+
+-- ---- the turns: as many as asked for, and turn i is that of the draws 5 i + 1 to 5 i + 5
+
+pub drawn-length : (n : ℕ) (counts : Counts) (x : ℕ) → length (drawnTurns n counts x) ≡ n
+unfolding drawnTurns
+drawn-length zero counts x = refl
+drawn-length (suc n) counts x = let e = drawn-length n counts (drawNumber turnDraws x) in omega arith
+
+number-none : (x : ℕ) → drawNumber 0 x ≡ x
+unfolding drawNumber
+number-none x = refl
+
+pub drawn-at : (n : ℕ) (counts : Counts) (x i : ℕ) (d : Turn) → i < n → getD (drawnTurns n counts x) i d ≡ turnAfter counts (drawNumber (turnDraws * i) x)
+unfolding drawnTurns
+drawn-at zero counts x i d h = absurd (omega arith)
+drawn-at (suc n) counts x zero d h = rw (number-none x)
+drawn-at (suc n) counts x (suc i) d h =
+    let e : turnDraws * suc i ≡ turnDraws + turnDraws * i = omega arith in
+    rw (e, ← number-add) (drawn-at n counts (drawNumber turnDraws x) i d (omega arith))

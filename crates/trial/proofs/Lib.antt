@@ -1,0 +1,4 @@
+pub mod Draws
+pub mod Drawings
+pub mod Trials
+pub mod DrawCauses

@@ -1,0 +1,41 @@
+use Rattle.trial.proofs.Drawings.{groomer-count-fits, slope-count-fits, turn-count-fits, draw-cases}
+use borrow.Author.Needs.{needs}
+use Rattle.trial.proofs.draw.Statement.{statement}
+use Rattle.trial.proofs.draw.Tie as tie
+
+seed-fault-requires : tie.Need-seed-fault-requires
+seed-fault-requires c κs = search needs
+
+returns : tie.Need-returns
+returns c = search draw-cases
+
+cast-write-drawn : tie.Need-cast-write-drawn
+cast-write-drawn c = search groomer-count-fits
+
+cast-t10 : tie.Need-cast-t10
+cast-t10 c = search slope-count-fits
+
+cast-write-drawn-2 : tie.Need-cast-write-drawn-2
+cast-write-drawn-2 c = search turn-count-fits
+
+write-drawn-requires : tie.Need-write-drawn-requires
+write-drawn-requires c κs = search draw-cases
+
+same-length : tie.Need-same-length
+same-length c = search needs
+
+returns-2 : tie.Need-returns-2
+returns-2 c = search draw-cases
+
+pub draw-spec : {M : Type 1} → statement M
+draw-spec =
+    tie.close
+    (tie.spec
+    seed-fault-requires
+    returns
+    cast-write-drawn
+    cast-t10
+    cast-write-drawn-2
+    write-drawn-requires
+    same-length
+    returns-2)

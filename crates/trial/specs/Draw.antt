@@ -1,0 +1,85 @@
+-- Numbers drawn one after another from a seed, and the turns that they make. Assumes nothing.
+use Prim.Native.Nat.{ℕ, zero, suc, _+_, _*_, _%_, _≤_}
+use mathlib.Core.Bool.{cond}
+use mathlib.Core.List.{List, [], _∷_}
+use lib.Dec.{ltb}
+use Rattle.turns.specs.declared.Turn.{Turn}
+use Rattle.turns.specs.declared.Counts.{Counts}
+use Rattle.turns.specs.Turn.{rows, mostWorth}
+
+-- ---- the generator of Park and Miller
+
+-- what a draw is multiplied by
+abbrev pub drawFactor : ℕ
+drawFactor = 16807
+
+-- and what is taken off it as often as it goes: a prime, 2 to the 31st less 1
+abbrev pub drawModulus : ℕ
+drawModulus = 2147483647
+
+-- the greatest number that is drawn
+abbrev pub mostDraw : ℕ
+mostDraw = 2147483646
+
+-- the draw after x
+unfoldable pub nextDraw : ℕ → ℕ
+nextDraw x = drawFactor * x % drawModulus
+
+-- draw number k from a seed on; number 0 is the seed, which is none
+unfoldable pub drawNumber : ℕ → ℕ → ℕ
+drawNumber zero x = x
+drawNumber (suc k) x = drawNumber k (nextDraw x)
+
+-- ---- a turn
+
+-- the minutes at which a turn may start: 0 to 840
+abbrev pub drawnStarts : ℕ
+drawnStarts = 841
+
+-- a length goes by the place of its draw among a hundred
+abbrev pub lengthPlaces : ℕ
+lengthPlaces = 100
+
+-- of a hundred places forty have 30 minutes, then thirty 45, twenty 60 and ten 90
+unfoldable pub drawnLength : ℕ → ℕ
+drawnLength p = cond (ltb p 40) 30 (cond (ltb p 70) 45 (cond (ltb p 90) 60 90))
+
+-- a number from 1 to a count
+abbrev pub fromOne : ℕ → ℕ → ℕ
+fromOne count d = 1 + d % count
+
+-- the turn of five draws, one for each value but the driver, who is none
+unfoldable pub turnDrawn : Counts → ℕ → ℕ → ℕ → ℕ → ℕ → Turn
+turnDrawn counts slope groomer start minutes worth =
+    record {
+      slope = fromOne (counts .slopes) slope;
+      groomer = fromOne (counts .groomers) groomer;
+      start = start % drawnStarts;
+      length = drawnLength (minutes % lengthPlaces);
+      worth = fromOne mostWorth worth;
+      driver = 0;
+    }
+
+-- how many draws a turn uses
+abbrev pub turnDraws : ℕ
+turnDraws = 5
+
+-- the turn of the five draws after x
+unfoldable pub turnAfter : Counts → ℕ → Turn
+turnAfter counts x = turnDrawn counts (drawNumber 1 x) (drawNumber 2 x) (drawNumber 3 x) (drawNumber 4 x) (drawNumber 5 x)
+
+-- n turns one after another, each from the draws behind those of the one before
+unfoldable pub drawnTurns : ℕ → Counts → ℕ → List Turn
+drawnTurns zero counts x = []
+drawnTurns (suc n) counts x = turnAfter counts x ∷ drawnTurns n counts (drawNumber turnDraws x)
+
+-- their table, in the order in which they were drawn
+abbrev pub drawnTable : ℕ → Counts → ℕ → List ℕ
+drawnTable n counts x = rows (drawnTurns n counts x)
+
+-- ---- as statements
+
+-- a number that can be drawn, and be a seed
+pub record Drawable (x : ℕ) : Type 0 where
+  pub from : 1 ≤ x
+  pub to : x ≤ mostDraw

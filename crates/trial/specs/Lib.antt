@@ -1,0 +1,3 @@
+pub mod Draw
+pub mod Trial
+pub mod DrawCause
