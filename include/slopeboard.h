@@ -1,6 +1,7 @@
 /* Slope board: reads and writes shift sheets, plans boards, opens and checks them, writes the drivers'
- * listing, and assigns groomers where all turns must be done. Link libslopeboard.a; all that it asks for
- * beside is memcpy and memset. The archive is for x86-64: its functions are called as the System V ABI says,
+ * listing, assigns groomers where all turns must be done, and works out the best worth where each slope has
+ * one turn. A second reader takes at most 96 turns. Link libslopeboard.a; all that it asks for beside is
+ * memcpy and memset. The archive is for x86-64: its functions are called as the System V ABI says,
  * their structs laid out as it says.
  *
  * What holds for every function:
@@ -19,8 +20,9 @@
  *   the order under each function says which is given.
  * - On success, the places of a lent buffer past the last one written hold what they held before.
  * - All working space is on the caller's stack, and no function calls itself. In bytes, read off the compiled
- *   code: slopeboard_list 24,296, slopeboard_plan 20,424, slopeboard_check 11,416, slopeboard_assign 10,536,
- *   slopeboard_write 6,616, slopeboard_read 4,936, each of the others fewer than 100. What memcpy and memset need comes on top.
+ *   code: slopeboard_list 24,296, slopeboard_plan 20,424, slopeboard_best 14,568, slopeboard_check 11,416,
+ *   slopeboard_assign 10,536, slopeboard_write 6,664, slopeboard_read and slopeboard_read_short 4,936, each of
+ *   the others fewer than 100. What memcpy and memset need comes on top.
  *
  * In sheets and boards, a number of several bytes begins with its high byte. Turns are numbered from 0
  * in the order of the sheet, slopes and groomers from 1.
@@ -64,8 +66,8 @@ enum {
     SLOPEBOARD_WRONG_SUMS = 17,       /* tally or worth is not its sum, or the worth is below the tally */
     SLOPEBOARD_PARTIAL_TURN = 18,     /* a turn table's length is no multiple of six */
     SLOPEBOARD_BAD_DRIVER = 19,       /* a turn's driver is above 40 */
-    SLOPEBOARD_TOO_MANY_FOR_SHORT = 20, /* more than 96 turns, for slopeboard_read_short */
-    SLOPEBOARD_NOT_SIMPLE = 21        /* a slope has two turns, or a turn names a driver */
+    SLOPEBOARD_TOO_MANY_FOR_SCREEN = 20, /* more than 96 turns, for slopeboard_read_short */
+    SLOPEBOARD_NOT_SINGLE_TURNS = 21        /* a slope has two turns, or a turn names a driver */
 };
 
 /* The limits, and what buffers can need at most. */
@@ -189,9 +191,9 @@ bool slopeboard_is_chosen(const uint8_t *board, size_t board_len, size_t turn);
 
 /* Checks a board, whoever made it, against a sheet. The answer has the board's tally and worth, and the
  * ceiling of its steps. If nothing is refused, no set of turns in which no two exclude each other is worth
- * more than the ceiling. The ceiling is at most twice the tally; where a turn names a driver and a slope has
- * two turns, three times the tally. If no slope has two turns and no turn names a driver, it is the tally, and
- * no such set is worth more than the board.
+ * more than the ceiling. The ceiling is at most three times the tally, and at most twice the tally if no turn
+ * names a driver. If besides no slope has two turns, it is the tally, and no such set is worth more than the
+ * board.
  *
  * For the ceiling each step's amount counts once, twice or three times: as often as it takes groups, the
  * fewest of three, to hold all turns from which the step takes. The groups are the turns of its own turn's
@@ -226,8 +228,9 @@ slopeboard_assign_answer slopeboard_assign(const uint8_t *sheet, size_t sheet_le
 
 /* Works out the best worth on a sheet on which no slope has two turns and no turn names a driver: no set of
  * turns in which no two exclude each other is worth more, and the board that slopeboard_plan writes is worth
- * just as much. Writes the choice map of a set that earns it. The turns of each groomer are gone through by
- * end, those of one end by number, and where a turn makes no more of those up to it, it is left out.
+ * just as much. Writes the choice map of a set that earns it. Where another such set differs, the last of a
+ * groomer's turns in which they differ, by end and then by number, is not in this one: it is the choice map of
+ * the board that slopeboard_plan writes.
  *
  * Refusals: those of slopeboard_read but 11, in their order; then 21 for any other sheet; then 11 if map_len
  * is below SLOPEBOARD_MAP_BYTES of the sheet's turns. */

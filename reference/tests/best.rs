@@ -177,8 +177,8 @@ fn best_sets(turns: &[Turn], worth: u32) -> u32 {
             .filter(|turn| set >> turn & 1 == 1)
             .collect();
         let sum: u32 = members.iter().map(|&turn| turns[turn].worth).sum();
-        let clash = |a: usize| members.iter().any(|&b| conflict(turns, a, b));
-        count += u32::from(sum == worth && !members.iter().any(|&a| clash(a)));
+        let conflicts = |a: usize| members.iter().any(|&b| conflict(turns, a, b));
+        count += u32::from(sum == worth && !members.iter().any(|&a| conflicts(a)));
     }
     count
 }

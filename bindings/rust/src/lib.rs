@@ -1,8 +1,9 @@
 //! Safe functions over the C interface of the slope board library.
 //!
 //! The library reads and writes shift sheets, plans boards, opens and checks
-//! them, writes the drivers' listing, and assigns groomers where all turns must
-//! be done. Every buffer is the caller's: on a refusal it holds what it held
+//! them, writes the drivers' listing, assigns groomers where all turns must be
+//! done, and works out the best worth where each slope has one turn. A second
+//! reader takes at most 96 turns. Every buffer is the caller's: on a refusal it holds what it held
 //! before, and on success so do its places past the last one written. The order
 //! in which refusals are looked for is in `include/slopeboard.h`.
 //!
@@ -51,11 +52,10 @@ pub struct Counts {
 }
 
 /// The sums of a board that passed. No set of the sheet's turns without a
-/// conflict is worth more than the ceiling. The ceiling is at most twice the
-/// tally or, on a sheet that names any driver and has two turns on one slope,
-/// three times the tally. Two turns conflict if they have the same slope, or if they have the same groomer or
-/// the same driver (other than 0) and neither starts ten minutes or more after
-/// the end of the other.
+/// conflict is worth more than the ceiling. The ceiling is at most three times
+/// the tally, and at most twice the tally on a sheet that names no driver. Two
+/// turns conflict if one slope is named by both, or one groomer or one driver
+/// (other than 0) by both with fewer than ten free minutes between.
 #[derive(Clone, Copy, Debug, PartialEq, Eq)]
 pub struct Sums {
     pub tally: u32,
@@ -160,7 +160,8 @@ pub fn assign(sheet: &[u8], places: &mut [u16]) -> Result<u16, Refusal> {
 /// Works out the best worth on a sheet on which no slope has two turns and no
 /// turn names a driver, and refuses every other. Writes the choice map of a set
 /// that earns it, and gives it: no set of the sheet's turns without a conflict
-/// is worth more, and it is the worth of the board that [`plan`] writes. Asks
+/// is worth more, and it is the worth of the board that [`plan`] writes, as the
+/// map is that board's. Asks
 /// for [`map_bytes`] of the sheet's turns.
 pub fn best(sheet: &[u8], map: &mut [u8]) -> Result<u32, Refusal> {
     let (map, map_len) = (map.as_mut_ptr(), map.len());

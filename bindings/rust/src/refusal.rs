@@ -46,9 +46,9 @@ pub enum Refusal {
     /// A turn's driver is above 40.
     BadDriver = 19,
     /// More than 96 turns, which are too many for the short reader.
-    TooManyForShort = 20,
+    TooManyForScreen = 20,
     /// A slope has two turns, or a turn names a driver.
-    NotSimple = 21,
+    NotSingleTurns = 21,
 }
 
 /// By number, from 1.
@@ -72,8 +72,8 @@ const ALL: [Refusal; 21] = [
     Refusal::WrongSums,
     Refusal::PartialTurn,
     Refusal::BadDriver,
-    Refusal::TooManyForShort,
-    Refusal::NotSimple,
+    Refusal::TooManyForScreen,
+    Refusal::NotSingleTurns,
 ];
 
 impl Refusal {

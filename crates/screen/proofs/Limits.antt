@@ -33,6 +33,24 @@ module _ (K : Kind) (m x n y : ℕ) (s : List ℕ) where
   unfolding withTurns
   refusal-within h k = same-refusal (withTurns K n y) m x s k h
 
+  -- what a reader accepts has no more turns than its limit
+  few-accepted : (k z : ℕ) → Sound (withTurns K k z) → (lent : List ℕ) → readFor (withTurns K k z) s lent .answer .refusal ≡ 0 → turnCount s ≤ k
+  unfolding withTurns readCausesFor
+  few-accepted k z sound lent e =
+      let clear = clear-append (causesFor (withTurns K k z) s) _ (causes-numbered (withTurns K k z) (sound .numbers) s) (sym (read-number-for (withTurns K k z) s lent) ∙ e) in
+      legal-header (withTurns K k z) sound s (clear .0) .turns-to
+
+  -- what both accept they read alike
+  pub both-alike : Sound (withTurns K m x) → Sound (withTurns K n y) → (lent : List ℕ) → readFor (withTurns K m x) s lent .answer .refusal ≡ 0 → readFor (withTurns K n y) s lent .answer .refusal ≡ 0
+      → readFor (withTurns K m x) s lent ≡ readFor (withTurns K n y) s lent
+  both-alike a b lent e f = within-both (few-accepted m x a lent e) (few-accepted n y b lent f) lent
+
+  -- what the smaller accepts the larger accepts
+  pub smaller-larger : Sound (withTurns K m x) → m ≤ n → (lent : List ℕ) → readFor (withTurns K m x) s lent .answer .refusal ≡ 0 → readFor (withTurns K n y) s lent .answer .refusal ≡ 0
+  smaller-larger a l lent e =
+      let few : turnCount s ≤ m = few-accepted m x a lent e in
+      rw (within-both few (omega arith) lent) at e
+
 -- ---- the screen's kind
 
 pub lift-desk-sound : Sound liftDesk
