@@ -9,8 +9,8 @@ use Rattle.sheet.specs.Record.{widthOf, field, turnFrom, badMapFor, endAt, turn
 use Rattle.sheet.specs.Read.{countCauses, headerCauses, recordsCauses, turnsFrom, causesFor, sheetCauses, turnsOf, tableOf, readCausesFor, readFor, readOf}
 use Rattle.sheet.specs.Layout.{recordOf}
 use Rattle.sorting.specs.Sorting.{insertBy, sortBy}
-use Rattle.writer.specs.Order.{numbersAtMost, turnAtMost, sortedTurns}
-use Rattle.writer.specs.Write.{mapFor, recordsOf, sheetOf, turnsCauses, tableCauses, writeCauses, writeOf}
+use Rattle.writing.specs.Order.{numbersAtMost, turnAtMost, sortedTurns}
+use Rattle.writing.specs.Write.{mapFor, recordsOf, sheetOf, turnsCauses, tableCauses, writeCauses, writeOf}
 use Rattle.lists.specs.Lists.{every, tab}
 use Rattle.model.specs.Turns.{overlapping, overlap, bySlope, oneGroomer, byGroomer, oneDriver, byDriver, conflict}
 use Rattle.problem.specs.Problem.{problemOf, sheetTurns}

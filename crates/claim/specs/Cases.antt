@@ -12,7 +12,7 @@ use Rattle.model.specs.Choice.{goBack, choice}
 use Rattle.turns.specs.declared.Counts.{Counts}
 use Rattle.sheet.specs.Read.{readOf, outcome, readRefused}
 use Rattle.problem.specs.Problem.{sheetTurns}
-use Rattle.writer.specs.Write.{writeOf}
+use Rattle.writing.specs.Write.{writeOf}
 use Rattle.board.specs.Open.{openOf, stepsPart}
 use Rattle.board.specs.Chosen.{counted, countOf, turnChosen}
 use Rattle.audit.specs.Check.{checkOf, checked}

@@ -13,7 +13,7 @@ use Rattle.lists.proofs.Sums.{tab-length}
 use Rattle.refusal.specs.Written.{Written}
 use Rattle.sheet.specs.declared.reader.ReadAnswer.{ReadAnswer}
 use Rattle.sheet.specs.Read.{Outcome, outcome}
-use Rattle.writer.specs.Write.{countsOf, writeOf}
+use Rattle.writing.specs.Write.{countsOf, writeOf}
 use Rattle.board.specs.Open.{openOf, stepsPart}
 use Rattle.audit.specs.declared.judge.CheckAnswer.{CheckAnswer}
 use Rattle.audit.specs.Check.{checkOf}

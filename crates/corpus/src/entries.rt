@@ -2,7 +2,7 @@
 ghost use mathlib.Core.Path.{_≡_};
 ghost use lib.ListN.{length};
 ghost use Rattle.sheet.specs.Read.{readOf};
-ghost use Rattle.writer.specs.Write.{countsOf, writeOf};
+ghost use Rattle.writing.specs.Write.{countsOf, writeOf};
 ghost use Rattle.board.specs.Open.{openOf, stepsPart};
 ghost use Rattle.board.specs.Chosen.{countOf, turnChosen};
 ghost use Rattle.audit.specs.Check.{checkOf};

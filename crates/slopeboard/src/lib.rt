@@ -3,7 +3,8 @@
 ghost use mathlib.Core.Path.{_≡_};
 ghost use lib.ListN.{take, drop};
 ghost use Rattle.sheet.specs.Read.{readOf, outcome};
-ghost use Rattle.writer.specs.Write.{countsOf, writeOf, written};
+ghost use Rattle.writing.specs.Write.{countsOf, writeOf};
+ghost use Rattle.writer.specs.Answer.{written};
 ghost use Rattle.board.specs.Open.{openOf, stepsPart};
 ghost use Rattle.board.specs.Chosen.{countOf, turnChosen};
 ghost use Rattle.audit.specs.Check.{checkOf};

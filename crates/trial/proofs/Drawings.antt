@@ -22,7 +22,8 @@ use Rattle.sheet.specs.declared.kind.Kind.{Kind}
 use Rattle.sheet.specs.Kind.{garage, tablePlaces}
 use Rattle.sheet.specs.Read.{countCauses}
 use Rattle.sheet.specs.Accepted.{Legal}
-use Rattle.writer.specs.Write.{written, writeOf}
+use Rattle.writing.specs.Write.{writeOf}
+use Rattle.writer.specs.Answer.{written}
 use Rattle.trial.specs.declared.Drawn.{Drawn}
 use Rattle.trial.specs.Draw.{drawFactor, drawModulus, mostDraw, nextDraw, drawNumber, drawnLength, lengthPlaces, drawnStarts, fromOne, turnDrawn, turnDraws, turnAfter, drawnTurns, drawnTable, Drawable}
 use Rattle.trial.specs.Trial.{seedCauses, drawCauses, drawOf}

@@ -23,11 +23,11 @@ use Rattle.sheet.specs.Read.{countCauses, readOf, outcome, atFront}
 use Rattle.sheet.specs.Accepted.{Legal, SheetFor, Accepted}
 use Rattle.sheet.proofs.SoundKinds.{garage-sound}
 use Rattle.sheet.proofs.Headers.{counts-numbered, counts-legal, legal-counts}
-use Rattle.writer.specs.Order.{sortedTurns}
-use Rattle.writer.specs.Write.{writtenTurns, tableCauses, writeCauses, writeOf}
-use Rattle.writer.proofs.Orders.{sorted-length}
-use Rattle.writer.proofs.Writings.{table-numbered, all-fine}
-use Rattle.writer.proofs.RoundTrip.{writable-table, written-sheet, reading}
+use Rattle.writing.specs.Order.{sortedTurns}
+use Rattle.writing.specs.Write.{writtenTurns, tableCauses, writeCauses, writeOf}
+use Rattle.writing.proofs.Orders.{sorted-length}
+use Rattle.writing.proofs.Writable.{table-numbered, all-fine}
+use Rattle.writing.proofs.RoundTrip.{writable-table, written-sheet, reading}
 use Rattle.trial.specs.Draw.{mostDraw, drawnTurns, drawnTable, Drawable}
 use Rattle.trial.specs.Trial.{drawnSheet, seedCauses, drawCauses, drawOf}
 use Rattle.trial.proofs.Draws.{drawn-all, drawn-length}

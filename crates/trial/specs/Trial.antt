@@ -10,8 +10,8 @@ use Rattle.turns.specs.declared.Counts.{Counts}
 use Rattle.turns.specs.Turn.{outsideRange}
 use Rattle.sheet.specs.Kind.{garage}
 use Rattle.sheet.specs.Read.{countCauses}
-use Rattle.writer.specs.Order.{sortedTurns}
-use Rattle.writer.specs.Write.{sheetOf}
+use Rattle.writing.specs.Order.{sortedTurns}
+use Rattle.writing.specs.Write.{sheetOf}
 use Rattle.trial.specs.Draw.{mostDraw, drawnTurns}
 
 -- the sheet of the drawn turns, in the written order

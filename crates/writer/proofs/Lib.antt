@@ -1,9 +1,3 @@
-pub mod Orders
-pub mod Keys
 pub mod WriteRecords
 pub mod Measures
 pub mod Writings
-pub mod WriteMaps
-pub mod Shortest
-pub mod RoundTrip
-pub mod WriteCauses

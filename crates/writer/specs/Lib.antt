@@ -1,5 +1,2 @@
-pub mod Order
-pub mod Write
-pub mod Key
+pub mod Answer
 pub mod Measure
-pub mod WriteCause

@@ -10,10 +10,10 @@ use Rattle.turns.specs.declared.Counts.{Counts}
 use Rattle.wire.specs.Mark.{sheetMark}
 use Rattle.sheet.specs.Kind.{garage}
 use Rattle.sheet.specs.Layout.{recordOf, headerFor}
-use Rattle.writer.specs.Write.{mapFor, recordsOf, sheetOf}
+use Rattle.writing.specs.Write.{mapFor, recordsOf, sheetOf}
 use Rattle.sheet.specs.Accepted.{Records, none, more, SheetFor}
 use Rattle.sheet.proofs.Fields.{record-length}
-use Rattle.writer.proofs.WriteMaps.{written-least, map-only}
+use Rattle.writing.proofs.WriteMaps.{written-least, map-only}
 
 -- ---- the records
 

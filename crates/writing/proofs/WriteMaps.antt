@@ -9,7 +9,7 @@ use borrow.Author.Tests.{eq-eqb, ne-eqb, eqb-true, eqb-false}
 use Rattle.turns.specs.declared.Turn.{Turn}
 use Rattle.sheet.specs.Kind.{firstMap, fullMap, garage}
 use Rattle.sheet.specs.Record.{widthOf, firstCursor}
-use Rattle.writer.specs.Write.{differs, mapFor}
+use Rattle.writing.specs.Write.{differs, mapFor}
 use Rattle.sheet.specs.Accepted.{GoodMap, Carried}
 
 -- ---- one bit

@@ -11,7 +11,7 @@ use borrow.Author.Tests.{ltb-true, ltb-false, eqb-true, eqb-false, lt-ltb, eq-eq
 use Rattle.sorting.specs.Sorting.{insertBy, sortBy, Sameness, TotalOrder, InOrder, AllOf}
 use Rattle.sorting.proofs.Sorted.{sort-length, sort-as-often, sort-in-order, sort-unique, sort-same, sort-sorted}
 use Rattle.turns.specs.declared.Turn.{Turn}
-use Rattle.writer.specs.Order.{numbersAtMost, sameNumbers, orderOf, turnAtMost, sameTurn, sortedTurns, SameTurns, InWrittenOrder}
+use Rattle.writing.specs.Order.{numbersAtMost, sameNumbers, orderOf, turnAtMost, sameTurn, sortedTurns, SameTurns, InWrittenOrder}
 
 -- ---- lists of numbers
 

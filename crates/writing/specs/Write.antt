@@ -17,8 +17,7 @@ use Rattle.sheet.specs.Kind.{firstMap, garage}
 use Rattle.sheet.specs.Record.{firstCursor}
 use Rattle.sheet.specs.Read.{countCauses}
 use Rattle.sheet.specs.Layout.{recordOf, headerFor}
-use Rattle.writer.specs.declared.WriteAnswer.{WriteAnswer}
-use Rattle.writer.specs.Order.{sortedTurns}
+use Rattle.writing.specs.Order.{sortedTurns}
 
 -- ---- the bytes
 
@@ -71,10 +70,10 @@ tableCauses counts table =
 unfoldable pub writeCauses : Counts → List ℕ → ℕ → List Cause
 writeCauses counts table places = tableCauses counts table ++ bufferTooSmall when ltb places (length (sheetOf counts (writtenTurns table))) ∷ []
 
--- what is returned, with what the lent bytes hold then
-abbrev pub written : WriteAnswer → List ℕ → Written
-written answer lent = record { refusal = answer .refusal; bytes = answer .bytes; lent = lent }
-
 -- on success the sheet, then what was there; on a refusal all as before
 unfoldable pub writeOf : Counts → List ℕ → List ℕ → Written
 writeOf counts table lent = writtenUnless (writeCauses counts table (length lent)) (sheetOf counts (writtenTurns table)) lent
+
+-- the sheet of some turns, in this order, if the lent bytes are enough
+unfoldable pub sheetWritten : Counts → List Turn → List ℕ → Written
+sheetWritten counts ts lent = writtenUnless (bufferTooSmall when ltb (length lent) (length (sheetOf counts ts)) ∷ []) (sheetOf counts ts) lent

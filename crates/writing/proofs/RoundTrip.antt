@@ -32,12 +32,12 @@ use Rattle.sheet.proofs.SoundKinds.{garage-sound}
 use Rattle.sheet.proofs.Headers.{legal-counts, counts-numbered}
 use Rattle.sheet.proofs.Readings.{causes-numbered}
 use Rattle.sheet.proofs.Accepting.{sheet-reads}
-use Rattle.writer.specs.Order.{turnAtMost, sortedTurns, SameTurns, InWrittenOrder}
-use Rattle.writer.specs.Write.{mapFor, recordsOf, allRecords, sheetOf, writtenTurns, turnsCauses, tableCauses, writeCauses, writeOf}
-use Rattle.writer.proofs.WriteMaps.{map-good, map-below, map-carries}
-use Rattle.writer.proofs.Orders.{sorted-length, sorted-iff, sorted-order, sorted-same, sorted-stay, sorted-twice, unsorted-all}
-use Rattle.writer.proofs.Writings.{Writable, table-writable, table-numbered, fine-all, all-fine, write-clear}
-use Rattle.writer.proofs.Shortest.{shortest, shortest-only}
+use Rattle.writing.specs.Order.{turnAtMost, sortedTurns, SameTurns, InWrittenOrder}
+use Rattle.writing.specs.Write.{mapFor, recordsOf, allRecords, sheetOf, writtenTurns, turnsCauses, tableCauses, writeCauses, writeOf}
+use Rattle.writing.proofs.WriteMaps.{map-good, map-below, map-carries}
+use Rattle.writing.proofs.Orders.{sorted-length, sorted-iff, sorted-order, sorted-same, sorted-stay, sorted-twice, unsorted-all}
+use Rattle.writing.proofs.Writable.{Writable, table-writable, table-numbered, fine-all, all-fine, write-clear}
+use Rattle.writing.proofs.Shortest.{shortest, shortest-only}
 
 -- ---- what is written is a sheet of these turns
 

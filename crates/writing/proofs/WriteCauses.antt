@@ -18,11 +18,11 @@ use Rattle.turns.specs.Turn.{rowNumbers, turnIn, turnsOfTable, tableRows, table
 use Rattle.turns.proofs.Ranges.{outside-iff, past-iff}
 use Rattle.sheet.specs.Kind.{mostGroomers, mostSlopes, mostTurns, garage}
 use Rattle.sheet.specs.Read.{countCauses}
-use Rattle.writer.specs.Write.{writtenTurns, sheetOf, turnsCauses, tableCauses, writeCauses, writeOf}
-use Rattle.writer.specs.WriteCause.{rowPlace, WriteCause, partial-turn, groomer-count, slope-count, turn-count, slope, groomer, time, worth, driver, small-buffer, FirstWriteCause}
+use Rattle.writing.specs.Write.{writtenTurns, sheetOf, turnsCauses, tableCauses, writeCauses, writeOf}
+use Rattle.writing.specs.WriteCause.{rowPlace, WriteCause, partial-turn, groomer-count, slope-count, turn-count, slope, groomer, time, worth, driver, small-buffer, FirstWriteCause}
 use Rattle.sheet.proofs.Causes.{first-same}
-use Rattle.writer.proofs.Writings.{table-numbered}
-use Rattle.writer.proofs.RoundTrip.{write-number}
+use Rattle.writing.proofs.Writable.{table-numbered}
+use Rattle.writing.proofs.RoundTrip.{write-number}
 
 partial-iff : (n : ℕ) → (not (eqb n 0) ≡ true) ↔ (n ≢ 0)
 partial-iff n = (λ e. eqb-false n 0 (not-true (eqb n 0) e), λ h. rw (ne-eqb n 0 h))

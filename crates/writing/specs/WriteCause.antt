@@ -8,7 +8,7 @@ use Rattle.turns.specs.declared.Counts.{Counts}
 use Rattle.turns.specs.Turn.{rowNumbers, turnIn, tableRows, mostWorth, mostDriver}
 use Rattle.sheet.specs.Kind.{mostGroomers, mostSlopes, mostTurns}
 use Rattle.sheet.specs.Accepted.{Outside, WrongTime, FirstAmong}
-use Rattle.writer.specs.Write.{writtenTurns, sheetOf}
+use Rattle.writing.specs.Write.{writtenTurns, sheetOf}
 
 -- place 0: the table's length; 1 to 3: the counts; then five places a turn; then the lent bytes
 abbrev pub rowPlace : ℕ → ℕ → ℕ

@@ -1,0 +1,4 @@
+pub mod Order
+pub mod Write
+pub mod Key
+pub mod WriteCause
