@@ -1,8 +1,8 @@
 /* Slope board: reads and writes shift sheets, plans boards, opens and checks them, writes the drivers'
- * listing, assigns groomers where all turns must be done, and works out the best worth where each slope has
- * one turn. A second reader takes at most 96 turns. Link libslopeboard.a; all that it asks for beside is
- * memcpy and memset. The archive is for x86-64: its functions are called as the System V ABI says,
- * their structs laid out as it says.
+ * listing, assigns groomers where all turns must be done, works out the best worth where each slope has
+ * one turn, and draws sheets from a seed. A second reader takes at most 96 turns. Link libslopeboard.a; all
+ * that it asks for beside is memcpy and memset. The archive is for x86-64: its functions are called as the
+ * System V ABI says, their structs laid out as it says.
  *
  * What holds for every function:
  *
@@ -20,9 +20,9 @@
  *   the order under each function says which is given.
  * - On success, the places of a lent buffer past the last one written hold what they held before.
  * - All working space is on the caller's stack, and no function calls itself. In bytes, read off the compiled
- *   code: slopeboard_list 24,296, slopeboard_plan 20,424, slopeboard_best 14,568, slopeboard_check 11,416,
- *   slopeboard_assign 10,536, slopeboard_write 6,664, slopeboard_read and slopeboard_read_short 4,936, each of
- *   the others fewer than 100. What memcpy and memset need comes on top.
+ *   code: slopeboard_list 24,296, slopeboard_plan 20,424, slopeboard_best 14,568, slopeboard_draw 11,576,
+ *   slopeboard_check 11,416, slopeboard_assign 10,536, slopeboard_write 6,712, slopeboard_read and
+ *   slopeboard_read_short 4,936, each of the others fewer than 100. What memcpy and memset need comes on top.
  *
  * In sheets and boards, a number of several bytes begins with its high byte. Turns are numbered from 0
  * in the order of the sheet, slopes and groomers from 1.
@@ -43,7 +43,7 @@ extern "C" {
 #endif
 
 /* The number of this interface. Each change that a caller can see raises it. */
-#define SLOPEBOARD_VERSION 10
+#define SLOPEBOARD_VERSION 11
 
 /* The refusals. */
 enum {
@@ -67,7 +67,8 @@ enum {
     SLOPEBOARD_PARTIAL_TURN = 18,     /* a turn table's length is no multiple of six */
     SLOPEBOARD_BAD_DRIVER = 19,       /* a turn's driver is above 40 */
     SLOPEBOARD_TOO_MANY_FOR_SCREEN = 20, /* more than 96 turns, for slopeboard_read_short */
-    SLOPEBOARD_NOT_SINGLE_TURNS = 21        /* a slope has two turns, or a turn names a driver */
+    SLOPEBOARD_NOT_SINGLE_TURNS = 21, /* a slope has two turns, or a turn names a driver */
+    SLOPEBOARD_BAD_SEED = 23          /* the seed is 0 or above SLOPEBOARD_MOST_SEED */
 };
 
 /* The limits, and what buffers can need at most. */
@@ -76,6 +77,7 @@ enum {
 #define SLOPEBOARD_MOST_TURNS 400
 #define SLOPEBOARD_MOST_SHORT_TURNS 96
 #define SLOPEBOARD_MOST_DRIVER 40
+#define SLOPEBOARD_MOST_SEED 2147483646
 #define SLOPEBOARD_NUMBERS_PER_TURN 6
 #define SLOPEBOARD_MOST_NUMBERS (SLOPEBOARD_NUMBERS_PER_TURN * SLOPEBOARD_MOST_TURNS)
 /* A header of 7 bytes and records of at most 10. */
@@ -235,6 +237,19 @@ slopeboard_assign_answer slopeboard_assign(const uint8_t *sheet, size_t sheet_le
  * Refusals: those of slopeboard_read but 11, in their order; then 21 for any other sheet; then 11 if map_len
  * is below SLOPEBOARD_MAP_BYTES of the sheet's turns. */
 slopeboard_best_answer slopeboard_best(const uint8_t *sheet, size_t sheet_len, uint8_t *map, size_t map_len);
+
+/* Draws so many turns from a seed, for so many groomers and slopes, and writes the sheet that slopeboard_write
+ * makes of them; slopeboard_read accepts it. The same numbers give the same sheet on every box.
+ *
+ * From the seed on, each number is the last one times 16,807, modulo 2,147,483,647; the seed itself is not
+ * used. Turn by turn, five numbers make the slope (1 plus the remainder by the slopes), the groomer (likewise),
+ * the start (the remainder by 841), the length and the worth (1 plus the remainder by 60,000). The length is
+ * 30, 45, 60 or 90 where the remainder by 100 is below 40, 70, 90 or 100. No turn names a driver.
+ *
+ * Refusals, in this order: 23 for a seed of 0 or above SLOPEBOARD_MOST_SEED; 3; 4; then 11 if the sheet is
+ * longer than bytes_len. SLOPEBOARD_MOST_SHEET_BYTES are enough for every sheet. */
+slopeboard_write_answer slopeboard_draw(uint64_t seed, uint32_t groomers, uint32_t slopes, uint32_t turns,
+                                        uint8_t *bytes, size_t bytes_len);
 
 #ifdef __cplusplus
 }

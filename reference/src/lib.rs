@@ -9,6 +9,7 @@
 
 pub mod boards;
 pub mod fast;
+pub mod floor;
 pub mod gen;
 pub mod limits;
 pub mod naive;

@@ -2,8 +2,8 @@
 //!
 //! The library reads and writes shift sheets, plans boards, opens and checks
 //! them, writes the drivers' listing, assigns groomers where all turns must be
-//! done, and works out the best worth where each slope has one turn. A second
-//! reader takes at most 96 turns. Every buffer is the caller's: on a refusal it holds what it held
+//! done, works out the best worth where each slope has one turn, and draws sheets
+//! from a seed. A second reader takes at most 96 turns. Every buffer is the caller's: on a refusal it holds what it held
 //! before, and on success so do its places past the last one written. The order
 //! in which refusals are looked for is in `include/slopeboard.h`.
 //!
@@ -20,7 +20,7 @@ pub use refusal::Refusal;
 
 /// The number of this interface, as `SLOPEBOARD_VERSION` in the header: each
 /// change that a caller can see raises it.
-pub const VERSION: u32 = 10;
+pub const VERSION: u32 = 11;
 
 /// Numbers that a turn takes in a turn table: slope, groomer, start, length,
 /// worth, driver. Driver 0 is none.
@@ -28,6 +28,8 @@ pub const NUMBERS_PER_TURN: usize = 6;
 pub const MOST_TURNS: usize = 400;
 /// Turns that [`read_short`] takes at most.
 pub const MOST_SHORT_TURNS: usize = 96;
+/// The greatest seed that [`draw`] takes; the least is 1.
+pub const MOST_SEED: u64 = 2_147_483_646;
 /// Bytes that hold any sheet.
 pub const MOST_SHEET_BYTES: usize = 7 + 10 * MOST_TURNS;
 /// Bytes that hold any listing: no listing has more than 3,823.
@@ -168,6 +170,20 @@ pub fn best(sheet: &[u8], map: &mut [u8]) -> Result<u32, Refusal> {
     let answer = unsafe { raw::slopeboard_best(sheet.as_ptr(), sheet.len(), map, map_len) };
     refusal::none(answer.refusal)?;
     Ok(answer.worth)
+}
+
+/// Draws so many turns from a seed, for so many groomers and slopes, writes the
+/// sheet that [`write`] makes of them and gives its length. The same numbers
+/// give the same sheet everywhere. No turn names a driver.
+pub fn draw(
+    seed: u64,
+    groomers: u32,
+    slopes: u32,
+    turns: u32,
+    sheet: &mut [u8],
+) -> Result<usize, Refusal> {
+    let (sheet, sheet_len) = (sheet.as_mut_ptr(), sheet.len());
+    length(unsafe { raw::slopeboard_draw(seed, groomers, slopes, turns, sheet, sheet_len) })
 }
 
 fn counts(answer: raw::ReadAnswer) -> Result<Counts, Refusal> {

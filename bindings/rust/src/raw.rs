@@ -127,4 +127,13 @@ extern "C" {
         map: *mut u8,
         map_len: usize,
     ) -> BestAnswer;
+
+    pub fn slopeboard_draw(
+        seed: u64,
+        groomers: u32,
+        slopes: u32,
+        turns: u32,
+        bytes: *mut u8,
+        bytes_len: usize,
+    ) -> BytesAnswer;
 }

@@ -49,10 +49,12 @@ pub enum Refusal {
     TooManyForScreen = 20,
     /// A slope has two turns, or a turn names a driver.
     NotSingleTurns = 21,
+    /// The seed is 0, or 2,147,483,647 or above.
+    BadSeed = 23,
 }
 
-/// By number, from 1.
-const ALL: [Refusal; 21] = [
+/// All of them; no two have one number.
+const ALL: [Refusal; 22] = [
     Refusal::Truncated,
     Refusal::BadMagic,
     Refusal::BadCounts,
@@ -74,6 +76,7 @@ const ALL: [Refusal; 21] = [
     Refusal::BadDriver,
     Refusal::TooManyForScreen,
     Refusal::NotSingleTurns,
+    Refusal::BadSeed,
 ];
 
 impl Refusal {
@@ -81,10 +84,9 @@ impl Refusal {
         self as u8
     }
 
-    /// The refusal with this number; none for 0 and for numbers above 21.
+    /// The refusal with this number; none for 0, 22 and numbers above 23.
     pub fn from_number(number: u8) -> Option<Refusal> {
-        let place = usize::from(number).checked_sub(1)?;
-        ALL.get(place).copied()
+        ALL.into_iter().find(|refusal| refusal.number() == number)
     }
 }
 
@@ -93,7 +95,7 @@ pub(crate) fn none(number: u8) -> Result<(), Refusal> {
     if number == 0 {
         return Ok(());
     }
-    Err(Refusal::from_number(number).expect("the library gives the numbers 0 to 21 only"))
+    Err(Refusal::from_number(number).expect("the library gives no other number"))
 }
 
 impl fmt::Display for Refusal {

@@ -14,6 +14,7 @@ use Rattle.refusal.specs.Written.{Written}
 use Rattle.sheet.specs.declared.reader.ReadAnswer.{ReadAnswer}
 use Rattle.sheet.specs.Read.{Outcome, outcome}
 use Rattle.writing.specs.Write.{countsOf, writeOf}
+use Rattle.trial.specs.Trial.{drawOf}
 use Rattle.board.specs.Open.{openOf, stepsPart}
 use Rattle.audit.specs.declared.judge.CheckAnswer.{CheckAnswer}
 use Rattle.audit.specs.Check.{checkOf}
@@ -21,10 +22,11 @@ use Rattle.partition.specs.declared.PartitionAnswer.{PartitionAnswer}
 use Rattle.partition.specs.Partition.{Partition, partitioned, partitionOf}
 use Rattle.exact.specs.Exact.{Earned}
 use Rattle.corpus.specs.declared.tools.Counts.{Counts}
+use Rattle.corpus.specs.declared.tools.Draw.{Draw}
 use Rattle.corpus.specs.declared.entries.Line.{Line}
 use Rattle.corpus.specs.declared.entries.ReadLine.{ReadLine}
 use Rattle.corpus.specs.declared.entries.CheckLine.{CheckLine}
-use Rattle.corpus.specs.Line.{numberOr, countsHeld, unpacked, heldBefore, mixed, sumFrom, sumOf, writtenLine, readLine, partitionLine, earnedLine, checkLine}
+use Rattle.corpus.specs.Line.{numberOr, longHeld, countsHeld, drawHeld, drawnBy, unpacked, heldBefore, mixed, sumFrom, sumOf, writtenLine, readLine, partitionLine, earnedLine, checkLine}
 
 -- ---- a number that may not be there
 
@@ -128,6 +130,14 @@ pub held-counts : (bytes : List ℕ) {a b : ℕ} → a ≡ numberOr bytes 0 4 �
 unfolding countsHeld
 held-counts bytes e f = rw (e, f)
 
+pub held-long : (bytes : List ℕ) {a b : ℕ} → a ≡ numberOr bytes 0 4 → b ≡ numberOr bytes 4 4 → a * 4294967296 + b ≡ longHeld bytes
+unfolding longHeld
+held-long bytes e f = rw (e, f)
+
+pub held-draw : (bytes : List ℕ) {s a b c : ℕ} → s ≡ longHeld bytes → a ≡ numberOr bytes 8 4 → b ≡ numberOr bytes 12 4 → c ≡ numberOr bytes 16 4 → _≡_ {A = Draw} (record { seed = s; groomers = a; slopes = b; turns = c }) (drawHeld bytes)
+unfolding drawHeld
+held-draw bytes e f g h = rw (e, f, g, h)
+
 module _ (w : Written) {a b : ℕ} {l : List ℕ} (e : _≡_ {A = Written} (record { refusal = a; bytes = b; lent = l }) w) where
   pub line-is : {sum : ℕ} → sum ≡ sumOf l → _≡_ {A = Line} (record { refusal = a; value = b; last = sum }) (writtenLine w)
   unfolding writtenLine
@@ -178,6 +188,19 @@ module _ (counts table lent : List ℕ) {c : Counts} (f : c ≡ countsHeld count
   pub write-lent : l ≡ writeOf (countsOf (countsHeld counts .groomers) (countsHeld counts .slopes)) table lent .lent
   write-lent = lent-is (writeOf (countsOf (countsHeld counts .groomers) (countsHeld counts .slopes)) table lent) same
 
+module _ (asked lent : List ℕ) {d : Draw} (f : d ≡ drawHeld asked) {a b : ℕ} {l : List ℕ} (e : _≡_ {A = Written} (record { refusal = a; bytes = b; lent = l }) (drawOf (d .seed) (countsOf (d .groomers) (d .slopes)) (d .turns) lent)) where
+  drawn : _≡_ {A = Written} (record { refusal = a; bytes = b; lent = l }) (drawnBy (drawHeld asked) lent)
+  unfolding drawnBy
+  drawn = rw f at e
+
+  pub draw-line : {sum : ℕ} → sum ≡ sumOf l → _≡_ {A = Line} (record { refusal = a; value = b; last = sum }) (writtenLine (drawnBy (drawHeld asked) lent))
+  draw-line s = line-is (drawnBy (drawHeld asked) lent) drawn s
+
+  pub draw-lent : l ≡ drawnBy (drawHeld asked) lent .lent
+  draw-lent = lent-is (drawnBy (drawHeld asked) lent) drawn
+
+pub ruleset draw-cases = (held-draw, draw-line, draw-lent)
+
 pub ruleset write-cases = (write-line, write-lent)
 
-pub ruleset line-cases = (held-counts, line-is, lent-is, read-line, read-table, partition-line, partition-places, earned-line, earned-lent, open-line, check-line)
+pub ruleset line-cases = (held-counts, held-long, line-is, lent-is, read-line, read-table, partition-line, partition-places, earned-line, earned-lent, open-line, check-line)

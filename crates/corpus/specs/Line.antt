@@ -8,9 +8,12 @@ use Rattle.wire.specs.Number.{valueAt}
 use Rattle.lists.specs.Lists.{tab}
 use Rattle.refusal.specs.Written.{Written}
 use Rattle.sheet.specs.Read.{Outcome}
+use Rattle.turns.specs.Turn.{countsOf}
+use Rattle.trial.specs.Trial.{drawOf}
 use Rattle.partition.specs.Partition.{Partition}
 use Rattle.exact.specs.Exact.{Earned}
 use Rattle.corpus.specs.declared.tools.Counts.{Counts}
+use Rattle.corpus.specs.declared.tools.Draw.{Draw}
 use Rattle.corpus.specs.declared.entries.Line.{Line}
 use Rattle.corpus.specs.declared.entries.ReadLine.{ReadLine}
 use Rattle.corpus.specs.declared.entries.CheckLine.{CheckLine}
@@ -23,6 +26,18 @@ numberOr bytes at k = cond (ltb (length bytes) (at + k)) 0 (valueAt bytes at k)
 -- the writer's two counts, four bytes each
 unfoldable pub countsHeld : List ℕ → Counts
 countsHeld bytes = record { groomers = numberOr bytes 0 4; slopes = numberOr bytes 4 4 }
+
+-- a number of eight bytes, its high half first; 0 for a half that is not there
+unfoldable pub longHeld : List ℕ → ℕ
+longHeld bytes = numberOr bytes 0 4 * 4294967296 + numberOr bytes 4 4
+
+-- what a sheet is drawn from: the seed, then three counts of four bytes each
+unfoldable pub drawHeld : List ℕ → Draw
+drawHeld bytes = record { seed = longHeld bytes; groomers = numberOr bytes 8 4; slopes = numberOr bytes 12 4; turns = numberOr bytes 16 4 }
+
+-- what is drawn from it
+unfoldable pub drawnBy : Draw → List ℕ → Written
+drawnBy d lent = drawOf (d .seed) (countsOf (d .groomers) (d .slopes)) (d .turns) lent
 
 -- as many numbers of two bytes as a table has places
 unfoldable pub unpacked : List ℕ → ℕ → List ℕ

@@ -11,7 +11,7 @@ ghost use Rattle.listing.specs.List.{listOf};
 ghost use Rattle.partition.specs.Partition.{partitionOf};
 ghost use Rattle.screen.specs.Screen.{readShortOf};
 ghost use Rattle.exact.specs.Exact.{exactOf};
-ghost use Rattle.corpus.specs.Line.{countsHeld, unpacked, sumOf, writtenLine, readLine, partitionLine, earnedLine, checkLine};
+ghost use Rattle.corpus.specs.Line.{countsHeld, drawHeld, drawnBy, unpacked, sumOf, writtenLine, readLine, partitionLine, earnedLine, checkLine};
 use super::tools;
 use board::CountAnswer;
 
@@ -81,6 +81,20 @@ pub fn write(counts: &[u8], turns: &[u8], table: &mut [u16], bytes: &mut [u8]) -
     let c = tools::counts_in(counts);
     tools::unpack(turns, &mut *table);
     let answer = writer::write(c.groomers, c.slopes, &*table, &mut *bytes);
+    Line {
+        refusal: answer.refusal,
+        value: answer.bytes as u64,
+        last: tools::byte_sum(&*bytes),
+    }
+}
+
+// Drawing a sheet from what stands in the input, into the lent bytes.
+pub fn draw(asked: &[u8], bytes: &mut [u8]) -> Line
+    ensures { λ r. ⌜ (r ≡ writtenLine (drawnBy (drawHeld (now (asked .entry))) (now (bytes .entry))))
+        × (now (bytes .exit) ≡ drawnBy (drawHeld (now (asked .entry))) (now (bytes .entry)) .lent) ⌝ }
+{
+    let d = tools::draw_in(asked);
+    let answer = trial::draw(d.seed, d.groomers, d.slopes, d.turns, &mut *bytes);
     Line {
         refusal: answer.refusal,
         value: answer.bytes as u64,

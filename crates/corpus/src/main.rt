@@ -20,18 +20,19 @@ const MOST_BYTES: usize = 8192;
 // How many bytes of input follow a case's head.
 fn input_size(entry: u8, first: u16, second: u16) -> usize {
     match entry {
-        1 | 3 | 4 | 6 | 7 | 8 | 9 | 10 | 11 => second as usize,
+        1 | 3 | 4 | 6 | 7 | 8 | 9 | 10 | 11 | 13 => second as usize,
         2 => 8 + 2 * (second as usize),
         5 => first as usize + second as usize,
         _ => 0,
     }
 }
 
-// How many of them are the first part: a sheet, a board, or the writer's two counts. The rest is the
+// How many of them are the first part: a sheet, a board, the writer's two counts, or what a
+// sheet is drawn from. The rest is the
 // board to be checked, or the numbers of the writer's table.
 fn front_size(entry: u8, first: u16, second: u16) -> usize {
     match entry {
-        1 | 3 | 4 | 6 | 7 | 8 | 9 | 10 | 11 => second as usize,
+        1 | 3 | 4 | 6 | 7 | 8 | 9 | 10 | 11 | 13 => second as usize,
         2 => 8,
         5 => first as usize,
         _ => 0,
@@ -51,7 +52,7 @@ fn numbers_lent(entry: u8, first: u16, second: u16) -> usize {
 // How many bytes are lent.
 fn bytes_lent(entry: u8, first: u16) -> usize {
     match entry {
-        2 | 3 | 6 | 11 => first as usize,
+        2 | 3 | 6 | 11 | 13 => first as usize,
         _ => 0,
     }
 }
@@ -129,6 +130,7 @@ fn run_entry(
         9 => print_line(b"assign", entries::assign(front, &mut *numbers)),
         10 => print_read(b"short", entries::short(front, &mut *numbers)),
         11 => print_line(b"best", entries::best(front, &mut *bytes)),
+        13 => print_line(b"draw", entries::draw(front, &mut *bytes)),
         _ => {
             return false;
         }

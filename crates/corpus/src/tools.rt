@@ -2,7 +2,7 @@
 ghost use mathlib.Core.Path.{_≡_};
 ghost use Prim.Native.Nat.{_+_, _*_, _≤_, _<_};
 ghost use lib.ListN.{length};
-ghost use Rattle.corpus.specs.Line.{numberOr, countsHeld, unpacked, heldBefore, numberBefore, byteBefore, mixed, sumOf};
+ghost use Rattle.corpus.specs.Line.{numberOr, longHeld, countsHeld, drawHeld, unpacked, heldBefore, numberBefore, byteBefore, mixed, sumOf};
 
 // What each place of a lent buffer holds before the call.
 const NUMBER_BEFORE: u16 = 42405;
@@ -15,6 +15,14 @@ const MODULUS: u32 = 65521;
 pub struct Counts {
     pub groomers: u32,
     pub slopes: u32,
+}
+
+// What a sheet is drawn from.
+pub struct Draw {
+    pub seed: u64,
+    pub groomers: u32,
+    pub slopes: u32,
+    pub turns: u32,
 }
 
 // The number in the four bytes from a place on, 0 where they are not there.
@@ -50,6 +58,25 @@ pub fn counts_in(bytes: &[u8]) -> Counts
     Counts {
         groomers: quad_or(bytes, 0),
         slopes: quad_or(bytes, 4),
+    }
+}
+
+// The number that stands in the first eight bytes.
+pub fn long_in(bytes: &[u8]) -> u64
+    ensures { λ r. ⌜ r ≡ longHeld (now (bytes .entry)) ⌝ }
+{
+    (quad_or(bytes, 0) as u64) * 4294967296 + (quad_or(bytes, 4) as u64)
+}
+
+// The seed and the three counts that stand in twenty bytes.
+pub fn draw_in(bytes: &[u8]) -> Draw
+    ensures { λ r. ⌜ r ≡ drawHeld (now (bytes .entry)) ⌝ }
+{
+    Draw {
+        seed: long_in(bytes),
+        groomers: quad_or(bytes, 8),
+        slopes: quad_or(bytes, 12),
+        turns: quad_or(bytes, 16),
     }
 }
 

@@ -14,6 +14,7 @@ ghost use Rattle.listing.specs.Answer.{listed};
 ghost use Rattle.listing.specs.List.{listOf};
 ghost use Rattle.partition.specs.Partition.{partitioned, partitionOf};
 ghost use Rattle.screen.specs.Screen.{readShortOf};
+ghost use Rattle.trial.specs.Trial.{drawOf};
 ghost use Rattle.exact.specs.Answer.{earned};
 ghost use Rattle.exact.specs.Exact.{exactOf};
 ghost use Rattle.slopeboard.specs.Part.{stepsPartAt};
@@ -105,6 +106,19 @@ pub extern "C" fn slopeboard_check(sheet: &[u8], board: &[u8]) -> CheckAnswer
     ensures { λ r. ⌜ r ≡ checkOf (now (sheet .entry)) (now (board .entry)) ⌝ }
 {
     audit::check(sheet, board)
+}
+
+#[no_mangle]
+pub extern "C" fn slopeboard_draw(
+    seed: u64,
+    groomers: u32,
+    slopes: u32,
+    turns: u32,
+    bytes: &mut [u8],
+) -> WriteAnswer
+    ensures { λ r. ⌜ written r (now (bytes .exit)) ≡ drawOf seed (countsOf groomers slopes) turns (now (bytes .entry)) ⌝ }
+{
+    trial::draw(seed, groomers, slopes, turns, &mut *bytes)
 }
 
 #[no_mangle]

@@ -9,6 +9,9 @@
 //! down for a while meets both. The median is of all rounds, the best is the fastest
 //! one; the ratio is library to reference by the medians, the growth is the
 //! library's median against that of half as many turns.
+//!
+//! All sheets that are random are drawn from a seed as the library draws them:
+//! lengths from 30 to 90, worths from 1 to 60,000.
 
 use std::hint::black_box;
 use std::time::{Duration, Instant};
@@ -126,6 +129,19 @@ const BEST: Entry = Entry {
     reference: |job| fast::best(&job.sheet, &mut job.bytes).is_ok(),
 };
 
+/// The entry that draws sheets: from one seed, with the counts of the job.
+const DRAW: Entry = Entry {
+    name: "draw",
+    library: |job| {
+        let turns = (job.table.len() / FIELDS) as u32;
+        slopeboard::draw(1, job.groomers, job.slopes, turns, &mut job.bytes).is_ok()
+    },
+    reference: |job| {
+        let turns = (job.table.len() / FIELDS) as u32;
+        fast::draw(1, job.groomers, job.slopes, turns, &mut job.bytes).is_ok()
+    },
+};
+
 /// Best and median time of one call, in nanoseconds.
 #[derive(Clone, Copy, Default)]
 struct Times {
@@ -206,22 +222,60 @@ fn print_row(name: &str, label: &str, [library, reference]: [Times; 2], growth: 
 /// Draws a shift with so many turns.
 type Kind = fn(&mut Rng, usize) -> Shift;
 
+/// A drawn sheet of so many groomers and slopes; its turns are sorted.
+fn drawn(rng: &mut Rng, turns: usize, [groomers, slopes]: [u8; 2]) -> Shift {
+    let seed = 1 + u64::from(rng.below(2_147_483_646));
+    let mut sheet = [0; slopeboard::MOST_SHEET_BYTES];
+    let counts = (groomers.into(), slopes.into(), turns as u32);
+    let len = fast::draw(seed, counts.0, counts.1, counts.2, &mut sheet);
+    let sheet = &sheet[..len.expect("the counts are allowed")];
+    let mut table = vec![[0; FIELDS]; turns];
+    fast::read(sheet, table.as_flattened_mut()).expect("a drawn sheet is accepted");
+    Shift {
+        groomers,
+        slopes,
+        turns: table,
+    }
+}
+
+/// As many groomers and slopes as on a usual night, the turns in any order.
+fn usual_sheet(rng: &mut Rng, turns: usize) -> Shift {
+    let shift = drawn(rng, turns, [12, 80]);
+    shapes::shuffled(rng, &shift)
+}
+
+/// The usual sheet with drivers: somewhat more of them than groomers, most
+/// turns with one.
+fn driven_sheet(rng: &mut Rng, turns: usize) -> Shift {
+    let mut shift = usual_sheet(rng, turns);
+    for turn in &mut shift.turns {
+        turn[5] = rng.below(16) as u16;
+    }
+    shift
+}
+
+/// As many groomers and slopes as there can be, the turns as they are drawn.
+fn widest_sheet(rng: &mut Rng, turns: usize) -> Shift {
+    drawn(rng, turns, [16, 120])
+}
+
 /// Tables whose turns stand in one order or another.
 const ORDERS: [(&str, Kind); 4] = [
-    ("random", shapes::widest),
+    ("random", |rng, turns| {
+        let shift = widest_sheet(rng, turns);
+        shapes::shuffled(rng, &shift)
+    }),
     ("falling", |rng, turns| {
-        shapes::falling(&shapes::widest(rng, turns))
+        shapes::falling(&widest_sheet(rng, turns))
     }),
-    ("sorted", |rng, turns| {
-        shapes::sorted(&shapes::widest(rng, turns))
-    }),
+    ("sorted", widest_sheet),
     ("equal", |rng, turns| {
         shapes::shift(rng, shapes::ALL_EQUAL, turns)
     }),
 ];
 
 /// Sheets whose turns take few groomers or many.
-const CROWDS: [Kind; 3] = [shapes::usual, shapes::widest, |rng, turns| {
+const CROWDS: [Kind; 3] = [usual_sheet, widest_sheet, |rng, turns| {
     shapes::shift(rng, shapes::ALL_EQUAL, turns)
 }];
 
@@ -250,16 +304,16 @@ fn size(jobs: &[Job]) -> String {
 
 fn main() {
     let mut rng = Rng::new(7);
-    let mut usual = [50, 100, 200, 400].map(|turns| jobs(&mut rng, shapes::usual, turns));
+    let mut usual = [50, 100, 200, 400].map(|turns| jobs(&mut rng, usual_sheet, turns));
     let shift = shapes::shift(&mut rng, shapes::A_STEP_A_TURN, 400);
     let mut most_steps = [Job::new(&mut rng, &shift)];
     assert_eq!(most_steps[0].steps(), 400);
-    let mut widest = jobs(&mut rng, shapes::widest, 400);
-    let mut driven = jobs(&mut rng, shapes::usual_with_drivers, 400);
+    let mut widest = jobs(&mut rng, widest_sheet, 400);
+    let mut driven = jobs(&mut rng, driven_sheet, 400);
 
     println!("times of one call in microseconds; n is the number of turns, m of steps,");
     println!("g of groomers that do all turns;");
-    println!("w: 16 groomers, 120 slopes, lengths 30 to 90, worths 1 to 60,000; d: with drivers");
+    println!("12 groomers and 80 slopes; w: 16 groomers, 120 slopes, sorted; d: with drivers");
     println!("plan o: the reference makes its steps in the same order as the library");
     println!("                     library             reference");
     println!("entry  sheet              best    median        best    median   ratio  growth");
@@ -288,7 +342,7 @@ fn main() {
         }
     }
     let simple: Kind = |rng, turns| {
-        let shift = shapes::usual(rng, turns);
+        let shift = usual_sheet(rng, turns);
         shapes::simple(rng, &shift)
     };
     let mut before: Option<f64> = None;
@@ -297,6 +351,13 @@ fn main() {
         let times = measure_all(&BEST, &mut jobs);
         let growth = before.map(|before| times[0].median / before);
         print_row(BEST.name, &size(&jobs), times, growth);
+        before = Some(times[0].median);
+    }
+    let mut before: Option<f64> = None;
+    for turns in [200, 400] {
+        let times = measure_all(&DRAW, &mut jobs(&mut rng, usual_sheet, turns));
+        let growth = before.map(|before| times[0].median / before);
+        print_row(DRAW.name, &format!("n={turns}"), times, growth);
         before = Some(times[0].median);
     }
     for kind in CROWDS {

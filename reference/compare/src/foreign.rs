@@ -98,3 +98,9 @@ pub fn best(sheet: &[u8], map: &mut [u8]) -> BestAnswer {
     let ((sheet, sheet_len), (map, map_len)) = (parts(sheet), parts_mut(map));
     unsafe { raw::slopeboard_best(sheet, sheet_len, map, map_len) }
 }
+
+/// Draws a sheet from a seed.
+pub fn draw(seed: u64, groomers: u32, slopes: u32, turns: u32, out: &mut [u8]) -> BytesAnswer {
+    let (out, out_len) = parts_mut(out);
+    unsafe { raw::slopeboard_draw(seed, groomers, slopes, turns, out, out_len) }
+}

@@ -9,6 +9,7 @@ mod bound;
 mod bytes;
 mod check;
 mod choice;
+mod draw;
 mod foreign;
 mod list;
 mod open;
@@ -35,6 +36,7 @@ fn main() -> ExitCode {
         list::run,
         partition::run,
         best::run,
+        draw::run,
     ];
     let mut good = true;
     for run in entries {

@@ -10,7 +10,7 @@
 //! repository, with the entries that the crate runs:
 //!
 //! ```text
-//! cargo run --release --manifest-path reference/Cargo.toml --bin corpus -- crates/corpus read write plan open check list count chosen assign short best
+//! cargo run --release --manifest-path reference/Cargo.toml --bin corpus -- crates/corpus read write plan open check list count chosen assign short best draw
 //! ```
 //!
 //! A case is five bytes and an input. Byte 0 is the entry's number, bytes 1
@@ -30,6 +30,7 @@
 //! | 9 assign | numbers lent | bytes of the sheet | the sheet |
 //! | 10 short | numbers lent | bytes of the sheet | the sheet |
 //! | 11 best | bytes lent | bytes of the sheet | the sheet |
+//! | 13 draw | bytes lent | 20 | the seed, eight bytes, then groomers, slopes and turns, four bytes each |
 //!
 //! No input has more than 16,384 bytes, no case lends more than 2,408 numbers
 //! or 4,096 bytes, and no table has more than 2,408 numbers.
@@ -55,6 +56,8 @@ mod best;
 mod check;
 #[path = "corpus/choice.rs"]
 mod choice;
+#[path = "corpus/draw.rs"]
+mod draw;
 #[path = "corpus/list.rs"]
 mod list;
 #[path = "corpus/open.rs"]
@@ -93,7 +96,7 @@ const NUMBER_FILL: u16 = 0xA5A5;
 /// An entry's name and what adds its cases.
 type Entry = (&'static str, fn(&mut Corpus));
 
-const ENTRIES: [Entry; 11] = [
+const ENTRIES: [Entry; 12] = [
     ("read", read::add),
     ("write", write::add),
     ("plan", planning::add),
@@ -105,6 +108,7 @@ const ENTRIES: [Entry; 11] = [
     ("assign", partition::add),
     ("short", read::add_short),
     ("best", best::add),
+    ("draw", draw::add),
 ];
 
 /// The two files as they grow.

@@ -1,10 +1,11 @@
 //! The baseline of the bench: reading, writing, planning, checking, listing,
-//! assigning and the best worth, made to be fast. It judges nothing; the tests hold it to
+//! assigning, the best worth and drawing, made to be fast. It judges nothing; the tests hold it to
 //! [`crate::naive`].
 
 mod best;
 mod board;
 mod check;
+mod draw;
 mod listing;
 mod partition;
 mod plan;
@@ -16,6 +17,7 @@ mod write;
 
 pub use best::best;
 pub use check::{check, Sums};
+pub use draw::draw;
 pub use listing::listing;
 pub use partition::assign;
 pub use plan::plan;

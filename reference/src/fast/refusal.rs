@@ -42,3 +42,5 @@ pub const BAD_DRIVER: u8 = 19;
 pub const TOO_MANY_FOR_SCREEN: u8 = 20;
 /// A slope has two turns, or a turn names a driver.
 pub const NOT_SINGLE_TURNS: u8 = 21;
+/// The generator does not take the seed.
+pub const BAD_SEED: u8 = 23;

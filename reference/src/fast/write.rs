@@ -26,10 +26,15 @@ pub fn write(groomers: u32, slopes: u32, table: &[u16], out: &mut [u8]) -> Resul
         turn.judge(groomers, slopes)?;
         *key = key_of(&turn);
     }
+    // Both counts have been judged, so they fit a byte.
+    write_keys(groomers as u8, slopes as u8, keys, out)
+}
+
+/// Writes the sheet of the turns with these keys, which come in any order.
+pub fn write_keys(groomers: u8, slopes: u8, keys: &mut [u64], out: &mut [u8]) -> Result<usize, u8> {
     keys.sort_unstable();
     let mut sheet = [0; MOST_LEN];
-    // Both counts have been judged, so they fit a byte.
-    let len = put(groomers as u8, slopes as u8, keys, &mut sheet);
+    let len = put(groomers, slopes, keys, &mut sheet);
     let place = out.get_mut(..len).ok_or(refusal::BUFFER_TOO_SMALL)?;
     place.copy_from_slice(&sheet[..len]);
     Ok(len)
@@ -39,7 +44,7 @@ pub fn write(groomers: u32, slopes: u32, table: &[u16], out: &mut [u8]) -> Resul
 /// numbers have the order of the turns. The start, which is below 960, and the
 /// groomer share two bytes, so that the driver has room: from the top, slope
 /// 8 bits, groomer 6, start 10, length 16, worth 16, driver 8.
-fn key_of(turn: &Turn) -> u64 {
+pub fn key_of(turn: &Turn) -> u64 {
     u64::from(turn.slope) << 56
         | u64::from(turn.groomer) << 50
         | u64::from(turn.start) << 40

@@ -87,6 +87,15 @@ pub fn best(sheet: &[u8], map: &mut [u8]) -> Result<u32, u8> {
     answer
 }
 
+pub fn draw(seed: u64, [groomers, slopes, turns]: [u32; 3], sheet: &mut [u8]) -> Result<usize, u8> {
+    let mut other = sheet.to_vec();
+    let answer = naive::draw(seed, groomers, slopes, turns, sheet);
+    let fast = fast::draw(seed, groomers, slopes, turns, &mut other);
+    assert_eq!(fast, answer, "{seed} {groomers} {slopes} {turns}");
+    assert_eq!(other, sheet, "{seed} {groomers} {slopes} {turns}");
+    answer
+}
+
 pub fn assign(sheet: &[u8], places: &mut [u16]) -> Result<u16, u8> {
     let mut other = places.to_vec();
     let answer = naive::assign(sheet, places);
