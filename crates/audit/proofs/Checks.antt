@@ -23,9 +23,9 @@ use Rattle.problem.specs.declared.columns.Size.{Size}
 use Rattle.problem.specs.Columns.{turnsBy, Held}
 use Rattle.problem.specs.Problem.{sheetTurns}
 use Rattle.problem.specs.Load.{shiftSize, Posed}
-use Rattle.audit.specs.declared.judge.CheckAnswer.{CheckAnswer}
+use Rattle.checking.specs.declared.CheckAnswer.{CheckAnswer}
 use Rattle.audit.specs.declared.replay.Judgement.{Judgement}
-use Rattle.audit.specs.Check.{boardCauses, checkCauses, checked, checkOf}
+use Rattle.checking.specs.Check.{boardCauses, checkCauses, checked, checkOf}
 use Rattle.audit.specs.Judged.{judged}
 use Rattle.audit.proofs.Faults.{judged-number, judged-limit}
 

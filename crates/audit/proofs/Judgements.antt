@@ -24,7 +24,7 @@ use Rattle.problem.specs.Columns.{turnsBy, Held}
 use Rattle.choices.specs.Bounds.{Lent}
 use Rattle.choices.specs.Below.{apartBelow, independentBelow, maximalBelow, chosenBelow}
 use Rattle.audit.specs.declared.replay.Judgement.{Judgement}
-use Rattle.audit.specs.Check.{choiceCauses, stepCauses, ruleCauses, sumCauses, partCauses, boardCauses}
+use Rattle.checking.specs.Check.{choiceCauses, stepCauses, ruleCauses, sumCauses, partCauses, boardCauses}
 use Rattle.audit.specs.Judged.{faultAt, judged}
 use Rattle.audit.proofs.Faults.{fault-judged, judged-number, judged-same}
 

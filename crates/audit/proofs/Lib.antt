@@ -2,5 +2,3 @@ pub mod Faults
 pub mod Replays
 pub mod Judgements
 pub mod Checks
-pub mod Passing
-pub mod CheckCauses

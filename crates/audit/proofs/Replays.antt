@@ -19,7 +19,7 @@ use Rattle.ratio.specs.Below.{closedBelow}
 use Rattle.ratio.specs.Counting.{costsFrom}
 use Rattle.ratio.proofs.Replaying.{step-is, stepsFrom, steps-from-start, steps-from-more, steps-from-none, costs-start, costs-more, costs-done, ceiling-is}
 use Rattle.audit.specs.declared.replay.Judgement.{Judgement}
-use Rattle.audit.specs.Check.{stepCauses}
+use Rattle.checking.specs.Check.{stepCauses}
 use Rattle.audit.specs.Judged.{faultAt, judged}
 use Rattle.audit.proofs.Faults.{fault-judged, none-judged}
 

@@ -11,22 +11,14 @@ ghost use Rattle.problem.specs.Columns.{turnsBy, Held};
 ghost use Rattle.choices.specs.Bounds.{Lent};
 ghost use Rattle.model.specs.Ceiling.{ceiling};
 ghost use Rattle.audit.specs.Judged.{judged};
-ghost use Rattle.audit.specs.Check.{choiceCauses, ruleCauses, sumCauses, partCauses, boardCauses, checked, checkOf};
+ghost use Rattle.checking.specs.Check.{choiceCauses, ruleCauses, sumCauses, partCauses, boardCauses, checked, checkOf};
 use super::replay::Judgement;
 use super::replay::fault_at;
 use super::replay::steps_fault;
+use checking::CheckAnswer;
 use problem::MOST_TURNS;
 use problem::PLACES;
 use problem::Size;
-
-// What the check returns: a refusal, 0 if none, and the board's tally, worth and ceiling, 0 on a refusal.
-#[repr(C)]
-pub struct CheckAnswer {
-    pub refusal: u8,
-    pub tally: u32,
-    pub worth: u32,
-    pub ceiling: u32,
-}
 
 fn choice_fault(p: Size, cols: &[u16; PLACES], map: &[u8]) -> u8
     requires { ⌜ Lent p (now cols) (now map) ⌝ }

@@ -2,5 +2,4 @@
 mod judge;
 mod replay;
 
-pub use judge::CheckAnswer;
 pub use judge::check;

@@ -12,7 +12,7 @@ ghost use Rattle.board.specs.Board.{stepSize, stepAt, stepsIn};
 ghost use Rattle.problem.specs.Columns.{turnsBy, Held};
 ghost use Rattle.ratio.specs.Bounds.{Residuals};
 ghost use Rattle.ratio.specs.Counting.{costsFrom};
-ghost use Rattle.audit.specs.Check.{stepCauses};
+ghost use Rattle.checking.specs.Check.{stepCauses};
 ghost use Rattle.audit.specs.Judged.{faultAt, judged};
 use problem::PLACES;
 use problem::Size;

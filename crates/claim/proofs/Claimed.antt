@@ -29,11 +29,11 @@ use Rattle.board.specs.Board.{boardTurns, boardSteps, boardTally, boardWorth, b
 use Rattle.board.specs.Open.{WellFormed}
 use Rattle.problem.specs.Problem.{sheetTurns}
 use Rattle.problem.proofs.Posed.{sheet-count, sheet-lengths}
-use Rattle.audit.specs.Check.{Passes, BoardKeeps, checkOf, checked}
-use Rattle.audit.proofs.Passing.{formed-board, parts-pass, passes-iff, passes-answer, passes-promises}
-use Rattle.planner.specs.Plan.{planCauses, plannedBoard, planOf}
-use Rattle.planner.proofs.PlanCauses.{plan-number, plan-accepted-iff}
-use Rattle.planner.proofs.Answers.{planned-back}
+use Rattle.checking.specs.Check.{Passes, BoardKeeps, checkOf, checked}
+use Rattle.checking.proofs.Passing.{formed-board, parts-pass, passes-iff, passes-answer, passes-promises}
+use Rattle.planning.specs.Plan.{planCauses, plannedBoard, planOf}
+use Rattle.planning.proofs.PlanCauses.{plan-number, plan-accepted-iff}
+use Rattle.planning.proofs.Planned.{planned-back}
 use Rattle.claim.specs.Claim.{ByMethod, Claim}
 
 -- ---- the planner's board of a sheet that is not refused

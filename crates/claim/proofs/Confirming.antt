@@ -14,12 +14,12 @@ use Rattle.refusal.proofs.Order.{clear-append}
 use Rattle.refusal.proofs.Written.{wrote-all}
 use Rattle.sheet.specs.Read.{sheetCauses}
 use Rattle.sheet.proofs.Readings.{sheet-numbered}
-use Rattle.audit.specs.declared.judge.CheckAnswer.{CheckAnswer}
-use Rattle.audit.specs.Check.{checked, checkOf}
+use Rattle.checking.specs.declared.CheckAnswer.{CheckAnswer}
+use Rattle.checking.specs.Check.{checked, checkOf}
 use Rattle.planner.specs.declared.PlanAnswer.{PlanAnswer}
-use Rattle.planner.specs.Plan.{planCauses, plannedBoard, planOf}
+use Rattle.planning.specs.Plan.{planCauses, plannedBoard, planOf}
 use Rattle.planner.specs.Answer.{planned}
-use Rattle.planner.proofs.PlanCauses.{plan-number}
+use Rattle.planning.proofs.PlanCauses.{plan-number}
 use Rattle.claim.specs.Confirm.{Confirmation, confirmed, plannedSums, confirmOf}
 use Rattle.claim.proofs.Claimed.{planned-answer, plan-accepted, plan-wrote}
 

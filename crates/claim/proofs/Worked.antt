@@ -23,8 +23,8 @@ use Rattle.board.specs.Choice.{bitOf, chosenIn, choiceIn, clearPast, byteOf, ma
 use Rattle.board.specs.Chosen.{countOf, turnChosen}
 use Rattle.board.specs.Board.{boardMap, boardChoice, stepsIn, writtenSteps, stepBytes, boardOf}
 use Rattle.board.specs.Open.{badSizes, malformed, openOf, stepsPart}
-use Rattle.audit.specs.Check.{choiceCauses, stepCauses, ruleCauses, sumCauses, boardCauses, checkCauses, checkOf}
-use Rattle.planner.specs.Plan.{boardFor, plannedBoard, planCauses, planOf}
+use Rattle.checking.specs.Check.{choiceCauses, stepCauses, ruleCauses, sumCauses, boardCauses, checkCauses, checkOf}
+use Rattle.planning.specs.Plan.{boardFor, plannedBoard, planCauses, planOf}
 use Rattle.text.specs.Decimal.{decimalIn, decimal}
 use Rattle.listing.specs.Round.{startsAt, startsBelow, roundFrom, roundOf}
 use Rattle.listing.specs.Text.{labelled, twoLabelled, headingOf, lineOf, linesOf, groomerText, groomersFrom, sumsLine, listingOf}

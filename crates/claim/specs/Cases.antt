@@ -15,8 +15,8 @@ use Rattle.problem.specs.Problem.{sheetTurns}
 use Rattle.writing.specs.Write.{writeOf}
 use Rattle.board.specs.Open.{openOf, stepsPart}
 use Rattle.board.specs.Chosen.{counted, countOf, turnChosen}
-use Rattle.audit.specs.Check.{checkOf, checked}
-use Rattle.planner.specs.Plan.{planOf}
+use Rattle.checking.specs.Check.{checkOf, checked}
+use Rattle.planning.specs.Plan.{planOf}
 use Rattle.listing.specs.List.{listOf}
 use Rattle.claim.specs.Shift.{shift, shiftTable, shiftWritten, shiftBoard, shiftSteps, shiftListing, wrongWorth, leavesRoom, touchingTurns, header, emptyBoard, lateTurn, drivenTurn, drivenTable, undrivenTurn, drivenShift, twoTurns}
 

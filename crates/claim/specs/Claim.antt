@@ -14,8 +14,8 @@ use Rattle.sheet.specs.Read.{countsIn, turnCount, turnsOf}
 use Rattle.sheet.specs.Accepted.{Accepted}
 use Rattle.board.specs.Board.{boardTally, boardWorth, boardLength, boardChoice, writtenSteps}
 use Rattle.problem.specs.Problem.{sheetTurns}
-use Rattle.audit.specs.Check.{Passes, BoardKeeps, checkOf, checked}
-use Rattle.planner.specs.Plan.{plannedBoard, planOf}
+use Rattle.checking.specs.Check.{Passes, BoardKeeps, checkOf, checked}
+use Rattle.planning.specs.Plan.{plannedBoard, planOf}
 
 -- what is read of s, and so what every set of its turns is made of, is what the reading a in words has
 pub record ReadsAs (s : List ℕ) (a : Accepted s) : Type 0 where

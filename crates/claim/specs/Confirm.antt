@@ -8,10 +8,10 @@ use Rattle.model.specs.Steps.{tally}
 use Rattle.model.specs.Pick.{steps}
 use Rattle.model.specs.Choice.{chosen, choice}
 use Rattle.model.specs.Ceiling.{ceiling}
-use Rattle.audit.specs.declared.judge.CheckAnswer.{CheckAnswer}
+use Rattle.checking.specs.declared.CheckAnswer.{CheckAnswer}
 use Rattle.problem.specs.Problem.{sheetTurns}
-use Rattle.audit.specs.Check.{checked}
-use Rattle.planner.specs.Plan.{planOf}
+use Rattle.checking.specs.Check.{checked}
+use Rattle.planning.specs.Plan.{planOf}
 use Rattle.planner.specs.Answer.{planned}
 use Rattle.claim.specs.declared.Confirmed.{Confirmed}
 

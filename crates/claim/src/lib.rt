@@ -1,7 +1,7 @@
 // Planning, then checking what was planned: the claim, said of the programs.
 ghost use mathlib.Core.Path.{_≡_};
 ghost use Rattle.claim.specs.Confirm.{confirmed, confirmOf};
-use audit::CheckAnswer;
+use checking::CheckAnswer;
 use planner::PlanAnswer;
 
 pub struct Confirmed {

@@ -16,8 +16,8 @@ use Rattle.sheet.specs.Read.{Outcome, outcome}
 use Rattle.writing.specs.Write.{countsOf, writeOf}
 use Rattle.trial.specs.Trial.{drawOf}
 use Rattle.board.specs.Open.{openOf, stepsPart}
-use Rattle.audit.specs.declared.judge.CheckAnswer.{CheckAnswer}
-use Rattle.audit.specs.Check.{checkOf}
+use Rattle.checking.specs.declared.CheckAnswer.{CheckAnswer}
+use Rattle.checking.specs.Check.{checkOf}
 use Rattle.partition.specs.declared.PartitionAnswer.{PartitionAnswer}
 use Rattle.partition.specs.Partition.{Partition, partitioned, partitionOf}
 use Rattle.exact.specs.Exact.{Earned}

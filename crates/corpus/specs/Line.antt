@@ -17,7 +17,7 @@ use Rattle.corpus.specs.declared.tools.Draw.{Draw}
 use Rattle.corpus.specs.declared.entries.Line.{Line}
 use Rattle.corpus.specs.declared.entries.ReadLine.{ReadLine}
 use Rattle.corpus.specs.declared.entries.CheckLine.{CheckLine}
-use Rattle.audit.specs.declared.judge.CheckAnswer.{CheckAnswer}
+use Rattle.checking.specs.declared.CheckAnswer.{CheckAnswer}
 
 -- the number in the k bytes from a place on, 0 where they are not all there
 unfoldable pub numberOr : List ℕ → ℕ → ℕ → ℕ

@@ -18,8 +18,8 @@ use Rattle.board.specs.Board.{boardTally, boardWorth, boardMap}
 use Rattle.board.proofs.Written as written
 use Rattle.problem.specs.Problem.{sheetTurns}
 use Rattle.problem.proofs.Posed.{sheet-count, sheet-lengths, sheet-worths-from}
-use Rattle.planner.specs.Plan.{boardFor, plannedBoard}
-use Rattle.planner.proofs.Answers.{planned-back}
+use Rattle.planning.specs.Plan.{boardFor, plannedBoard}
+use Rattle.planning.proofs.Planned.{planned-back}
 use Rattle.exact.specs.Table.{bestWorth, bestChoice, LeavesOutLatest}
 use Rattle.exact.specs.Single.{singleTurns}
 use Rattle.exact.specs.Sheet.{BestOfSheet}

@@ -8,7 +8,7 @@ use Rattle.model.specs.Feasible.{Feasible, worthOf}
 use Rattle.board.specs.Choice.{mapOf}
 use Rattle.board.specs.Board.{boardTally, boardWorth, boardMap}
 use Rattle.problem.specs.Problem.{sheetTurns}
-use Rattle.planner.specs.Plan.{plannedBoard}
+use Rattle.planning.specs.Plan.{plannedBoard}
 use Rattle.exact.specs.Table.{bestWorth, bestChoice, LeavesOutLatest}
 
 -- ---- as statements

@@ -39,8 +39,8 @@ use Rattle.problem.specs.Columns.{turnsBy, Held}
 use Rattle.problem.specs.Problem.{sheetTurns}
 use Rattle.problem.specs.Load.{shiftSize, Posed}
 use Rattle.problem.proofs.Rows.{count-is, lengths-are}
-use Rattle.planner.specs.Plan.{boardFor}
-use Rattle.planner.proofs.Boards.{planned-bytes, board-most, ReadsBack, board-back}
+use Rattle.planning.specs.Plan.{boardFor}
+use Rattle.planning.proofs.Boards.{planned-bytes, board-most, ReadsBack, board-back}
 use Rattle.listing.specs.declared.lines.Sums.{Sums}
 use Rattle.listing.specs.Text.{listingOf}
 use Rattle.listing.specs.Ready.{Ready}

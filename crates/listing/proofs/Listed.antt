@@ -25,8 +25,8 @@ use Rattle.board.specs.Board.{boardMap}
 use Rattle.board.proofs.Written.{map-read}
 use Rattle.problem.specs.Problem.{sheetTurns}
 use Rattle.problem.proofs.Posed.{sheet-count, sheet-starts, sheet-lengths, sheet-ends, sheet-groomers}
-use Rattle.planner.specs.Plan.{boardFor, plannedBoard}
-use Rattle.planner.proofs.Boards.{choice-count}
+use Rattle.planning.specs.Plan.{boardFor, plannedBoard}
+use Rattle.planning.proofs.Boards.{choice-count}
 use Rattle.listing.specs.Round.{roundOf, Round, StartsApart, shiftMinutes}
 use Rattle.listing.specs.List.{sheetListing, listCauses, listOf, ListCause, FirstListCause}
 use Rattle.listing.proofs.Rounds.{apart-starts, round-is, rounds-ones}

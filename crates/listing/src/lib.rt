@@ -9,7 +9,7 @@ ghost use lib.ListN.{length, replicate};
 ghost use Rattle.wire.specs.Number.{puts};
 ghost use Rattle.problem.specs.Columns.{turnsBy, Held};
 ghost use Rattle.board.specs.Choice.{choiceIn};
-ghost use Rattle.planner.specs.Plan.{boardFor};
+ghost use Rattle.planning.specs.Plan.{boardFor};
 ghost use Rattle.listing.specs.Text.{listingOf, refusedLine};
 ghost use Rattle.listing.specs.Ready.{Ready};
 ghost use Rattle.listing.specs.Limits.{listingBytes};

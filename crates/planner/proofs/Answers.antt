@@ -24,23 +24,9 @@ use Rattle.problem.specs.Problem.{sheetTurns}
 use Rattle.problem.specs.Load.{shiftSize, Posed}
 use Rattle.problem.proofs.Posed.{sheet-count, sheet-worths}
 use Rattle.planner.specs.declared.PlanAnswer.{PlanAnswer}
-use Rattle.planner.specs.Plan.{boardFor, plannedBoard, planCauses, planOf}
+use Rattle.planning.specs.Plan.{boardFor, plannedBoard, planCauses, planOf}
 use Rattle.planner.specs.Answer.{planned, planRefused}
-use Rattle.planner.proofs.Boards.{board-most, ReadsBack, board-back}
-
--- ---- every sheet that is not refused
-
-module _ (s : List ℕ) (z : firstOf (sheetCauses s) ≡ 0) where
-  sheet-few : sheetTurns s .count ≤ mostTurns
-  sheet-few = omega (arith, sheet-count s z, few-turns s z)
-
-  worths : (t : ℕ) → t < sheetTurns s .count → sheetTurns s .worth t ≤ mostWorth
-  worths t h = sheet-worths s z t (omega (arith, sheet-count s z))
-
-  -- its board reads back
-  pub planned-back : ReadsBack (sheetTurns s) (plannedBoard s)
-  unfolding plannedBoard
-  planned-back = board-back (sheetTurns s) sheet-few worths
+use Rattle.planning.proofs.Boards.{board-most}
 
 -- ---- the answer
 

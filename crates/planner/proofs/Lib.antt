@@ -1,4 +1,2 @@
-pub mod Boards
 pub mod Parts
 pub mod Answers
-pub mod PlanCauses

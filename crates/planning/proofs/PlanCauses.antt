@@ -14,7 +14,7 @@ use Rattle.sheet.proofs.Accepting.{accepted-iff}
 use Rattle.sheet.proofs.Causes.{first-same}
 use Rattle.sheet.proofs.ReadCauses.{lent-causes-iff}
 use Rattle.board.specs.Board.{boardLength}
-use Rattle.planner.specs.Plan.{planCauses, planOf, PlanCause, FirstPlanCause}
+use Rattle.planning.specs.Plan.{planCauses, planOf, PlanCause, FirstPlanCause}
 
 pub plan-number : (s lent : List ℕ) → planOf s lent .refusal ≡ firstOf (planCauses s (length lent))
 unfolding planOf

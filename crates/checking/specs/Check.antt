@@ -15,7 +15,7 @@ use Rattle.model.specs.Ceiling.{ceiling}
 use Rattle.sheet.specs.Read.{turnCount, sheetCauses}
 use Rattle.sheet.specs.Accepted.{SheetCause, placeOf, FirstAmong}
 use Rattle.problem.specs.Problem.{sheetTurns}
-use Rattle.audit.specs.declared.judge.CheckAnswer.{CheckAnswer}
+use Rattle.checking.specs.declared.CheckAnswer.{CheckAnswer}
 use Rattle.board.specs.Board.{boardTurns, boardSteps, boardTally, boardWorth, boardChoice, writtenSteps}
 use Rattle.board.specs.Open.{malformed, WellFormed, OpenCause}
 

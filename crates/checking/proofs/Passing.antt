@@ -28,7 +28,7 @@ pub use Rattle.board.proofs.OpenCauses.{formed-board}
 use Rattle.board.proofs.OpenCauses.{board-formed}
 use Rattle.problem.specs.Problem.{sheetTurns}
 use Rattle.problem.proofs.Posed.{sheet-count, sheet-lengths}
-use Rattle.audit.specs.Check.{choiceCauses, stepCauses, ruleCauses, sumCauses, boardCauses, checkCauses, checkOf, checked, Passes, BoardKeeps}
+use Rattle.checking.specs.Check.{choiceCauses, stepCauses, ruleCauses, sumCauses, boardCauses, checkCauses, checkOf, checked, Passes, BoardKeeps}
 
 -- ---- the number
 
@@ -41,7 +41,7 @@ answer-number f t w c = go (eqb f 0) refl
 
 pub check-number : (s b : List ℕ) → checkOf s b .refusal ≡ firstOf (checkCauses s b)
 unfolding checkOf
-check-number s b = answer-number (firstOf (checkCauses s b)) (boardTally b) (boardWorth b) (ceiling (sheetTurns s) (writtenSteps b))
+check-number s b = answer-number (firstOf (checkCauses s b)) _ _ _
 
 -- ---- a board without a cause
 

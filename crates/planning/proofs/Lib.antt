@@ -1,0 +1,3 @@
+pub mod Boards
+pub mod Planned
+pub mod PlanCauses
