@@ -15,7 +15,7 @@ use Rattle.model.specs.Steps.{Step, tally}
 use Rattle.model.specs.Choice.{chosen}
 use Rattle.model.specs.Rules.{independent, maximal, sums}
 use Rattle.model.specs.Ceiling.{ceiling}
-use Rattle.board.specs.Choice.{choiceIn}
+use Rattle.choicemap.specs.Choice.{choiceIn}
 use Rattle.board.specs.Board.{boardTurns, boardSteps, boardTally, boardWorth, boardMap, boardChoice, stepsIn, writtenSteps}
 use Rattle.board.specs.Open.{openOf, stepsPart}
 use Rattle.board.proofs.Openings.{opened, shut, formed-steps, formed-map, part-steps}

@@ -5,7 +5,7 @@ ghost use Prim.Native.Nat.{_*_, _≤_, _<_};
 ghost use lib.ListN.{length};
 ghost use lib.Dec.{eqb, leb};
 ghost use Rattle.refusal.specs.Cause.{firstOf};
-ghost use Rattle.board.specs.Choice.{choiceIn};
+ghost use Rattle.choicemap.specs.Choice.{choiceIn};
 ghost use Rattle.board.specs.Board.{boardHeader, stepSize, boardSteps, boardTally, boardWorth, stepsIn, writtenSteps};
 ghost use Rattle.problem.specs.Columns.{turnsBy, Held};
 ghost use Rattle.choices.specs.Bounds.{Lent};

@@ -10,12 +10,12 @@ use lib.ListN.{length, List·getD-eq-default}
 use borrow.Author.Tests.{lt-ltb, le-ltb}
 use Rattle.refusal.specs.Number.{malformedBoard}
 use Rattle.model.specs.Choice.{has, chosen}
-use Rattle.board.specs.Choice.{chosenIn, choiceIn, onesIn}
+use Rattle.choicemap.specs.Choice.{chosenIn, choiceIn, onesIn}
 use Rattle.board.specs.Board.{boardHeader, boardTurns, boardMap, boardChoice}
 use Rattle.board.specs.Open.{malformed, openOf}
 use Rattle.board.specs.Chosen.{counted, countOf, turnChosen}
-use Rattle.board.proofs.Clean.{choice-has, choice-length}
-use Rattle.board.proofs.Counts.{ones-turns}
+use Rattle.choicemap.proofs.Clean.{choice-has, choice-length}
+use Rattle.choicemap.proofs.Counts.{ones-turns}
 use Rattle.board.proofs.Openings.{opened, formed-header, formed-clear, formed-map}
 
 -- ---- the code's cases

@@ -1,13 +1,6 @@
-pub mod Bytes
-pub mod Maps
 pub mod Openings
-pub mod Clean
 pub mod OpenCauses
 pub mod StepBytes
 pub mod Fronts
 pub mod Written
-pub mod Next
-pub mod NextChosen
-pub mod Counts
 pub mod Chosen
-pub mod OnesFrom

@@ -15,10 +15,10 @@ use Rattle.wire.specs.Number.{Bytes}
 use Rattle.wire.specs.Mark.{boardMark, opensWith}
 use Rattle.wire.proofs.Marks.{board-mark-iff}
 use Rattle.lists.proofs.Bools.{not-both, fails, every-not}
-use Rattle.board.specs.Choice.{mapBytes, chosenIn, clearPast, Clean}
+use Rattle.choicemap.specs.Choice.{mapBytes, chosenIn, clearPast, Clean}
 use Rattle.board.specs.Board.{boardHeader, boardTurns, boardSteps, boardLength, boardMap}
 use Rattle.board.specs.Open.{badSizes, malformed, openOf, WellFormed, OpenCause, short-header, other-mark, more-steps, other-length, bit-past, FirstOpenCause}
-use Rattle.board.proofs.Clean.{clear-bits, bits-clear, bytes-take, bytes-drop}
+use Rattle.choicemap.proofs.Clean.{clear-bits, bits-clear, bytes-take, bytes-drop}
 use Rattle.board.proofs.Openings.{formed-header, formed-mark, formed-steps, formed-length, formed-clear, formed-map, opened}
 
 -- ---- the tests, and what they say

@@ -12,7 +12,7 @@ use Rattle.refusal.specs.Number.{malformedBoard}
 use Rattle.refusal.specs.Cause.{_when_, firstOf}
 use Rattle.wire.specs.Mark.{boardMark, opensWith}
 use Rattle.lists.proofs.Bools.{or-false-1, or-false-2}
-use Rattle.board.specs.Choice.{mapBytes, clearPast}
+use Rattle.choicemap.specs.Choice.{mapBytes, clearPast}
 use Rattle.board.specs.Board.{boardHeader, stepSize, boardTurns, boardSteps, stepsPlace, boardLength, boardMap, stepsIn, writtenSteps}
 use Rattle.board.specs.Open.{badSizes, malformed, openOf, stepsPart}
 

@@ -11,10 +11,10 @@ use Rattle.wire.specs.Number.{bytesOf, Bytes}
 use Rattle.wire.specs.Mark.{boardMark, opensWith}
 use Rattle.wire.proofs.Numbers.{value-read}
 use Rattle.model.specs.Steps.{Step}
-use Rattle.board.specs.Choice.{mapBytes, mapOf}
+use Rattle.choicemap.specs.Choice.{mapBytes, mapOf}
 use Rattle.board.specs.Board.{boardHeader, boardTurns, boardSteps, boardTally, boardWorth, stepsPlace, boardLength, boardMap, boardChoice, writtenSteps, stepBytes, countBytes, headBytes, boardOf}
 use Rattle.board.specs.Open.{badSizes, malformed}
-use Rattle.board.proofs.Clean.{map-length, map-choice, map-clean}
+use Rattle.choicemap.proofs.Clean.{map-length, map-choice, map-clean}
 use Rattle.board.proofs.StepBytes.{Small, step-bytes-length, step-bytes-below, bytes-then, steps-read}
 
 -- a board's parts: header, map, steps

@@ -5,7 +5,7 @@ use mathlib.Core.Bool.{Bool, not, cond, _&&_}
 use lib.Dec.{ltb}
 use Rattle.refusal.specs.Number.{malformedBoard}
 use Rattle.board.specs.declared.opening.CountAnswer.{CountAnswer}
-use Rattle.board.specs.Choice.{chosenIn, onesIn}
+use Rattle.choicemap.specs.Choice.{chosenIn, onesIn}
 use Rattle.board.specs.Board.{boardTurns, boardMap}
 use Rattle.board.specs.Open.{malformed}
 

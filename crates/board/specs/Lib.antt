@@ -1,4 +1,3 @@
-pub mod Choice
 pub mod Board
 pub mod Open
 pub mod Chosen

@@ -9,7 +9,7 @@ use lib.Dec.{ltb, eqb}
 use Rattle.refusal.specs.Number.{malformedBoard}
 use Rattle.refusal.specs.Cause.{_when_, firstOf, FirstAmong}
 use Rattle.wire.specs.Mark.{boardMark, opensWith}
-use Rattle.board.specs.Choice.{mapBytes, chosenIn, clearPast}
+use Rattle.choicemap.specs.Choice.{mapBytes, chosenIn, clearPast}
 use Rattle.board.specs.Board.{boardHeader, stepSize, boardTurns, boardSteps, stepsPlace, boardLength, boardMap}
 
 -- more steps than turns, a length that is not the one these two numbers give, or a map bit set behind that of the last turn

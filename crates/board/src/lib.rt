@@ -1,14 +1,8 @@
-// The board's bytes: opening a board, its numbers, its steps, its choice map, writing one.
-mod choice;
+// The board's bytes: opening a board, its numbers, its steps, the place of its choice map, writing one.
 mod header;
 mod opening;
 mod writing;
 
-pub use choice::count_chosen;
-pub use choice::is_chosen;
-pub use choice::map_bytes;
-pub use choice::next_chosen;
-pub use choice::set_bit;
 pub use header::HEADER_BYTES;
 pub use header::STEP_SIZE;
 pub use header::board_bytes;

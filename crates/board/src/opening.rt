@@ -3,18 +3,18 @@ ghost use mathlib.Core.Path.{_≡_};
 ghost use mathlib.Core.Bool.{false};
 ghost use Prim.Native.Nat.{_≤_};
 ghost use lib.ListN.{length};
-ghost use Rattle.board.specs.Choice.{mapBytes};
+ghost use Rattle.choicemap.specs.Choice.{mapBytes};
 ghost use Rattle.board.specs.Board.{boardHeader, boardTurns, boardMap};
 ghost use Rattle.board.specs.Open.{badSizes, malformed, openOf, stepsPart};
 ghost use Rattle.board.specs.Chosen.{countOf, turnChosen};
-use super::choice::clear_past;
-use super::choice::count_chosen;
-use super::choice::is_chosen;
 use super::header::HEADER_BYTES;
 use super::header::board_bytes;
 use super::header::step_count;
 use super::header::steps_place;
 use super::header::turns;
+use choicemap::clear_past;
+use choicemap::count_chosen;
+use choicemap::is_chosen;
 
 // What counting returns: a refusal, 0 if none, and the number of chosen turns, 0 on a refusal.
 #[repr(C)]

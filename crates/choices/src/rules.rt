@@ -5,7 +5,7 @@ ghost use mathlib.Core.Bool.{true, not, cond, _||_};
 ghost use Prim.Native.Nat.{_+_, _*_, _≤_, _<_};
 ghost use lib.ListN.{length};
 ghost use Rattle.model.specs.Choice.{has, fits};
-ghost use Rattle.board.specs.Choice.{choiceIn};
+ghost use Rattle.choicemap.specs.Choice.{choiceIn};
 ghost use Rattle.problem.specs.Columns.{columnPlaces, turnsBy};
 ghost use Rattle.choices.specs.Bounds.{Lent};
 ghost use Rattle.choices.specs.Below.{apartBelow, independentBelow, maximalBelow, chosenBelow};
@@ -28,7 +28,7 @@ fn take_if_chosen(
     requires { ⌜ (x < p .count) × Lent p (now cols) (now map) × Gathered (turnsBy p (now cols)) (choiceIn (p .count) (now map)) x c (now taken) ⌝ }
     ensures { λ r. ⌜ Gathered (turnsBy p (now (cols .entry))) (choiceIn (p .count) (now (map .entry))) (x + 1) r (now (taken .exit)) ⌝ }
 {
-    if board::is_chosen(map, x) {
+    if choicemap::is_chosen(map, x) {
         put_row(&mut *taken, c, row_at(cols, x));
         return c + 1;
     }
@@ -48,7 +48,7 @@ fn is_apart(
     requires { ⌜ (x < p .count) × Lent p (now cols) (now map) × Gathered (turnsBy p (now cols)) (choiceIn (p .count) (now map)) x c (now taken) ⌝ }
     ensures { λ r. ⌜ r ≡ apartBelow (turnsBy p (now (cols .entry))) (choiceIn (p .count) (now (map .entry))) x x ⌝ }
 {
-    if board::is_chosen(map, x) {
+    if choicemap::is_chosen(map, x) {
         has_room(p.gap, taken, c, row_at(cols, x))
     } else {
         true
@@ -112,7 +112,7 @@ fn is_settled(
     ensures { λ r. ⌜ r ≡ (has (choiceIn (p .count) (now (map .entry))) t
         || not (fits (turnsBy p (now (cols .entry))) (choiceIn (p .count) (now (map .entry))) t)) ⌝ }
 {
-    if board::is_chosen(map, t) {
+    if choicemap::is_chosen(map, t) {
         true
     } else {
         !has_room(p.gap, taken, c, row_at(cols, t))
@@ -151,7 +151,7 @@ fn worth_if_chosen(p: Size, cols: &[u16; PLACES], map: &[u8], t: usize) -> u32
     requires { ⌜ (t < p .count) × Lent p (now cols) (now map) ⌝ }
     ensures { λ r. ⌜ (r ≡ cond (has (choiceIn (p .count) (now (map .entry))) t) (turnsBy p (now (cols .entry)) .worth t) 0) × (r < 65536) ⌝ }
 {
-    if board::is_chosen(map, t) {
+    if choicemap::is_chosen(map, t) {
         row_at(cols, t).worth as u32
     } else {
         0

@@ -19,7 +19,7 @@ use Rattle.model.specs.Pick.{sooner, better, best, pick, nextStep, plan, steps}
 use Rattle.model.specs.Choice.{chosen, fits, choose, back, fill, goBack, choice}
 use Rattle.model.specs.Ceiling.{inGroups, holdAll, fewestGroups, stepCost, ceiling}
 use Rattle.model.specs.Rules.{independent, maximal, noEarlier, right, allRight, noneOpen, sums}
-use Rattle.board.specs.Choice.{bitOf, chosenIn, choiceIn, clearPast, byteOf, mapOf, onesOf, onesIn}
+use Rattle.choicemap.specs.Choice.{bitOf, chosenIn, choiceIn, clearPast, byteOf, mapOf, onesOf, onesIn}
 use Rattle.board.specs.Chosen.{countOf, turnChosen}
 use Rattle.board.specs.Board.{boardMap, boardChoice, stepsIn, writtenSteps, stepBytes, boardOf}
 use Rattle.board.specs.Open.{badSizes, malformed, openOf, stepsPart}

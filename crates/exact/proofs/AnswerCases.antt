@@ -16,8 +16,8 @@ use Rattle.sheet.specs.declared.reader.ReadAnswer.{ReadAnswer}
 use Rattle.sheet.specs.Read.{turnCount, sheetCauses, answerOf}
 use Rattle.sheet.proofs.Readings.{sheet-numbered}
 use Rattle.sheet.proofs.Whole.{whole-refusal, whole-accepted, whole-turns}
-use Rattle.board.specs.Choice.{choiceIn, mapBytes, mapOf, Clean}
-use Rattle.board.proofs.Clean.{clean-map, zeros-clean, zeros-choice, map-length}
+use Rattle.choicemap.specs.Choice.{choiceIn, mapBytes, mapOf, Clean}
+use Rattle.choicemap.proofs.Clean.{clean-map, zeros-clean, zeros-choice, map-length}
 use Rattle.problem.specs.declared.columns.Size.{Size}
 use Rattle.problem.specs.Columns.{turnsBy, Held}
 use Rattle.problem.specs.Problem.{sheetTurns}

@@ -25,7 +25,7 @@ use Rattle.sheet.proofs.Readings.{sheet-numbered}
 use Rattle.sheet.proofs.Accepting.{accepted-iff}
 use Rattle.sheet.proofs.Causes.{first-same, cause-there, there-cause-for}
 use Rattle.sheet.proofs.ReadCauses.{sheet-places}
-use Rattle.board.specs.Choice.{mapBytes}
+use Rattle.choicemap.specs.Choice.{mapBytes}
 use Rattle.problem.specs.Problem.{sheetTurns}
 use Rattle.exact.specs.Single.{aloneBelow, singleTurn, singleTurns}
 use Rattle.exact.specs.Exact.{bestCauses, Earned, found, refusedWith, exactOf, BestCause, of-sheet, two-turns, names-driver, few-bytes, FirstBestCause}

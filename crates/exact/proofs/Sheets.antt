@@ -13,7 +13,7 @@ use Rattle.model.specs.Feasible.{Feasible, worthOf, OneTurnASlope}
 use Rattle.model.proofs.Promised.{planned-length}
 use Rattle.sheet.specs.Read.{sheetCauses}
 use Rattle.sheet.proofs.Unrefused.{few-turns}
-use Rattle.board.specs.Choice.{mapOf}
+use Rattle.choicemap.specs.Choice.{mapOf}
 use Rattle.board.specs.Board.{boardTally, boardWorth, boardMap}
 use Rattle.board.proofs.Written as written
 use Rattle.problem.specs.Problem.{sheetTurns}

@@ -11,7 +11,7 @@ use Rattle.refusal.specs.Cause.{Cause, _when_, firstOf, FirstAmong}
 use Rattle.model.specs.Turns.{Turns}
 use Rattle.sheet.specs.Read.{turnCount, sheetCauses}
 use Rattle.sheet.specs.Accepted.{SheetCause, placeOf}
-use Rattle.board.specs.Choice.{mapBytes, mapOf}
+use Rattle.choicemap.specs.Choice.{mapBytes, mapOf}
 use Rattle.problem.specs.Problem.{sheetTurns}
 use Rattle.exact.specs.Table.{bestWorth, bestChoice}
 use Rattle.exact.specs.Single.{singleTurns}

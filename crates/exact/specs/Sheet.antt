@@ -5,7 +5,7 @@ use Prim.Native.Nat.{ℕ, _≤_}
 use Rattle.model.specs.Choice.{chosen}
 use Rattle.model.specs.Rules.{Independent}
 use Rattle.model.specs.Feasible.{Feasible, worthOf}
-use Rattle.board.specs.Choice.{mapOf}
+use Rattle.choicemap.specs.Choice.{mapOf}
 use Rattle.board.specs.Board.{boardTally, boardWorth, boardMap}
 use Rattle.problem.specs.Problem.{sheetTurns}
 use Rattle.planning.specs.Plan.{plannedBoard}

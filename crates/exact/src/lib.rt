@@ -2,7 +2,7 @@
 // in order of end, and a set that earns it.
 ghost use mathlib.Core.Path.{_≡_};
 ghost use lib.ListN.{length, replicate};
-ghost use Rattle.board.specs.Choice.{mapBytes, mapOf};
+ghost use Rattle.choicemap.specs.Choice.{mapBytes, mapOf};
 ghost use Rattle.problem.specs.Columns.{turnsBy, Held};
 ghost use Rattle.exact.specs.Table.{bestWorth, bestChoice};
 ghost use Rattle.exact.specs.Exact.{bestIn, exactOf};
@@ -58,7 +58,7 @@ fn answer(p: Size, cols: &[u16; PLACES], map: &mut [u8]) -> BestAnswer
     requires { ⌜ Held p (now cols) ⌝ }
     ensures { λ r. ⌜ earned r (now (map .exit)) ≡ bestIn (turnsBy p (now (cols .entry))) (now (map .entry)) ⌝ }
 {
-    let size = board::map_bytes(p.count as u16);
+    let size = choicemap::map_bytes(p.count as u16);
     if map.len() < size {
         return refused(refusal::BUFFER_TOO_SMALL);
     }

@@ -29,7 +29,7 @@ use Rattle.sheet.specs.Kind.{mostTurns}
 use Rattle.sheet.specs.Read.{countsIn, turnCount, sheetCauses, answerOf}
 use Rattle.sheet.proofs.Readings.{sheet-numbered}
 use Rattle.sheet.proofs.Whole.{whole-refusal, whole-accepted, whole-answer, whole-turns}
-use Rattle.board.specs.Choice.{choiceIn, Clean}
+use Rattle.choicemap.specs.Choice.{choiceIn, Clean}
 use Rattle.board.specs.Board.{boardHeader, stepSize, boardTurns, boardSteps, boardTally, boardWorth, boardMap, boardChoice, boardLength, stepsIn}
 use Rattle.board.specs.Open.{malformed, stepsPart}
 use Rattle.board.proofs.Openings.{formed-header, part-length, part-steps}

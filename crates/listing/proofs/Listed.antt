@@ -20,7 +20,7 @@ use Rattle.sheet.proofs.Accepting.{accepted-iff}
 use Rattle.sheet.proofs.Causes.{first-same}
 use Rattle.sheet.proofs.ReadCauses.{lent-causes-iff}
 use Rattle.sheet.proofs.Unrefused.{few-turns}
-use Rattle.board.specs.Choice.{mapOf, onesIn}
+use Rattle.choicemap.specs.Choice.{mapOf, onesIn}
 use Rattle.board.specs.Board.{boardMap}
 use Rattle.board.proofs.Written.{map-read}
 use Rattle.problem.specs.Problem.{sheetTurns}

@@ -14,8 +14,8 @@ use Rattle.lists.specs.Lists.{tab}
 use Rattle.model.specs.Turns.{Turns}
 use Rattle.model.specs.Choice.{has}
 use Rattle.lists.proofs.Sums.{tab-length, tab-at, tab-same}
-use Rattle.board.specs.Choice.{choiceIn}
-use Rattle.board.proofs.Clean.{zeros-at, zeros-clean}
+use Rattle.choicemap.specs.Choice.{choiceIn}
+use Rattle.choicemap.proofs.Clean.{zeros-at, zeros-clean}
 use Rattle.listing.specs.declared.lines.Sums.{Sums}
 use Rattle.listing.specs.Round.{startsAt, startsBelow, roundFrom, roundOf, shiftMinutes, StartsApart}
 use Rattle.listing.specs.Text.{lineOf, linesOf, headingOf, groomerText, groomersFrom, sumsLine, listingOf}

@@ -16,9 +16,9 @@ use Rattle.model.specs.Rules.{Independent}
 use Rattle.model.specs.Feasible.{Distinct, empty, other}
 use Rattle.lists.proofs.Bools.{fails, not-apart, and-1, and-2, and-of}
 use Rattle.lists.proofs.Sums.{sum-add, sum-zero, sum-same, sum-swap, sum-hit, all-of, all-map}
-use Rattle.board.specs.Choice.{onesIn, mapOf}
-use Rattle.board.proofs.Clean.{map-choice, map-clean}
-use Rattle.board.proofs.Counts.{ones-turns}
+use Rattle.choicemap.specs.Choice.{onesIn, mapOf}
+use Rattle.choicemap.proofs.Clean.{map-choice, map-clean}
+use Rattle.choicemap.proofs.Counts.{ones-turns}
 use Rattle.listing.specs.Round.{shiftMinutes, startsAt, startsBelow, roundFrom, roundOf, In, here, later, Rising, Round, StartsApart}
 use Rattle.listing.specs.Round as round
 

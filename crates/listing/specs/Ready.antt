@@ -1,7 +1,7 @@
 -- What the listing's functions ask of what they are lent. Assumes nothing.
 use Prim.Native.Nat.{ℕ}
 use mathlib.Core.List.{List}
-use Rattle.board.specs.Choice.{choiceIn, Clean}
+use Rattle.choicemap.specs.Choice.{choiceIn, Clean}
 use Rattle.problem.specs.declared.columns.Size.{Size}
 use Rattle.problem.specs.Columns.{turnsBy, Held}
 use Rattle.listing.specs.Round.{StartsApart}

@@ -8,7 +8,7 @@ ghost use Prim.Native.Nat.{_*_, _≤_, _<_};
 ghost use lib.ListN.{length, replicate};
 ghost use Rattle.wire.specs.Number.{puts};
 ghost use Rattle.problem.specs.Columns.{turnsBy, Held};
-ghost use Rattle.board.specs.Choice.{choiceIn};
+ghost use Rattle.choicemap.specs.Choice.{choiceIn};
 ghost use Rattle.planning.specs.Plan.{boardFor};
 ghost use Rattle.listing.specs.Text.{listingOf, refusedLine};
 ghost use Rattle.listing.specs.Ready.{Ready};

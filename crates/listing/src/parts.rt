@@ -5,7 +5,7 @@ ghost use lib.ListN.{length};
 ghost use Rattle.wire.specs.Number.{puts};
 ghost use Rattle.text.specs.Place.{lastPlace};
 ghost use Rattle.problem.specs.Columns.{turnsBy, Held};
-ghost use Rattle.board.specs.Choice.{choiceIn};
+ghost use Rattle.choicemap.specs.Choice.{choiceIn};
 ghost use Rattle.listing.specs.Ready.{Ready};
 ghost use Rattle.listing.specs.Text.{groomerText, groomersFrom, listingOf};
 use super::lines::Sums;

@@ -2,7 +2,7 @@ use borrow.Author.Needs.{needs}
 use Rattle.choices.proofs.Chosen.{all-cases}
 use Rattle.choices.specs.Gathered.{Gathered}
 use Rattle.choices.specs.Below.{independentBelow}
-use Rattle.board.specs.Choice.{choiceIn}
+use Rattle.choicemap.specs.Choice.{choiceIn}
 use Rattle.problem.specs.Columns.{turnsBy}
 use mathlib.Core.Bool.{true}
 use mathlib.Core.Path.{_≡_}

@@ -1,7 +1,7 @@
 use borrow.Author.Needs.{needs}
 use Rattle.choices.proofs.Chosen.{all-cases}
 use Rattle.choices.specs.Gathered.{Gathered}
-use Rattle.board.specs.Choice.{choiceIn}
+use Rattle.choicemap.specs.Choice.{choiceIn}
 use Rattle.problem.specs.Columns.{turnsBy}
 use Prim.Native.Nat.{_-_, _≤_}
 use Rattle.choices.proofs.rules.take_chosen.Statement.{statement}

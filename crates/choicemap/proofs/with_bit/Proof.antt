@@ -1,7 +1,7 @@
-use Rattle.board.proofs.Bytes.{with-bit-byte}
+use Rattle.choicemap.proofs.Bytes.{with-bit-byte}
 use borrow.Author.Needs.{needs}
-use Rattle.board.proofs.choice.with_bit.Statement.{statement}
-use Rattle.board.proofs.choice.with_bit.Tie as tie
+use Rattle.choicemap.proofs.with_bit.Statement.{statement}
+use Rattle.choicemap.proofs.with_bit.Tie as tie
 
 cast-result : tie.Need-cast-result
 cast-result c = search needs

@@ -1,7 +1,7 @@
-use Rattle.board.proofs.Maps.{map-cases}
+use Rattle.choicemap.proofs.Maps.{map-cases}
 use borrow.Author.Needs.{needs}
-use Rattle.board.proofs.choice.set_bit.Statement.{statement}
-use Rattle.board.proofs.choice.set_bit.Tie as tie
+use Rattle.choicemap.proofs.set_bit.Statement.{statement}
+use Rattle.choicemap.proofs.set_bit.Tie as tie
 
 slice-read-b : tie.Need-slice-read-b
 slice-read-b c = search needs

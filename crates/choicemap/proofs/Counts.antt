@@ -10,8 +10,8 @@ use Rattle.lists.specs.Lists.{sum, below}
 use Rattle.model.specs.Choice.{has, chosen}
 use Rattle.lists.proofs.Bools.{every-at}
 use Rattle.lists.proofs.Sums.{sum-same, sum-split, sum-zero, all-below}
-use Rattle.board.specs.Choice.{bitOf, mapBytes, chosenIn, choiceIn, onesOf, onesIn, clearPast}
-use Rattle.board.proofs.Clean.{choice-has}
+use Rattle.choicemap.specs.Choice.{bitOf, mapBytes, chosenIn, choiceIn, onesOf, onesIn, clearPast}
+use Rattle.choicemap.proofs.Clean.{choice-has}
 
 -- 1 for a bit that stands
 abbrev pub one : Bool → ℕ

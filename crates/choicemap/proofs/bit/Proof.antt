@@ -1,8 +1,8 @@
-use Rattle.board.specs.Choice.{bitOf}
+use Rattle.choicemap.specs.Choice.{bitOf}
 use mathlib.Core.Path.{refl}
 use borrow.Author.Needs.{needs}
-use Rattle.board.proofs.choice.bit.Statement.{statement}
-use Rattle.board.proofs.choice.bit.Tie as tie
+use Rattle.choicemap.proofs.bit.Statement.{statement}
+use Rattle.choicemap.proofs.bit.Tie as tie
 
 cast-result : tie.Need-cast-result
 cast-result c = search needs

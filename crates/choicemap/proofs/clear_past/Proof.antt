@@ -1,13 +1,13 @@
-use Rattle.board.proofs.Maps.{clear-more, clear-cases}
-use Rattle.board.specs.Choice.{chosenIn}
+use Rattle.choicemap.proofs.Maps.{clear-more, clear-cases}
+use Rattle.choicemap.specs.Choice.{chosenIn}
 use Rattle.lists.specs.Lists.{every}
 use lib.ListN.{length}
 use mathlib.Core.Bool.{true, not}
 use mathlib.Core.Path.{_≡_}
 use Prim.Native.Nat.{_+_, _-_, _*_, _≤_}
 use borrow.Author.Needs.{needs}
-use Rattle.board.proofs.choice.clear_past.Statement.{statement}
-use Rattle.board.proofs.choice.clear_past.Tie as tie
+use Rattle.choicemap.proofs.clear_past.Statement.{statement}
+use Rattle.choicemap.proofs.clear_past.Tie as tie
 
 abbrev Inv-loop : tie.InvT-loop
 Inv-loop map n first end t₀ t = (n ≤ t) × (t ≤ 8 * length map) × (every (λ k. not (chosenIn map (n + k))) (t - n) ≡ true)

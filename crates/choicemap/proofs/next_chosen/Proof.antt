@@ -1,11 +1,11 @@
-use Rattle.board.proofs.Next.{next-cases}
-use Rattle.board.specs.Choice.{nextChosen}
+use Rattle.choicemap.proofs.Next.{next-cases}
+use Rattle.choicemap.specs.Choice.{nextChosen}
 use lib.ListN.{length}
 use mathlib.Core.Path.{_≡_}
 use Prim.Native.Nat.{_-_, _*_, _≤_}
 use borrow.Author.Needs.{needs}
-use Rattle.board.proofs.choice.next_chosen.Statement.{statement}
-use Rattle.board.proofs.choice.next_chosen.Tie as tie
+use Rattle.choicemap.proofs.next_chosen.Statement.{statement}
+use Rattle.choicemap.proofs.next_chosen.Tie as tie
 
 abbrev Inv-loop : tie.InvT-loop
 Inv-loop map t end u₀ u = (u ≤ 8 * length map) × (nextChosen map u ≡ nextChosen map t)

@@ -1,7 +1,7 @@
-use Rattle.board.proofs.Maps.{map-cases}
+use Rattle.choicemap.proofs.Maps.{map-cases}
 use borrow.Author.Needs.{needs}
-use Rattle.board.proofs.choice.is_chosen.Statement.{statement}
-use Rattle.board.proofs.choice.is_chosen.Tie as tie
+use Rattle.choicemap.proofs.is_chosen.Statement.{statement}
+use Rattle.choicemap.proofs.is_chosen.Tie as tie
 
 shared-slice-read-bit : tie.Need-shared-slice-read-bit
 shared-slice-read-bit c = search needs

@@ -6,7 +6,7 @@ use mathlib.Core.List.{List}
 use native.Mathlib.Omega.{arith}
 use native.Mathlib.Decide.{ℕ-discrete}
 use lib.ListN.{length}
-use Rattle.board.specs.Choice.{chosenIn, nextAmong, nextChosen}
+use Rattle.choicemap.specs.Choice.{chosenIn, nextAmong, nextChosen}
 
 -- what holds of the turn found, whether it is the first one or a later one
 module _ (map : List ℕ) (P : ℕ → ℕ → ℕ → Type 0) (ends : (t : ℕ) → P 0 t t) (found : (d t : ℕ) → chosenIn map t ≡ true → P (suc d) t t)

@@ -15,8 +15,8 @@ use Rattle.lists.specs.Lists.{tab}
 use Rattle.model.specs.Choice.{has}
 use Rattle.lists.proofs.Bools.{every-at, every-of}
 use Rattle.lists.proofs.Sums.{sum-same, tab-length, tab-at}
-use Rattle.board.specs.Choice.{bitOf, mapBytes, chosenIn, choiceIn, withBit, withTurn, clearPast, byteOf, mapOf, Clean}
-use Rattle.board.proofs.Bytes as byte
+use Rattle.choicemap.specs.Choice.{bitOf, mapBytes, chosenIn, choiceIn, withBit, withTurn, clearPast, byteOf, mapOf, Clean}
+use Rattle.choicemap.proofs.Bytes as byte
 
 -- the choice that a map holds has a turn just where its bit stands
 pub choice-has : (n : ℕ) (map : List ℕ) (t : ℕ) → t < n → has (choiceIn n map) t ≡ chosenIn map t

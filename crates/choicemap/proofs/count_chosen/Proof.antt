@@ -1,11 +1,11 @@
-use Rattle.board.proofs.Maps.{ones-cases}
-use Rattle.board.specs.Choice.{onesIn}
+use Rattle.choicemap.proofs.Maps.{ones-cases}
+use Rattle.choicemap.specs.Choice.{onesIn}
 use lib.ListN.{length, drop}
 use mathlib.Core.Path.{_≡_}
 use Prim.Native.Nat.{_+_, _-_, _*_, _≤_}
 use borrow.Author.Needs.{needs}
-use Rattle.board.proofs.choice.count_chosen.Statement.{statement}
-use Rattle.board.proofs.choice.count_chosen.Tie as tie
+use Rattle.choicemap.proofs.count_chosen.Statement.{statement}
+use Rattle.choicemap.proofs.count_chosen.Tie as tie
 
 abbrev Inv-loop : tie.InvT-loop
 Inv-loop map sum₀ i₀ sum i = (i ≤ length map) × (sum ≤ 8 * i) × (sum + onesIn (drop i map) ≡ onesIn map)

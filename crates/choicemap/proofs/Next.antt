@@ -5,7 +5,7 @@ use mathlib.Core.Bool.{Bool, true, false, cond}
 use mathlib.Core.List.{List}
 use native.Mathlib.Omega.{arith}
 use lib.ListN.{length, getD}
-use Rattle.board.specs.Choice.{bitOf, chosenIn, lowAmong, nextAmong, nextChosen}
+use Rattle.choicemap.specs.Choice.{bitOf, chosenIn, lowAmong, nextAmong, nextChosen}
 
 -- ---- the turns of one byte
 

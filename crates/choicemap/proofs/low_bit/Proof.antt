@@ -1,11 +1,11 @@
 use Prim.Native.Nat.{_*_, _/_, _%_, _^_, _<_}
 use lib.Count.{trailing-le}
-use Rattle.board.proofs.Bytes.{low-byte}
+use Rattle.choicemap.proofs.Bytes.{low-byte}
 use mathlib.Core.Path.{_≡_}
 use native.Mathlib.Omega.{arith}
 use borrow.Author.Needs.{needs}
-use Rattle.board.proofs.choice.low_bit.Statement.{statement}
-use Rattle.board.proofs.choice.low_bit.Tie as tie
+use Rattle.choicemap.proofs.low_bit.Statement.{statement}
+use Rattle.choicemap.proofs.low_bit.Tie as tie
 
 cast-result : tie.Need-cast-result
 cast-result c = search needs

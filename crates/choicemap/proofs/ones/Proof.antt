@@ -1,7 +1,7 @@
-use Rattle.board.proofs.Bytes.{ones-byte, ones-most}
+use Rattle.choicemap.proofs.Bytes.{ones-byte, ones-most}
 use borrow.Author.Needs.{needs}
-use Rattle.board.proofs.choice.ones.Statement.{statement}
-use Rattle.board.proofs.choice.ones.Tie as tie
+use Rattle.choicemap.proofs.ones.Statement.{statement}
+use Rattle.choicemap.proofs.ones.Tie as tie
 
 returns : tie.Need-returns
 returns c = (ones-byte (c .args .x) (c .fits .x .fits), ones-most (c .args .x) (c .fits .x .fits))

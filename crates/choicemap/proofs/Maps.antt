@@ -9,7 +9,7 @@ use lib.ListN.{length, getD, set, drop}
 use lib.Seq.{drop-cons, drop-length}
 use Rattle.lists.specs.Lists.{every}
 use Rattle.lists.proofs.Bools.{every-fails}
-use Rattle.board.specs.Choice.{bitOf, withBit, mapBytes, chosenIn, withTurn, onesOf, onesIn, clearPast}
+use Rattle.choicemap.specs.Choice.{bitOf, withBit, mapBytes, chosenIn, withTurn, onesOf, onesIn, clearPast}
 
 module _ (map : List ℕ) (t : ℕ) where
   pub chosen-is : {r : Bool} → r ≡ bitOf (getD map (t / 8) 0) (t % 8) → r ≡ chosenIn map t

@@ -2,7 +2,7 @@
 ghost use mathlib.Core.Path.{_≡_};
 ghost use Prim.Native.Nat.{_+_, _-_, _*_, _≤_, _<_};
 ghost use lib.ListN.{length};
-ghost use Rattle.board.specs.Choice.{bitOf, withBit, mapBytes, chosenIn, withTurn, onesOf, onesIn, clearPast, lowAmong, nextChosen};
+ghost use Rattle.choicemap.specs.Choice.{bitOf, withBit, mapBytes, chosenIn, withTurn, onesOf, onesIn, clearPast, lowAmong, nextChosen};
 
 // The bytes of a map that has a bit for each of n turns.
 pub fn map_bytes(n: u16) -> usize

@@ -9,9 +9,9 @@ use native.Mathlib.Nat.{sub-zero}
 use native.Mathlib.Decide.{ℕ-discrete}
 use lib.ListN.{length}
 use Rattle.lists.specs.Lists.{sum, below}
-use Rattle.board.specs.Choice.{chosenIn, onesIn, nextAmong, nextChosen}
-use Rattle.board.proofs.Counts.{one, ones-bits}
-use Rattle.board.proofs.NextChosen.{among-ind, among-from}
+use Rattle.choicemap.specs.Choice.{chosenIn, onesIn, nextAmong, nextChosen}
+use Rattle.choicemap.proofs.Counts.{one, ones-bits}
+use Rattle.choicemap.proofs.NextChosen.{among-ind, among-from}
 
 -- the chosen ones of the d turns from t on
 onesAmong : ℕ → List ℕ → ℕ → ℕ

@@ -12,7 +12,7 @@ use lib.ListN.{length, getD}
 use lib.Count as count
 use Rattle.lists.specs.Lists.{sum, below, tab}
 use Rattle.lists.proofs.Sums.{tab-length, tab-at}
-use Rattle.board.specs.Choice.{bitOf, withBit, onesOf, lowAmong}
+use Rattle.choicemap.specs.Choice.{bitOf, withBit, onesOf, lowAmong}
 
 -- f at every number below n
 allBelow : ℕ → (ℕ → Bool) → Bool
