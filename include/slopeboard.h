@@ -20,8 +20,8 @@
  *   the order under each function says which is given.
  * - On success, the places of a lent buffer past the last one written hold what they held before.
  * - All working space is on the caller's stack, and no function calls itself. In bytes, read off the compiled
- *   code: slopeboard_list 24,296, slopeboard_plan 20,424, slopeboard_best 14,568, slopeboard_draw 11,576,
- *   slopeboard_check 11,416, slopeboard_assign 10,536, slopeboard_write 6,712, slopeboard_read and
+ *   code: slopeboard_list 20,352, slopeboard_plan 16,480, slopeboard_best 13,024, slopeboard_draw 11,528,
+ *   slopeboard_check 11,416, slopeboard_assign 10,624, slopeboard_write 6,664, slopeboard_read and
  *   slopeboard_read_short 4,936, each of the others fewer than 100. What memcpy and memset need comes on top.
  *
  * In sheets and boards, a number of several bytes begins with its high byte. Turns are numbered from 0

@@ -6,7 +6,7 @@ use mathlib.Core.List.{List, [], _∷_, _++_}
 use native.Mathlib.Omega.{arith}
 use native.Mathlib.Numerals.{add-one}
 use lib.Dec.{ltb, eqb}
-use lib.ListN.{length, drop, take, set, getD, replicate, length-set}
+use lib.ListN.{length, drop, take, set, replicate, length-set}
 use lib.Seq.{take-suc-set, take-all, length-take-le}
 use borrow.Author.Tests.{ne-eqb, lt-ltb, le-ltb}
 use Rattle.refusal.specs.Number.{bufferTooSmall, notSingleTurns}
@@ -15,6 +15,7 @@ use Rattle.refusal.proofs.Order.{first-stops, first-goes}
 use Rattle.sheet.specs.declared.reader.ReadAnswer.{ReadAnswer}
 use Rattle.sheet.specs.Read.{turnCount, sheetCauses, answerOf}
 use Rattle.sheet.proofs.Readings.{sheet-numbered}
+use Rattle.sheet.proofs.Unrefused.{few-slopes, few-groomers}
 use Rattle.sheet.proofs.Whole.{whole-refusal, whole-accepted, whole-turns}
 use Rattle.choicemap.specs.Choice.{choiceIn, mapBytes, mapOf, Clean}
 use Rattle.choicemap.proofs.Clean.{clean-map, zeros-clean, zeros-choice, map-length}
@@ -22,15 +23,16 @@ use Rattle.problem.specs.declared.columns.Size.{Size}
 use Rattle.problem.specs.Columns.{turnsBy, Held}
 use Rattle.problem.specs.Problem.{sheetTurns}
 use Rattle.problem.specs.Load.{shiftSize, Posed}
-use Rattle.problem.proofs.Posed.{sheet-count}
+use Rattle.problem.proofs.Posed.{sheet-count, sheet-slopes, sheet-groomers}
 use Rattle.problem.proofs.Rows.{count-is}
 use Rattle.model.specs.Turns.{Turns}
 use Rattle.exact.specs.declared.BestAnswer.{BestAnswer}
-use Rattle.exact.specs.Table.{bestWorth, bestChoice}
-use Rattle.exact.specs.Single.{singleTurns}
+use Rattle.optimum.specs.Table.{bestWorth, bestChoice}
+use Rattle.optimum.specs.Single.{singleTurns}
 use Rattle.exact.specs.Exact.{bestCauses, found, refusedWith, bestIn, exactOf}
 use Rattle.exact.specs.Answer.{earned, bestRefused}
-use Rattle.exact.proofs.Exact.{best-length}
+use Rattle.besttable.specs.Held.{Ranged}
+use Rattle.optimum.proofs.Optimal.{best-length}
 
 -- ---- clearing the map
 
@@ -127,6 +129,16 @@ module _ (s lent : List ℕ) {r : ReadAnswer} (e : r ≡ answerOf s) where
       turns-are : turnsBy p cols ≡ sheetTurns s
       turns-are = rw (q, count) (w f .turns)
 
+      inside : (t : ℕ) → t < p .count → t < turnCount s
+      inside t h = let z : p .count ≡ turnCount s = rw (q, count) in omega (arith, z)
+
+      pub best-ranged : Ranged p cols
+      best-ranged =
+          record {
+            slopes = λ t h. rw turns-are (omega (arith, sheet-slopes s sound t (inside t h), few-slopes s sound));
+            groomers = λ t h. rw turns-are (omega (arith, sheet-groomers s sound t (inside t h), few-groomers s sound));
+          }
+
       module _ {b : Bool} (g : b ≡ singleTurns (turnsBy p cols)) where
         single-is : singleTurns (sheetTurns s) ≡ b
         single-is = sym (g ∙ ap singleTurns turns-are)
@@ -146,4 +158,4 @@ module _ (s lent : List ℕ) {r : ReadAnswer} (e : r ≡ answerOf s) where
         pub best-found : {x : BestAnswer} {lent′ : List ℕ} → b ≡ true → earned x lent′ ≡ bestIn (turnsBy p cols) lent → earned x lent′ ≡ exactOf s lent
         best-found z h = h ∙ ap (λ (T : Turns). bestIn T lent) turns-are ∙ whole z
 
-pub ruleset best-cases = (best-fault, best-held, best-two, best-found)
+pub ruleset best-cases = (best-fault, best-held, best-ranged, best-two, best-found)

@@ -1,7 +1,7 @@
 -- The entry's number: exactly the first cause in the order gives it, and 0 is given exactly where there is none. Assumes nothing.
 use Prim.Native.Nat.{ℕ, zero, suc, _+_, _≤_, _<_}
-use mathlib.Core.Path.{_≡_, refl, sym, ap, _∙_}
-use mathlib.Core.List.{List, [], _∷_, _++_}
+use mathlib.Core.Path.{_≡_, refl, sym, _∙_}
+use mathlib.Core.List.{List, [], _∷_}
 use mathlib.Core.Logic.{_↔_, _≢_, ⊎-elim}
 use mathlib.Core.Bool.{Bool, true, false, not, cond, _&&_, true≢false}
 use native.Mathlib.Omega.{arith}
@@ -15,7 +15,7 @@ use Rattle.refusal.specs.Cause.{Cause, _when_, There, firstOf}
 use Rattle.refusal.proofs.Order.{first-goes, clear-append, clear-cons}
 use Rattle.refusal.proofs.Places.{at-there, there-at, there-left, there-right, there-split}
 use Rattle.wire.specs.Number.{Bytes}
-use Rattle.model.specs.Turns.{Turns, NoDrivers, bySlope}
+use Rattle.model.specs.Turns.{NoDrivers, bySlope}
 use Rattle.model.specs.Feasible.{OneTurnASlope}
 use Rattle.sheet.specs.Kind.{garage}
 use Rattle.sheet.specs.Read.{turnCount, sheetCauses}
@@ -27,9 +27,9 @@ use Rattle.sheet.proofs.Causes.{first-same, cause-there, there-cause-for}
 use Rattle.sheet.proofs.ReadCauses.{sheet-places}
 use Rattle.choicemap.specs.Choice.{mapBytes}
 use Rattle.problem.specs.Problem.{sheetTurns}
-use Rattle.exact.specs.Single.{aloneBelow, singleTurn, singleTurns}
-use Rattle.exact.specs.Exact.{bestCauses, Earned, found, refusedWith, exactOf, BestCause, of-sheet, two-turns, names-driver, few-bytes, FirstBestCause}
-use Rattle.exact.proofs.SingleCases.{single-driverless, single-slopes, single-of}
+use Rattle.optimum.specs.Single.{aloneBelow, singleTurn, singleTurns}
+use Rattle.exact.specs.Exact.{bestCauses, found, refusedWith, exactOf, BestCause, of-sheet, two-turns, names-driver, few-bytes, FirstBestCause}
+use Rattle.optimum.proofs.Singles.{single-driverless, single-slopes, single-of}
 
 pub best-number : (s lent : List ℕ) → exactOf s lent .refusal ≡ firstOf (bestCauses s (length lent))
 unfolding exactOf
@@ -108,20 +108,28 @@ best-refused-iff s lent k z =
     let same = first-same (bestCauses s (length lent)) (BestCause s (length lent)) (λ j r. (best-there s (length lent), there-best s (length lent))) k z in
     (λ e. same .0 (sym (best-number s lent) ∙ e), λ f. best-number s lent ∙ same .1 f)
 
+-- no cause is there: the sheet is not refused, has no drivers and one turn a slope, and the lent bytes hold a bit for each turn
+pub best-clear : (s lent : List ℕ) → exactOf s lent .refusal ≡ 0 →
+    (firstOf (sheetCauses s) ≡ 0) × NoDrivers (sheetTurns s) × OneTurnASlope (sheetTurns s) × (mapBytes (turnCount s) ≤ length lent)
+unfolding bestCauses
+best-clear s lent e =
+    let both = clear-append (sheetCauses s) (behind s (length lent)) (sheet-numbered s) (sym (best-number s lent) ∙ e) in
+    let two = clear-cons (notSingleTurns when not (singleTurns (sheetTurns s))) (bufferTooSmall when ltb (length lent) (mapBytes (turnCount s)) ∷ []) (omega arith) (both .1) in
+    let one = clear-cons (bufferTooSmall when ltb (length lent) (mapBytes (turnCount s))) [] (omega arith) (two .1) in
+    let q : singleTurns (sheetTurns s) ≡ true = not-false (singleTurns (sheetTurns s)) (two .0) in
+    (both .0, single-driverless (sheetTurns s) q, single-slopes (sheetTurns s) q, ltb-false (length lent) (mapBytes (turnCount s)) (one .0))
+
+-- then the answer is the best of the sheet's turns
+pub best-is-found : (s lent : List ℕ) → exactOf s lent .refusal ≡ 0 → exactOf s lent ≡ found (sheetTurns s) lent
+unfolding exactOf
+best-is-found s lent e = rw (sym (best-number s lent) ∙ e)
+
 -- the entry refuses nothing just if the sheet is accepted, has no drivers and one turn a slope, and the lent bytes hold a bit for each turn
 pub best-accepted-iff : {s : List ℕ} → Bytes s → (lent : List ℕ) →
     (exactOf s lent .refusal ≡ 0) ↔ (Accepted s × NoDrivers (sheetTurns s) × OneTurnASlope (sheetTurns s) × (mapBytes (turnCount s) ≤ length lent))
 unfolding bestCauses firstOf
-best-accepted-iff {s} b lent = (λ z. to (sym (best-number s lent) ∙ z), λ h. best-number s lent ∙ from h)
+best-accepted-iff {s} b lent = (λ e. let (z, d, o, l) = best-clear s lent e in (accepted-iff b .0 z, d, o, l), λ h. best-number s lent ∙ from h)
   where
-    to : firstOf (bestCauses s (length lent)) ≡ 0 → Accepted s × NoDrivers (sheetTurns s) × OneTurnASlope (sheetTurns s) × (mapBytes (turnCount s) ≤ length lent)
-    to z =
-        let both = clear-append (sheetCauses s) (behind s (length lent)) (sheet-numbered s) z in
-        let two = clear-cons (notSingleTurns when not (singleTurns (sheetTurns s))) (bufferTooSmall when ltb (length lent) (mapBytes (turnCount s)) ∷ []) (omega arith) (both .1) in
-        let one = clear-cons (bufferTooSmall when ltb (length lent) (mapBytes (turnCount s))) [] (omega arith) (two .1) in
-        let q : singleTurns (sheetTurns s) ≡ true = not-false (singleTurns (sheetTurns s)) (two .0) in
-        (accepted-iff b .0 (both .0), single-driverless (sheetTurns s) q, single-slopes (sheetTurns s) q, ltb-false (length lent) (mapBytes (turnCount s)) (one .0))
-
     from : Accepted s × NoDrivers (sheetTurns s) × OneTurnASlope (sheetTurns s) × (mapBytes (turnCount s) ≤ length lent) → firstOf (bestCauses s (length lent)) ≡ 0
     from (a, d, o, l) =
         first-goes (sheetCauses s) (behind s (length lent)) (sheet-numbered s) (accepted-iff b .1 a)

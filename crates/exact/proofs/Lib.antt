@@ -1,12 +1,4 @@
-pub mod Members
-pub mod Ordering
-pub mod Tables
-pub mod Groomers
-pub mod Tight
-pub mod Exact
 pub mod SingleCases
-pub mod KeyCases
-pub mod TableCases
 pub mod AnswerCases
 pub mod BestCauses
 pub mod Sheets

@@ -13,8 +13,8 @@ use Rattle.sheet.specs.Read.{turnCount, sheetCauses}
 use Rattle.sheet.specs.Accepted.{SheetCause, placeOf}
 use Rattle.choicemap.specs.Choice.{mapBytes, mapOf}
 use Rattle.problem.specs.Problem.{sheetTurns}
-use Rattle.exact.specs.Table.{bestWorth, bestChoice}
-use Rattle.exact.specs.Single.{singleTurns}
+use Rattle.optimum.specs.Table.{bestWorth, bestChoice}
+use Rattle.optimum.specs.Single.{singleTurns}
 
 -- after the sheet's causes: a slope with two turns or a driver, then too few lent bytes for the map
 unfoldable pub bestCauses : List ℕ → ℕ → List Cause

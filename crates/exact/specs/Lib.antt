@@ -1,5 +1,3 @@
-pub mod Table
-pub mod Single
 pub mod Exact
 pub mod Answer
 pub mod Held

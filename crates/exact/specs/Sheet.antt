@@ -2,14 +2,17 @@
 use mathlib.Core.Path.{_≡_}
 use mathlib.Core.List.{List}
 use Prim.Native.Nat.{ℕ, _≤_}
+use lib.ListN.{take, drop}
 use Rattle.model.specs.Choice.{chosen}
 use Rattle.model.specs.Rules.{Independent}
 use Rattle.model.specs.Feasible.{Feasible, worthOf}
-use Rattle.choicemap.specs.Choice.{mapOf}
+use Rattle.choicemap.specs.Choice.{mapBytes, mapOf}
 use Rattle.board.specs.Board.{boardTally, boardWorth, boardMap}
 use Rattle.problem.specs.Problem.{sheetTurns}
 use Rattle.planning.specs.Plan.{plannedBoard}
-use Rattle.exact.specs.Table.{bestWorth, bestChoice, LeavesOutLatest}
+use Rattle.sheet.specs.Read.{turnCount}
+use Rattle.optimum.specs.Table.{bestWorth, bestChoice, LeavesOutLatest}
+use Rattle.exact.specs.Exact.{exactOf}
 
 -- ---- as statements
 
@@ -29,3 +32,16 @@ pub record BestOfSheet (s : List ℕ) : Type 0 where
   pub planned-map : boardMap (plannedBoard s) ≡ mapOf (bestChoice (sheetTurns s))
   -- of two best sets that differ, this one is without the latest of the turns in which they differ
   pub latest : LeavesOutLatest (sheetTurns s) (bestChoice (sheetTurns s))
+
+-- of an answer that refuses nothing
+pub record BestPromised (s lent : List ℕ) : Type 0 where
+  -- a feasible set earns its worth
+  pub attained : (R : List ℕ) × Feasible (sheetTurns s) R × (worthOf (sheetTurns s) R ≡ exactOf s lent .worth)
+  -- none earns more
+  pub greatest : (R : List ℕ) → Feasible (sheetTurns s) R → worthOf (sheetTurns s) R ≤ exactOf s lent .worth
+  -- the planned board has this worth
+  pub planned-worth : boardWorth (plannedBoard s) ≡ exactOf s lent .worth
+  -- the first bytes of the lent place hold that board's choice map, bit for bit
+  pub planned-map : take (mapBytes (turnCount s)) (exactOf s lent .lent) ≡ boardMap (plannedBoard s)
+  -- the bytes behind the map stay as they were
+  pub behind : drop (mapBytes (turnCount s)) (exactOf s lent .lent) ≡ drop (mapBytes (turnCount s)) lent

@@ -4,18 +4,17 @@ ghost use mathlib.Core.Path.{_≡_};
 ghost use lib.ListN.{length, replicate};
 ghost use Rattle.choicemap.specs.Choice.{mapBytes, mapOf};
 ghost use Rattle.problem.specs.Columns.{turnsBy, Held};
-ghost use Rattle.exact.specs.Table.{bestWorth, bestChoice};
+ghost use Rattle.optimum.specs.Table.{bestWorth, bestChoice};
 ghost use Rattle.exact.specs.Exact.{bestIn, exactOf};
 ghost use Rattle.exact.specs.Answer.{earned, bestRefused};
+ghost use Rattle.besttable.specs.Held.{Ranged};
 
-mod order;
 mod single;
-mod table;
 
+use besttable::choose_best;
 use problem::PLACES;
 use problem::Size;
 use single::is_single;
-use table::choose_best;
 
 // What the entry returns: a refusal, 0 if none, and the best worth, 0 on a refusal.
 #[repr(C)]
@@ -36,7 +35,7 @@ fn clear(map: &mut [u8])
 
 // Writes the map of the best set of a problem; returns its worth.
 fn write_best(p: Size, cols: &[u16; PLACES], map: &mut [u8]) -> u32
-    requires { ⌜ Held p (now cols) × (length (now map) ≡ mapBytes (p .count)) ⌝ }
+    requires { ⌜ Held p (now cols) × Ranged p (now cols) × (length (now map) ≡ mapBytes (p .count)) ⌝ }
     ensures { λ r. ⌜ r ≡ bestWorth (turnsBy p (now (cols .entry))) ⌝ }
     ensures { λ _. ⌜ now (map .exit) ≡ mapOf (bestChoice (turnsBy p (now (cols .entry)))) ⌝ }
 {
@@ -55,7 +54,7 @@ fn refused(k: u8) -> BestAnswer
 
 // The best worth of a problem, and the map of the set that earns it into any lent bytes.
 fn answer(p: Size, cols: &[u16; PLACES], map: &mut [u8]) -> BestAnswer
-    requires { ⌜ Held p (now cols) ⌝ }
+    requires { ⌜ Held p (now cols) × Ranged p (now cols) ⌝ }
     ensures { λ r. ⌜ earned r (now (map .exit)) ≡ bestIn (turnsBy p (now (cols .entry))) (now (map .entry)) ⌝ }
 {
     let size = choicemap::map_bytes(p.count as u16);

@@ -1,46 +1,51 @@
 // Whether a shift has one turn a slope and no drivers.
 ghost use mathlib.Core.Path.{_≡_};
 ghost use Prim.Native.Nat.{_<_};
-ghost use Rattle.sheet.specs.Kind.{mostTurns};
+ghost use lib.ListN.{length, getD, set};
+ghost use lib.Dec.{eqb};
 ghost use Rattle.problem.specs.Columns.{turnsBy, Held};
-ghost use Rattle.exact.specs.Single.{singleTurns};
-ghost use Rattle.exact.specs.Held.{singleRow};
+ghost use Rattle.optimum.specs.Single.{singleTurns};
+ghost use Rattle.besttable.specs.Held.{Ranged};
+ghost use Rattle.exact.specs.Held.{slopePlaces, Flagged};
 use problem::PLACES;
 use problem::Size;
 use problem::row_at;
-use problem::shared_of;
 
-// Whether turn x is on no slope of a turn with a lower number, and names no driver. There is no way
-// out before the last: the turns are gone through many at a time.
-fn is_single_row(cols: &[u16; PLACES], x: usize) -> bool
-    requires { ⌜ x < mostTurns ⌝ }
-    ensures { λ r. ⌜ r ≡ singleRow (now (cols .entry)) x ⌝ }
+// A flag for each number of a slope, 0 to the greatest.
+const SLOPES: usize = 121;
+
+// Sets a slope's flag; returns whether it was clear.
+fn is_first(flags: &mut [u8; SLOPES], slope: u16) -> bool
+    requires { ⌜ (slope < slopePlaces) × (length (now flags) ≡ slopePlaces) ⌝ }
+    ensures { λ r. ⌜ (r ≡ eqb (getD (now (flags .entry)) slope 0) 0) × (now (flags .exit) ≡ set (now (flags .entry)) slope 1) ⌝ }
 {
-    let row = row_at(cols, x);
-    let mut all = true;
-    let mut y = 0;
-    while y < x {
-        let shared = shared_of(row, row_at(cols, y));
-        let one = !shared.slope;
-        all = one & all;
-        y += 1;
-    }
-    all & (row.driver == 0)
+    let flag = flags[slope as usize];
+    flags[slope as usize] = 1;
+    flag == 0
 }
 
-// Whether all turns are such.
-pub fn is_single(p: Size, cols: &[u16; PLACES]) -> bool
-    requires { ⌜ Held p (now cols) ⌝ }
+// Whether no turn is on the slope of one before it and none names a driver, with flags that are clear.
+// There is no way out before the last turn.
+fn all_single(p: Size, cols: &[u16; PLACES], flags: &mut [u8; SLOPES]) -> bool
+    requires { ⌜ Held p (now cols) × Ranged p (now cols) × Flagged (turnsBy p (now cols)) (now flags) 0 ⌝ }
     ensures { λ r. ⌜ r ≡ singleTurns (turnsBy p (now (cols .entry))) ⌝ }
 {
-    let n = p.count;
+    let mut all = true;
     let mut x = 0;
-    while x < n {
-        if is_single_row(cols, x) {
-            x += 1;
-        } else {
-            return false;
-        }
+    while x < p.count {
+        let row = row_at(cols, x);
+        let first = is_first(&mut *flags, row.slope);
+        all = (first & (row.driver == 0)) & all;
+        x += 1;
     }
-    true
+    all
+}
+
+// Whether no slope has two turns and no turn names a driver.
+pub fn is_single(p: Size, cols: &[u16; PLACES]) -> bool
+    requires { ⌜ Held p (now cols) × Ranged p (now cols) ⌝ }
+    ensures { λ r. ⌜ r ≡ singleTurns (turnsBy p (now (cols .entry))) ⌝ }
+{
+    let mut flags = [0u8; SLOPES];
+    all_single(p, cols, &mut flags)
 }

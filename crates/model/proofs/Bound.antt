@@ -1,24 +1,24 @@
 -- No feasible set earns more than the steps account for (5.2.1 with the machines of 5.2.4; 5.2.2 where no slope has two turns), with a driver as a further machine. The source bounds the set returned; here any right steps that leave no turn open bound every feasible set. Assumes nothing.
 use mathlib.Core.Path.{_≡_}
-use mathlib.Core.Logic.{_≢_}
 use mathlib.Core.List.{List, [], _∷_}
 use mathlib.Core.Bool.{Bool, true, false, _&&_}
-use Prim.Native.Nat.{ℕ, _*_, _≤_, _<_}
+use Prim.Native.Nat.{ℕ, _+_, _*_, _≤_, _<_}
 use native.Mathlib.Omega.{arith}
 use lib.IntN.{ℤ}
 use lib.ListN.{length, length-map}
-use Rattle.lists.specs.Lists.{sum, All, none, more}
+use Rattle.lists.specs.Lists.{sum, All}
 use Rattle.model.specs.Turns.{Turns, PositiveLengths, NoDrivers, bySlope, byGroomer, byDriver, conflict, Conflict}
 use Rattle.model.specs.Steps.{Step, isOpen, left, initial, touches, taken, afterStep, afterSteps, final, total, tally}
-use Rattle.model.specs.Rules.{Right}
-use Rattle.model.specs.Feasible.{Distinct, Feasible, worthOf, OneTurnASlope}
+use Rattle.model.specs.Rules.{Right, Each}
+use Rattle.model.specs.Feasible.{Feasible, worthOf, OneTurnASlope}
 use Rattle.lists.proofs.Bools.{and-1, and-2}
-use Rattle.lists.proofs.Sums.{sum-mono, sum-zero, all-of, all-map, all-tail}
+use Rattle.lists.proofs.Sums.{sum-mono, sum-zero, all-of, all-map}
 use Rattle.model.proofs.Account.{each-map, Covers, upper}
-use Rattle.model.proofs.Groups.{Apart, empty, other, held, joinedAll, HeldBy, is-j, in-first, in-later, heldBy-held, Clique, Cliques, join-all, groups}
+use Rattle.model.proofs.Groups.{Apart, apart-from, held, joinedAll, HeldBy, is-j, in-first, in-later, heldBy-held, Clique, Cliques, join-all, groups}
 use Rattle.model.proofs.Conflicts
 use Rattle.model.proofs.Residuals
 use Rattle.model.proofs.Residuals.{Closed, RightSteps}
+use Rattle.model.proofs.Planned.{Taking, garage-taking}
 use Rattle.model.proofs.Minutes
 
 -- ---- the groups of a right step: any two turns that it touches in one of them conflict
@@ -54,6 +54,29 @@ unfolding tally
 total-times T k s [] = omega arith
 total-times T k s (x ∷ xs) = omega (arith, total-times T k (afterStep T s x) xs)
 
+-- with as much besides for each step, by any rule of what a step takes
+pub total-besides : (next : List ℤ → Step → List ℤ) (k c : ℕ) (s : List ℤ) (xs : List Step) → total next (λ s x. k * x .amount + c) s xs ≡ k * tally xs + c * length xs
+unfolding tally
+total-besides next k c s [] = omega arith
+total-besides next k c s (x ∷ xs) = omega (arith, total-besides next k c (next s x) xs)
+
+-- ---- against any set, by any rule of what a step takes
+
+module _ (T : Turns) {next : List ℤ → Step → List ℤ} {taken : List ℤ → Step → ℕ → ℕ} (takes : Taking next taken) (R : List ℕ) (range : All (λ t. t < T .count) R) where
+  -- with any cost that covers what a step takes from the set
+  pub bound-taking : {P : List ℤ → Step → Type 0} (cost : List ℤ → Step → ℕ) → ((s : List ℤ) (x : Step) → P s x → sum (taken s x) R ≤ cost s x) →
+      {xs : List Step} → Each next P (initial T) xs → Closed T (final next (initial T) xs) → sum (T .worth) R ≤ total next cost (initial T) xs
+  bound-taking {P} cost h {xs} r p =
+      omega (
+        arith,
+        sum-mono (T .worth) (left (initial T)) (all-map (λ t l. omega (arith, Residuals.initial-left T t l)) range),
+        upper next left taken cost R (each-map covers r),
+        sum-zero (left (final next (initial T) xs)) (all-map (λ t l. Residuals.closed-left (final next (initial T) xs) t (p t l)) range),
+      )
+    where
+      covers : (s : List ℤ) (x : Step) → P s x → Covers next left taken cost R s x
+      covers s x q = record { lost = all-of (λ t. omega (arith, takes .after s x t)) R; cover = h s x q }
+
 -- ---- against a set in which no two conflict
 
 module _ (T : Turns) (R : List ℕ) (range : All (λ t. t < T .count) R) (apart : Apart (conflict T) R) where
@@ -61,16 +84,7 @@ module _ (T : Turns) (R : List ℕ) (range : All (λ t. t < T .count) R) (apart 
   pub bound-cost : (cost : List ℤ → Step → ℕ) → ((s : List ℤ) (x : Step) → Right T s x → sum (taken T s x) R ≤ cost s x) →
       {xs : List Step} → RightSteps T (initial T) xs → Closed T (afterSteps T (initial T) xs) → sum (T .worth) R ≤ total (afterStep T) cost (initial T) xs
   unfolding afterSteps
-  bound-cost cost h {xs} r p =
-      omega (
-        arith,
-        sum-mono (T .worth) (left (initial T)) (all-map (λ t l. omega (arith, Residuals.initial-left T t l)) range),
-        upper (afterStep T) left (taken T) cost R (each-map covers r),
-        sum-zero (left (final (afterStep T) (initial T) xs)) (all-map (λ t l. Residuals.closed-left (final (afterStep T) (initial T) xs) t (p t l)) range),
-      )
-    where
-      covers : (s : List ℤ) (x : Step) → Right T s x → Covers (afterStep T) left (taken T) cost R s x
-      covers s x q = record { lost = all-of (λ t. omega (arith, Residuals.left-after T s x t)) R; cover = h s x q }
+  bound-cost cost h r p = bound-taking T (garage-taking T) R range cost h r p
 
   -- with a cost of k times the amount
   module _ (k : ℕ) (h : (s : List ℤ) (x : Step) → Right T s x → sum (taken T s x) R ≤ k * x .amount) where
@@ -143,16 +157,8 @@ module _ (T : Turns) (R : List ℕ) (range : All (λ t. t < T .count) R) (apart 
 -- ---- against feasible sets
 
 module _ (T : Turns) (lengths : PositiveLengths T) {R : List ℕ} (feasible : Feasible T R) where
-  apart-head : {t : ℕ} {ts : List ℕ} → t < T .count → All (λ u. u < T .count) ts → All (λ u. t ≢ u) ts → All (λ u. t ≢ u → Conflict T t u → ⊥) ts → All (λ u. conflict T t u ≡ false) ts
-  apart-head l none none none = none
-  apart-head {t} l (more {t = u} m ms) (more d ds) (more h hs) = more (Minutes.no-conflict-is T lengths t u l m .1 (h d)) (apart-head l ms ds hs)
-
-  apart-all : {ts : List ℕ} → All (λ t. t < T .count) ts → Distinct ts → All (λ t. All (λ u. t ≢ u → Conflict T t u → ⊥) ts) ts → Apart (conflict T) ts
-  apart-all none Distinct.empty none = empty
-  apart-all (more l ls) (Distinct.other d ds) (more h hs) = other (apart-head l ls d (all-tail h)) (apart-all ls ds (all-map (λ u k. all-tail k) hs))
-
   pub apart-set : Apart (conflict T) R
-  apart-set = apart-all (feasible .numbers) (feasible .once) (feasible .apart)
+  apart-set = apart-from (λ t. t < T .count) (conflict T) (λ t u. Conflict T t u → ⊥) (λ t u l m h. Minutes.no-conflict-is T lengths t u l m .1 h) (feasible .numbers) (feasible .once) (feasible .apart)
 
   module _ {xs : List Step} (right : RightSteps T (initial T) xs) (closed : Closed T (afterSteps T (initial T) xs)) where
     -- any factor k, if a right step takes at most k times its amount from the set

@@ -10,7 +10,7 @@ use lib.Dec.{eqb}
 use lib.ListN.{length, set, replicate, length-set}
 use lib.Seq.{getD-set-same, getD-set-other}
 use borrow.Author.Tests.{eqb-true}
-use Rattle.lists.specs.Lists.{below}
+use Rattle.lists.specs.Lists.{sum, below}
 use Rattle.model.specs.Choice.{has, chosen, choose, back, fill}
 use Rattle.lists.proofs.Bools.{not-both, up-to}
 use Rattle.lists.proofs.Sums.{sum-add, sum-mono, sum-point, sum-room, all-of, all-below}
@@ -136,3 +136,39 @@ chosen-put n S f j l k e =
     go t true q false h = rw (eqb-true t j q, getD-set-same S j true false (omega arith)) (omega arith)
     go t false q true h = rw (put-keeps S j t h) (omega arith)
     go t false q false h = omega arith
+
+-- and no more
+pub chosen-put-most : (n : ℕ) (S : List Bool) (f : ℕ → ℕ) (j : ℕ) → chosen n (set S j true) f ≤ f j + chosen n S f
+unfolding chosen
+chosen-put-most n S f j = both n .1
+  where
+    before : ℕ → ℕ
+    before t = cond (has S t) (f t) 0
+
+    after : ℕ → ℕ
+    after t = cond (has (set S j true) t) (f t) 0
+
+    most : (b : Bool) (k : ℕ) → cond b k 0 ≤ k
+    most true k = omega arith
+    most false k = omega arith
+
+    both : (n : ℕ) → (n ≤ j → sum after (below n) ≤ sum before (below n)) × (sum after (below n) ≤ f j + sum before (below n))
+    both zero = (λ l. omega arith, omega arith)
+    both (suc n) = go (ℕ-discrete n j) (both n)
+      where
+        go : Dec (n ≡ j) → (n ≤ j → sum after (below n) ≤ sum before (below n)) × (sum after (below n) ≤ f j + sum before (below n)) →
+            (suc n ≤ j → after n + sum after (below n) ≤ before n + sum before (below n)) × (after n + sum after (below n) ≤ f j + (before n + sum before (below n)))
+        go (yes q) ih = (λ l. absurd (omega arith), omega (arith, ih .0 (omega arith), most (has (set S j true) n) (f n), ap f q))
+        go (no q) ih = let same : after n ≡ before n = ap (λ (b : Bool). cond b (f n) 0) (getD-set-other S j n true false q) in (λ l. omega (arith, same, ih .0 (omega arith)), omega (arith, same, ih .1))
+
+-- where the sum is above 0, so is the part of a chosen turn
+pub chosen-some : (n : ℕ) (S : List Bool) (f : ℕ → ℕ) → 0 < chosen n S f → (t : ℕ) × (t < n) × (has S t ≡ true) × (0 < f t)
+unfolding chosen
+chosen-some zero S f h = absurd (omega arith)
+chosen-some (suc n) S f h = go (has S n) refl h (ℕ-discrete (f n) 0) (chosen-some n S f)
+  where
+    go : (b : Bool) → has S n ≡ b → 0 < cond b (f n) 0 + sum (λ t. cond (has S t) (f t) 0) (below n) → Dec (f n ≡ 0) →
+        (0 < sum (λ t. cond (has S t) (f t) 0) (below n) → (t : ℕ) × (t < n) × (has S t ≡ true) × (0 < f t)) → (t : ℕ) × (t < suc n) × (has S t ≡ true) × (0 < f t)
+    go true e h (yes q) ih = let r = ih (omega arith) in (r .0, omega (arith, r .1), r .2, r .3)
+    go true e h (no q) ih = (n, omega arith, e, omega arith)
+    go false e h d ih = let r = ih (omega arith) in (r .0, omega (arith, r .1), r .2, r .3)

@@ -3,6 +3,7 @@ pub mod Steps
 pub mod Rules
 pub mod Pick
 pub mod Choice
+pub mod Run
 pub mod Feasible
 pub mod Promises
 pub mod IntervalSelection

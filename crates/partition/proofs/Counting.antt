@@ -9,7 +9,8 @@ use borrow.Author.Tests.{eqb-true, eq-eqb, not-false, not-true}
 use Rattle.lists.specs.Lists.{every, sum, below}
 use Rattle.lists.proofs.Bools.{and-1, and-2, and-of, not-both, every-at, every-not}
 use Rattle.lists.proofs.Sums.{sum-mono, sum-zero, sum-swap, sum-ones, sum-point, at-most-one, all-below, all-of}
-use Rattle.partition.specs.Numbering.{howMany, different}
+use Rattle.sorting.specs.Order.{howMany}
+use Rattle.partition.specs.Numbering.{different}
 
 -- each of those below n that pass p has a partner below m that passes q, and no two have the same: those that pass p are no more
 module _ (p q : ℕ → Bool) (paired : ℕ → ℕ → Bool) (n m : ℕ)

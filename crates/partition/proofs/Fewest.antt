@@ -81,7 +81,7 @@ module _ (T : Turns) where
             (last .0, last .1, holds-minute-iff minute (last .0) .1 (record { begun = omega arith; not-over = omega (arith, lengths (last .0) (last .1)) }), last .2 ∙ sym e)
         go (no e) =
             let taken = numbers-greedy T .smallest (last .0) (k + 1) (last .1) (omega arith) (omega (arith, last .2)) in
-            (taken .turn, taken .inside, holds-minute-iff minute (taken .turn) .1 (record { begun = taken .before .starts; not-over = overlap-lt T (taken .turn) (last .0) (taken .overlaps) .1 }), taken .has-it)
+            (taken .turn, taken .inside, holds-minute-iff minute (taken .turn) .1 (record { begun = taken .before .values; not-over = overlap-lt T (taken .turn) (last .0) (taken .overlaps) .1 }), taken .has-it)
 
     used-held : usedOf T ≤ heldTogether T minute
     unfolding heldTogether

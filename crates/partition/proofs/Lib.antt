@@ -3,7 +3,6 @@ pub mod Counting
 pub mod Orders
 pub mod Numbers
 pub mod Fewest
-pub mod Ranks
 pub mod Serving
 pub mod Places
 pub mod PartitionCauses

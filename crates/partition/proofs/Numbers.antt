@@ -14,8 +14,9 @@ use Rattle.model.specs.Turns.{Turns, overlap}
 use Rattle.model.proofs.Conflicts.{overlap-sym}
 use Rattle.model.proofs.Minutes.{minute-overlap}
 use Rattle.sorting.specs.Sorting.{AllOf, timesIn}
+use Rattle.sorting.specs.Order.{Ascending}
 use Rattle.partition.specs.Numbering.{numberIn, freeFor, numberFor, numberAll, numbersOf, orderByStart, Before, TakenFor, GreedyNumbers, Assignment}
-use Rattle.partition.specs.Underway.{Ascending, Underway}
+use Rattle.partition.specs.Underway.{Underway}
 use Rattle.partition.proofs.Smallest.{first-from, first-below, first-least, first-passes}
 use Rattle.partition.proofs.Orders.{order-length, order-inside, order-rising, order-has}
 
@@ -146,10 +147,10 @@ module _ (T : Turns) (t : ℕ) (ts numbers : List ℕ) (w : Underway T (t ∷ ts
           let had : 1 ≤ numberIn numbers (old .turn) = omega (arith, old .has-it) in
           record { turn = old .turn; inside = old .inside; before = old .before; has-it = still-has (old .turn) (had-other (old .turn) had) ∙ old .has-it; overlaps = old .overlaps }
 
-  rising-rest : Ascending T (t ∷ ts) → Ascending T ts
+  rising-rest : Ascending (T .start) (t ∷ ts) → Ascending (T .start) ts
   rising-rest (Ascending.more a r) = r
 
-  rising-first : Ascending T (t ∷ ts) → AllOf (λ u. Before T t u) ts
+  rising-first : Ascending (T .start) (t ∷ ts) → AllOf (λ u. Before T t u) ts
   rising-first (Ascending.more a r) = a
 
   after-past : (u : ℕ) → 1 ≤ numberIn after u → AllOf (λ x. Before T u x) ts

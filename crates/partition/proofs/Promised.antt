@@ -69,7 +69,7 @@ module _ (T : Turns) (xs ys : List ℕ) (a : GreedyNumbers T xs) (b : GreedyNumb
     where
       go : (u : ℕ) → u < T .count → Before T u t → Dec (T .start u ≡ minute) → (u < bound → u < T .count → T .start u ≡ minute → Same u) → Same u
       go u n p (yes q) ih = ih (omega (arith, p .ties (q ∙ sym e))) n q
-      go u n p (no q) ih = earlier u n (omega (arith, p .starts))
+      go u n p (no q) ih = earlier u n (omega (arith, p .values))
 
   up-to-minute : (minute t : ℕ) → t < T .count → T .start t < minute → Same t
   up-to-minute zero t m l = absurd (omega arith)

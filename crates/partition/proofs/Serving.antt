@@ -248,7 +248,7 @@ module _ (p : Size) (cols : List ℕ) where
             inside = next-inside T turn (drop (suc i) (orderByStart T)) numbers underway-here;
             places = w .underway .places;
             none = next-unnumbered T turn (drop (suc i) (orderByStart T)) numbers underway-here;
-            later = λ u h. all-head (underway-here .past u h) .starts;
+            later = λ u h. all-head (underway-here .past u h) .values;
             few = λ u. omega (arith, underway-here .few u);
           }
 

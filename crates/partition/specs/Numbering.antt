@@ -1,21 +1,17 @@
 -- Every turn gets a number, that of the groomer who does it, where any groomer can do any turn. Groomer fields and slopes play no part. Assumes nothing.
 use mathlib.Core.Path.{_≡_}
-use mathlib.Core.Bool.{Bool, true, not, cond, _&&_, _||_}
+use mathlib.Core.Bool.{Bool, true, not, cond, _&&_}
 use mathlib.Core.List.{List, [], _∷_}
 use Prim.Native.Nat.{ℕ, zero, suc, _+_, _≤_, _<_, max}
 use lib.Dec.{leb, ltb, eqb}
 use lib.ListN.{length, getD, set, replicate}
-use Rattle.lists.specs.Lists.{every, tab, sum, below}
+use Rattle.lists.specs.Lists.{every}
 use Rattle.model.specs.Turns.{Turns, overlap, Holds}
-use Rattle.sorting.specs.Sorting.{sortBy}
-
--- turn x comes no later than turn y: it starts earlier, or in the same minute with no higher turn number
-unfoldable pub comesFirst : Turns → ℕ → ℕ → Bool
-comesFirst T x y = ltb (T .start x) (T .start y) || (eqb (T .start x) (T .start y) && leb x y)
+use Rattle.sorting.specs.Order.{orderBy, howMany, StandsBefore}
 
 -- all turns, by start, then turn number
 unfoldable pub orderByStart : Turns → List ℕ
-orderByStart T = sortBy (comesFirst T) (tab (T .count) (λ t. t))
+orderByStart T = orderBy (T .start) (T .count)
 
 -- the number that a turn has got, 0 for none
 abbrev pub numberIn : List ℕ → ℕ → ℕ
@@ -55,9 +51,8 @@ usedOf T = greatest (numbersOf T)
 -- ---- as statements
 
 -- turn x comes before turn y: it starts no later, and has the lower turn number where both start in one minute
-pub record Before (T : Turns) (x y : ℕ) : Type 0 where
-  pub starts : T .start x ≤ T .start y
-  pub ties : T .start x ≡ T .start y → x < y
+abbrev pub Before : Turns → ℕ → ℕ → Type 0
+Before T x y = StandsBefore (T .start) x y
 
 -- number k is taken when turn t's turn comes: a turn before it has got k and overlaps it
 pub record TakenFor (T : Turns) (numbers : List ℕ) (t k : ℕ) : Type 0 where
@@ -77,10 +72,6 @@ pub record GreedyNumbers (T : Turns) (numbers : List ℕ) : Type 0 where
 -- numbers for turns by any rule, in which two turns of one number hold no minute together, each lengthened by the gap
 abbrev pub Assignment : Turns → (ℕ → ℕ) → Type 0
 Assignment T f = (x y minute : ℕ) → x < T .count → y < T .count → (x ≡ y → ⊥) → f x ≡ f y → Holds T x minute → Holds T y minute → ⊥
-
--- how many numbers below n pass a test
-abbrev pub howMany : (ℕ → Bool) → ℕ → ℕ
-howMany p n = sum (λ t. cond (p t) 1 0) (below n)
 
 -- how many different numbers f gives to those below n: each is counted where it first comes
 unfoldable pub different : (ℕ → ℕ) → ℕ → ℕ

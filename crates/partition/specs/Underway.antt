@@ -1,27 +1,21 @@
 -- Turns that get their numbers one after another, as far as it has come. For inner functions only. Assumes nothing.
 use mathlib.Core.Path.{_≡_}
 use mathlib.Core.Bool.{false}
-use mathlib.Core.List.{List, [], _∷_}
-use Prim.Native.Nat.{ℕ, suc, _+_, _≤_, _<_}
-use lib.Dec.{ltb, eqb}
+use mathlib.Core.List.{List}
+use Prim.Native.Nat.{ℕ, _+_, _≤_, _<_}
+use lib.Dec.{eqb}
 use lib.ListN.{length, getD, drop}
-use Rattle.lists.specs.Lists.{sum, below}
 use Rattle.model.specs.Turns.{Turns, overlap}
-use Rattle.turns.specs.Turn.{shiftMinutes}
 use Rattle.sheet.specs.Kind.{mostTurns}
 use Rattle.sorting.specs.Sorting.{AllOf, timesIn}
+use Rattle.sorting.specs.Order.{Ascending}
 use Rattle.partition.specs.declared.numbering.Groomers.{Groomers}
-use Rattle.partition.specs.Numbering.{numberIn, orderByStart, numberAll, numbersOf, greatest, Before, TakenFor, howMany}
-
--- turns of which each comes before all that follow it
-pub data Ascending (T : Turns) : List ℕ → Type 0 where
-  none : Ascending T []
-  more : {t : ℕ} {ts : List ℕ} → AllOf (λ u. Before T t u) ts → Ascending T ts → Ascending T (t ∷ ts)
+use Rattle.partition.specs.Numbering.{numberIn, orderByStart, numberAll, numbersOf, greatest, Before, TakenFor}
 
 -- the numbers that all turns but these have got: those with a number come before all of these, no two of one number overlap, and each number is the smallest. There are no more numbers than turns that have one
 pub record Underway (T : Turns) (ts numbers : List ℕ) : Type 0 where
   pub places : length numbers ≡ T .count
-  pub rising : Ascending T ts
+  pub rising : Ascending (T .start) ts
   pub inside : AllOf (λ t. t < T .count) ts
   pub past : (u : ℕ) → 1 ≤ numberIn numbers u → AllOf (λ t. Before T u t) ts
   pub rest : (u : ℕ) → u < T .count → timesIn eqb u ts ≡ 0 → 1 ≤ numberIn numbers u
@@ -59,52 +53,6 @@ pub record Serving (T : Turns) (i used : ℕ) (busy numbers : List ℕ) : Type 0
   pub underway : Underway T (drop i (orderByStart T)) numbers
   pub ahead : numberAll T (drop i (orderByStart T)) numbers ≡ numbersOf T
   pub groomers : BusyUntil T numbers used busy
-
--- how many of the first i turns start before a minute
-unfoldable pub startBefore : Turns → ℕ → ℕ → ℕ
-startBefore T minute i = howMany (λ u. ltb (T .start u) minute) i
-
--- how many of them start in it
-unfoldable pub startIn : Turns → ℕ → ℕ → ℕ
-startIn T minute i = howMany (λ u. eqb (T .start u) minute) i
-
--- a turn's place in the order: behind those that start earlier, and those that start in its minute and have a lower number
-unfoldable pub rankOf : Turns → ℕ → ℕ
-rankOf T t = startBefore T (T .start t) (T .count) + startIn T (T .start t) t
-
--- for each minute, how many of the first i turns start in it
-pub record Counted (T : Turns) (at : List ℕ) (i : ℕ) : Type 0 where
-  pub minutes : length at ≡ shiftMinutes
-  pub counts : (m : ℕ) → m < shiftMinutes → getD at m 0 ≡ startIn T m i
-
--- the sum of a list's numbers before place m
-abbrev pub sumBefore : List ℕ → ℕ → ℕ
-sumBefore xs m = sum (λ j. getD xs j 0) (below m)
-
--- the first i places hold the sums of what stood before them, the others what they held
-pub record Summed (old at : List ℕ) (i : ℕ) : Type 0 where
-  pub minutes : length at ≡ length old
-  pub sums : (m : ℕ) → m < i → getD at m 0 ≡ sumBefore old m
-  pub others : (m : ℕ) → i ≤ m → getD at m 0 ≡ getD old m 0
-
--- the first i turns stand at their places; for each minute, the place of the next turn that starts in it
-pub record Placed (T : Turns) (at order : List ℕ) (i : ℕ) : Type 0 where
-  pub minutes : length at ≡ shiftMinutes
-  pub places : length order ≡ T .count
-  pub nexts : (m : ℕ) → m < shiftMinutes → getD at m 0 ≡ startBefore T m (T .count) + startIn T m i
-  pub put : (u : ℕ) → u < i → getD order (rankOf T u) 0 ≡ u
-
--- of the first i turns none starts before the one of the number before it
-unfoldable pub StartsRise : Turns → ℕ → Type 0
-StartsRise T i = (u : ℕ) → suc u < i → T .start u ≤ T .start (suc u)
-
--- the last of the first i turns starts no later than this minute
-unfoldable pub LastStart : Turns → ℕ → ℕ → Type 0
-LastStart T i minute = (u : ℕ) → suc u ≡ i → T .start u ≤ minute
-
--- the first i places hold their own numbers
-unfoldable pub ByNumber : List ℕ → ℕ → Type 0
-ByNumber order i = (t : ℕ) → t < i → getD order t 0 ≡ t
 
 -- the first i places hold 0
 unfoldable pub ClearBelow : List ℕ → ℕ → Type 0

@@ -2,11 +2,13 @@
 use mathlib.Core.Path.{_≡_, refl, sym, _∙_, ap}
 use mathlib.Core.Bool.{Bool}
 use mathlib.Core.List.{List}
-use Prim.Native.Nat.{ℕ, _+_, _*_, _≤_, _<_}
+use Prim.Native.Nat.{ℕ, _+_, _-_, _*_, _≤_, _<_}
 use native.Mathlib.Omega.{arith}
-use lib.ListN.{length, getD, set, length-set}
-use lib.Seq.{getD-set-same, getD-set-other}
+use lib.ListN.{length, getD, set, take, drop, length-set, length-drop}
+use lib.Seq.{getD-set-same, getD-set-other, getD-take, getD-drop, ext-getD, length-take-le}
 use borrow.Author.Tests.{lt-ltb}
+use Rattle.lists.specs.Lists.{tab}
+use Rattle.lists.proofs.Sums.{tab-length, tab-at}
 use Rattle.model.specs.Turns.{Turns, PositiveLengths, oneGroomer, oneDriver, conflict}
 use Rattle.sheet.specs.Kind.{mostTurns}
 use Rattle.problem.specs.declared.ways.Row.{Row}
@@ -169,3 +171,24 @@ module _ (p : Size) (cols : List ℕ) where
 
   pub lengths-are : Held p cols → PositiveLengths (turnsBy p cols)
   lengths-are b t h = b .starts t (omega (arith, count-is))
+
+-- ---- one column
+
+column-part : (cols : List ℕ) (k n : ℕ) (f : ℕ → ℕ) → k + n ≤ length cols → ((t : ℕ) → t < n → getD cols (k + t) 0 ≡ f t) → take (k + n - k) (drop k cols) ≡ tab n f
+column-part cols k n f l h =
+    let e : k + n - k ≡ n = omega arith in
+    let z : length (take n (drop k cols)) ≡ n = length-take-le n (drop k cols) (omega (arith, length-drop k cols)) in
+    rw e (
+    ext-getD 0 (take n (drop k cols)) (tab n f) (z ∙ sym (tab-length n f))
+    (λ i m. let j : i < n = omega arith in getD-take n (drop k cols) i 0 j ∙ getD-drop k cols i 0 ∙ h i j ∙ sym (tab-at n f 0 i j)))
+
+module _ (p : Size) (cols : List ℕ) (w : Held p cols) where
+  pub starts-part : take (2 * mostTurns + p .count - 2 * mostTurns) (drop (2 * mostTurns) cols) ≡ tab (p .count) (turnsBy p cols .start)
+  unfolding rowIn
+  starts-part = column-part cols (2 * mostTurns) (p .count) (turnsBy p cols .start) (omega (arith, w .places, w .few)) (λ t h. start-at p cols t h refl)
+
+  pub ends-part : take (3 * mostTurns + p .count - 3 * mostTurns) (drop (3 * mostTurns) cols) ≡ tab (p .count) (turnsBy p cols .end)
+  unfolding rowIn
+  ends-part = column-part cols (3 * mostTurns) (p .count) (turnsBy p cols .end) (omega (arith, w .places, w .few)) (λ t h. end-at p cols t h refl)
+
+pub ruleset column-cases = (starts-part, ends-part)

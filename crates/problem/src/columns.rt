@@ -3,7 +3,8 @@
 ghost use mathlib.Core.Path.{_≡_};
 ghost use Prim.Native.Nat.{_+_, _*_, _<_};
 ghost use Rattle.sheet.specs.Kind.{mostTurns};
-ghost use Rattle.problem.specs.Columns.{rowIn, withRow};
+ghost use Rattle.lists.specs.Lists.{tab};
+ghost use Rattle.problem.specs.Columns.{rowIn, withRow, turnsBy, Held};
 use super::ways::Row;
 
 // A column has a place for each turn that a sheet can have.
@@ -56,4 +57,24 @@ pub fn put_row(cols: &mut [u16; PLACES], i: usize, r: Row)
     cols[ENDS + i] = r.end;
     cols[WORTHS + i] = r.worth;
     cols[DRIVERS + i] = r.driver;
+}
+
+// All turns' starts, as that part of the columns.
+pub fn starts(p: Size, cols: &[u16; PLACES]) -> &[u16]
+    requires { ⌜ Held p (now cols) ⌝ }
+    ensures { λ r. ⌜ now r ≡ tab (p .count) (turnsBy p (now (cols .entry)) .start) ⌝ }
+{
+    let all = &cols[..];
+    let behind = STARTS + p.count;
+    &all[STARTS..behind]
+}
+
+// All turns' ends.
+pub fn ends(p: Size, cols: &[u16; PLACES]) -> &[u16]
+    requires { ⌜ Held p (now cols) ⌝ }
+    ensures { λ r. ⌜ now r ≡ tab (p .count) (turnsBy p (now (cols .entry)) .end) ⌝ }
+{
+    let all = &cols[..];
+    let behind = ENDS + p.count;
+    &all[ENDS..behind]
 }

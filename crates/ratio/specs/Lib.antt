@@ -1,4 +1,3 @@
 pub mod Bounds
 pub mod Below
-pub mod Remaining
 pub mod Counting

@@ -1,6 +1,2 @@
 pub mod Sorted
-pub mod Merging
-pub mod Heads
-pub mod Ends
-pub mod Passing
-pub mod Starts
+pub mod Order

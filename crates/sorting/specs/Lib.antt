@@ -1,2 +1,3 @@
 pub mod Sorting
-pub mod Runs
+pub mod Order
+pub mod Counting

@@ -17,7 +17,7 @@ use std::hint::black_box;
 use std::time::{Duration, Instant};
 
 use slopeboard_reference::gen::{self, Rng, Shift};
-use slopeboard_reference::limits::FIELDS;
+use slopeboard_reference::limits::{FIELDS, LAST_END};
 use slopeboard_reference::{fast, naive, shapes};
 
 /// How many times each version is timed on a sheet.
@@ -274,6 +274,29 @@ const ORDERS: [(&str, Kind); 4] = [
     }),
 ];
 
+/// Sheets with one turn a slope, of many groomers or few. The last has turns
+/// that are up to five hours long, so that many are in the way of one another.
+const SIMPLE: [(&str, Kind); 4] = [
+    ("k=16", |rng, turns| one_turn_a_slope(rng, turns, 16, 90)),
+    ("k=4", |rng, turns| one_turn_a_slope(rng, turns, 4, 90)),
+    ("k=1", |rng, turns| one_turn_a_slope(rng, turns, 1, 90)),
+    ("k=1 long", |rng, turns| one_turn_a_slope(rng, turns, 1, 300)),
+];
+
+/// A shift with one turn a slope and no drivers: so many groomers, and lengths
+/// up to so many minutes.
+fn one_turn_a_slope(rng: &mut Rng, turns: usize, groomers: u8, longest: u32) -> Shift {
+    let mut shift = widest_sheet(rng, turns);
+    shift.groomers = groomers;
+    for [_, groomer, start, length, ..] in &mut shift.turns {
+        let minutes = rng.between(1, longest);
+        *groomer = rng.between(1, groomers.into()) as u16;
+        *start = rng.below(LAST_END + 1 - minutes) as u16;
+        *length = minutes as u16;
+    }
+    shapes::simple(rng, &shift)
+}
+
 /// Sheets whose turns take few groomers or many.
 const CROWDS: [Kind; 3] = [usual_sheet, widest_sheet, |rng, turns| {
     shapes::shift(rng, shapes::ALL_EQUAL, turns)
@@ -312,7 +335,7 @@ fn main() {
     let mut driven = jobs(&mut rng, driven_sheet, 400);
 
     println!("times of one call in microseconds; n is the number of turns, m of steps,");
-    println!("g of groomers that do all turns;");
+    println!("g of groomers that do all turns, k of groomers that the turns name;");
     println!("12 groomers and 80 slopes; w: 16 groomers, 120 slopes, sorted; d: with drivers");
     println!("plan o: the reference makes its steps in the same order as the library");
     println!("                     library             reference");
@@ -341,17 +364,15 @@ fn main() {
             before = Some(times[0].median);
         }
     }
-    let simple: Kind = |rng, turns| {
-        let shift = usual_sheet(rng, turns);
-        shapes::simple(rng, &shift)
-    };
-    let mut before: Option<f64> = None;
-    for turns in [60, 120] {
-        let mut jobs = jobs(&mut rng, simple, turns);
-        let times = measure_all(&BEST, &mut jobs);
-        let growth = before.map(|before| times[0].median / before);
-        print_row(BEST.name, &size(&jobs), times, growth);
-        before = Some(times[0].median);
+    for (groomers, kind) in SIMPLE {
+        let mut before: Option<f64> = None;
+        for turns in [60, 120] {
+            let mut jobs = jobs(&mut rng, kind, turns);
+            let times = measure_all(&BEST, &mut jobs);
+            let growth = before.map(|before| times[0].median / before);
+            print_row(BEST.name, &format!("n={turns} {groomers}"), times, growth);
+            before = Some(times[0].median);
+        }
     }
     let mut before: Option<f64> = None;
     for turns in [200, 400] {

@@ -1,0 +1,2 @@
+pub mod KeyCases
+pub mod TableCases

@@ -1,0 +1,10 @@
+pub mod Windows
+pub mod Takes
+pub mod Runs
+pub mod Allowing
+pub mod Open
+pub mod Small
+pub mod Wide
+pub mod Halls
+pub mod Worked
+pub mod Limits

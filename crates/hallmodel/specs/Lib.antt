@@ -1,0 +1,4 @@
+pub mod Hall
+pub mod Plan
+pub mod Promises
+pub mod Cases

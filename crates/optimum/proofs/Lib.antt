@@ -1,0 +1,7 @@
+pub mod Members
+pub mod Ordering
+pub mod Tables
+pub mod Groomers
+pub mod Tight
+pub mod Optimal
+pub mod Singles

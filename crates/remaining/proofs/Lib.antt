@@ -1,0 +1,4 @@
+pub mod Remaining
+pub mod Removing
+pub mod Picks
+pub mod Planning

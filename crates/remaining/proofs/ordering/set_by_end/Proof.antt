@@ -1,0 +1,37 @@
+use Rattle.remaining.proofs.Removing.{by-end-cases}
+use borrow.Author.Needs.{needs}
+use Rattle.remaining.proofs.ordering.set_by_end.Statement.{statement}
+use Rattle.remaining.proofs.ordering.set_by_end.Tie as tie
+
+ends-requires : tie.Need-ends-requires
+ends-requires c κs = search needs
+
+sub-put-order : tie.Need-sub-put-order
+sub-put-order c = search needs
+
+part-spare-start : tie.Need-part-spare-start
+part-spare-start c = search needs
+
+part-spare-end : tie.Need-part-spare-end
+part-spare-end c = search needs
+
+put-order-requires : tie.Need-put-order-requires
+put-order-requires c κs = (search (needs, by-end-cases), search (needs, by-end-cases), search (needs, by-end-cases))
+
+same-length : tie.Need-same-length
+same-length c = search needs
+
+returns : tie.Need-returns
+returns c = search (needs, by-end-cases)
+
+pub set-by-end-spec : {M : Type 1} → statement M
+set-by-end-spec =
+    tie.close
+    (tie.spec
+    ends-requires
+    sub-put-order
+    part-spare-start
+    part-spare-end
+    put-order-requires
+    same-length
+    returns)
