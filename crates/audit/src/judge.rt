@@ -101,7 +101,7 @@ fn parts_fault(b: &[u8], map: &[u8], steps: &[u8], p: Size, cols: &[u16; PLACES]
 }
 
 // The first cause to refuse a board for a problem, and the ceiling of its steps.
-fn board_fault(b: &[u8], p: Size, cols: &[u16; PLACES]) -> Judgement
+pub fn board_fault(b: &[u8], p: Size, cols: &[u16; PLACES]) -> Judgement
     requires { ⌜ Held p (now cols) ⌝ }
     ensures { λ r. ⌜ r ≡ judged (firstOf (boardCauses (turnsBy p (now (cols .entry))) (now (b .entry))))
         (ceiling (turnsBy p (now (cols .entry))) (writtenSteps (now (b .entry)))) ⌝ }

@@ -2,4 +2,6 @@
 mod judge;
 mod replay;
 
+pub use judge::board_fault;
 pub use judge::check;
+pub use replay::Judgement;

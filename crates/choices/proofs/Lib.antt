@@ -1,3 +1,4 @@
 pub mod Chosen
 pub mod Fitting
 pub mod Gathering
+pub mod Unchosen

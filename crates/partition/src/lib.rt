@@ -12,6 +12,7 @@ ghost use Rattle.partition.specs.Partition.{partitioned, partitionRefuse
 mod numbering;
 mod order;
 
+pub use order::put_order;
 use problem::MOST_TURNS;
 use problem::PLACES;
 use problem::Size;

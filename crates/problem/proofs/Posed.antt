@@ -13,19 +13,21 @@ use Rattle.refusal.specs.Cause.{firstOf}
 use Rattle.lists.proofs.Bools.{up-to}
 use Rattle.turns.specs.declared.Turn.{Turn}
 use Rattle.turns.specs.Turn.{rowNumbers, turnIn, shiftMinutes, mostWorth, InRange}
-use Rattle.model.specs.Turns.{PositiveLengths}
+use Rattle.model.specs.Turns.{Turns, PositiveLengths}
 use Rattle.sheet.specs.declared.reader.ReadAnswer.{ReadAnswer}
-use Rattle.sheet.specs.Kind.{mostTurns}
-use Rattle.sheet.specs.Read.{countsIn, turnCount, sheetCauses, turnsOf, tableOf, answerOf}
+use Rattle.sheet.specs.declared.kind.Kind.{Kind}
+use Rattle.sheet.specs.Kind.{mostTurns, garage, Sound}
+use Rattle.sheet.specs.Read.{countsIn, turnCount, turnsOf, tableOf, causesFor, answerFor, sheetCauses}
+use Rattle.sheet.proofs.SoundKinds.{garage-sound, garage-given}
 use Rattle.sheet.proofs.Tables.{turns-length, turns-at, table-length, table-row}
-use Rattle.sheet.proofs.Unrefused.{few-turns, row-in-range}
-use Rattle.sheet.proofs.Whole.{whole-accepted, whole-turns, whole-few, whole-room}
+use Rattle.sheet.proofs.Unrefused.{legal-header, row-in-range-for}
+use Rattle.sheet.proofs.Whole.{whole-accepted-for, whole-turns-for, whole-few-for, whole-room-for, answer-garage}
 use Rattle.problem.specs.declared.ways.Row.{Row}
 use Rattle.problem.specs.declared.columns.Size.{Size}
 use Rattle.problem.specs.Ways.{rowFor}
 use Rattle.problem.specs.Columns.{columnPlaces, rowIn, withRow, within, turnsBy, Held}
 use Rattle.problem.specs.Problem.{noTurn, problemOf, shiftGap, sheetTurns}
-use Rattle.problem.specs.Load.{shiftSize, EndsFit, RowsOf, Posed}
+use Rattle.problem.specs.Load.{EndsFit, RowsOf, PosedFor, Posed}
 use Rattle.problem.proofs.Rows.{row-length, row-new, row-other}
 
 -- ---- one turn
@@ -59,52 +61,58 @@ rows-done table cols i {n} h l o = let q : i ≡ n = omega arith in rw q at o
 
 pub ruleset rows-cases = (rows-none, rows-more, put-length, rows-done)
 
--- ---- a sheet that is not refused
+-- ---- a sheet of any kind that is not refused, with any gap
 
-module _ (s : List ℕ) (z : firstOf (sheetCauses s) ≡ 0) where
-  pub sheet-count : sheetTurns s .count ≡ turnCount s
-  unfolding sheetTurns problemOf
-  sheet-count = turns-length s
+module _ (K : Kind) (sound : Sound K) (gap : ℕ) (s : List ℕ) (z : firstOf (causesFor K s) ≡ 0) where
+  abbrev T : Turns
+  T = problemOf gap (turnsOf s)
+
+  pub sheet-count-for : problemOf gap (turnsOf s) .count ≡ turnCount s
+  unfolding problemOf
+  sheet-count-for = turns-length s
+
+  pub few-turns-for : turnCount s ≤ mostTurns
+  few-turns-for = omega (arith, legal-header K sound s z .turns-to, sound .turns)
 
   abbrev turn : ℕ → Turn
   turn t = getD (turnsOf s) t noTurn
 
-  sheet-range : (t : ℕ) → t < turnCount s → InRange (countsIn s) (turn t)
-  sheet-range t h = rw (turns-at s noTurn t h ∙ sym (table-row s t h)) (row-in-range s z t h)
+  pub sheet-range-for : (t : ℕ) → t < turnCount s → InRange (countsIn s) (turn t)
+  sheet-range-for t h = rw (turns-at s noTurn t h ∙ sym (table-row s t h)) (row-in-range-for K sound s z t h)
 
   -- its turns are in range, as the model speaks of them
-  pub sheet-starts : (t : ℕ) → t < turnCount s → sheetTurns s .start t < sheetTurns s .end t
-  unfolding sheetTurns problemOf
-  sheet-starts t h = omega (arith, sheet-range t h .length-from)
+  pub sheet-starts-for : (t : ℕ) → t < turnCount s → T .start t < T .end t
+  unfolding problemOf
+  sheet-starts-for t h = omega (arith, sheet-range-for t h .length-from)
 
-  pub sheet-lengths : PositiveLengths (sheetTurns s)
-  sheet-lengths t h = sheet-starts t (omega (arith, sheet-count))
+  pub sheet-lengths-for : PositiveLengths T
+  sheet-lengths-for t h = sheet-starts-for t (omega (arith, sheet-count-for))
 
-  pub sheet-ends : (t : ℕ) → t < turnCount s → sheetTurns s .end t ≤ shiftMinutes
-  unfolding sheetTurns problemOf
-  sheet-ends t h = sheet-range t h .end-to
+  pub sheet-ends-for : (t : ℕ) → t < turnCount s → T .end t ≤ shiftMinutes
+  unfolding problemOf
+  sheet-ends-for t h = sheet-range-for t h .end-to
 
-  pub sheet-worths : (t : ℕ) → t < turnCount s → sheetTurns s .worth t ≤ mostWorth
-  unfolding sheetTurns problemOf
-  sheet-worths t h = sheet-range t h .worth-to
+  pub sheet-worths-for : (t : ℕ) → t < turnCount s → T .worth t ≤ mostWorth
+  unfolding problemOf
+  sheet-worths-for t h = sheet-range-for t h .worth-to
 
-  pub sheet-worths-from : (t : ℕ) → t < turnCount s → 1 ≤ sheetTurns s .worth t
-  unfolding sheetTurns problemOf
-  sheet-worths-from t h = sheet-range t h .worth-from
+  pub sheet-worths-from-for : (t : ℕ) → t < turnCount s → 1 ≤ T .worth t
+  unfolding problemOf
+  sheet-worths-from-for t h = sheet-range-for t h .worth-from
 
-  pub sheet-slopes : (t : ℕ) → t < turnCount s → (1 ≤ sheetTurns s .slope t) × (sheetTurns s .slope t ≤ countsIn s .slopes)
-  unfolding sheetTurns problemOf
-  sheet-slopes t h = (sheet-range t h .slope-from, sheet-range t h .slope-to)
+  pub sheet-slopes-for : (t : ℕ) → t < turnCount s → (1 ≤ T .slope t) × (T .slope t ≤ countsIn s .slopes)
+  unfolding problemOf
+  sheet-slopes-for t h = (sheet-range-for t h .slope-from, sheet-range-for t h .slope-to)
 
-  pub sheet-groomers : (t : ℕ) → t < turnCount s → (1 ≤ sheetTurns s .groomer t) × (sheetTurns s .groomer t ≤ countsIn s .groomers)
-  unfolding sheetTurns problemOf
-  sheet-groomers t h = (sheet-range t h .groomer-from, sheet-range t h .groomer-to)
+  pub sheet-groomers-for : (t : ℕ) → t < turnCount s → (1 ≤ T .groomer t) × (T .groomer t ≤ countsIn s .groomers)
+  unfolding problemOf
+  sheet-groomers-for t h = (sheet-range-for t h .groomer-from, sheet-range-for t h .groomer-to)
 
   -- ---- and so are they in columns with its rows
 
   module _ (cols : List ℕ) (w : length cols ≡ columnPlaces) (o : (t : ℕ) → t < turnCount s → rowIn cols t ≡ rowFor (turn t)) where
     abbrev size : Size
-    size = shiftSize (turnCount s)
+    size = record { count = turnCount s; gap = gap }
 
     -- a number of each turn, from the columns and from the list; 0 behind the last
     same : (f : Row → ℕ) (g : Turn → ℕ) → g noTurn ≡ 0 → ((t : Turn) → f (rowFor t) ≡ g t) → (t : ℕ) → within (turnCount s) (λ i. f (rowIn cols i)) t ≡ g (turn t)
@@ -115,11 +123,11 @@ module _ (s : List ℕ) (z : firstOf (sheetCauses s) ≡ 0) where
         go (yes l) = rw (lt-ltb t (turnCount s) l, o t l) (e (turn t))
         go (no l) = rw (le-ltb t (turnCount s) (omega arith), List·getD-eq-default (turnsOf s) noTurn {n = t} (omega (arith, turns-length s))) (sym n)
 
-    posed-turns : turnsBy size cols ≡ sheetTurns s
-    unfolding turnsBy sheetTurns problemOf rowFor
+    posed-turns : turnsBy size cols ≡ T
+    unfolding turnsBy problemOf rowFor
     posed-turns = λ j. record {
       count = sym (turns-length s) j;
-      gap = shiftGap;
+      gap = gap;
       slope = λ t. same (λ r. r .slope) (λ u. u .slope) refl (λ u. refl) t j;
       groomer = λ t. same (λ r. r .groomer) (λ u. u .groomer) refl (λ u. refl) t j;
       start = λ t. same (λ r. r .start) (λ u. u .start) refl (λ u. refl) t j;
@@ -128,34 +136,34 @@ module _ (s : List ℕ) (z : firstOf (sheetCauses s) ≡ 0) where
       driver = λ t. same (λ r. r .driver) (λ u. u .driver) refl (λ u. refl) t j;
     }
 
-    pub posed : Posed s cols
+    pub posed : PosedFor gap s cols
     posed =
         record {
           turns = posed-turns;
           held =
               record {
                 places = w;
-                few = few-turns s z;
-                starts = λ t h. rw posed-turns (sheet-starts t h);
-                ends = λ t h. rw posed-turns (sheet-ends t h);
-                worths = λ t h. rw posed-turns (sheet-worths t h);
+                few = few-turns-for;
+                starts = λ t h. rw posed-turns (sheet-starts-for t h);
+                ends = λ t h. rw posed-turns (sheet-ends-for t h);
+                worths = λ t h. rw posed-turns (sheet-worths-for t h);
               };
         }
 
 -- ---- what was read
 
-pub load-refused : (r : ReadAnswer) {s cols : List ℕ} → (r .refusal ≡ 0 → ⊥) → r .refusal ≡ 0 → Posed s cols
-load-refused r n z = absurd (n z)
+pub load-refused : (r : ReadAnswer) {s cols : List ℕ} → (r .refusal ≡ 0 → ⊥) → r .refusal ≡ 0 → (gap : ℕ) → PosedFor gap s cols
+load-refused r n z gap = absurd (n z)
 
-module _ (s lent t : List ℕ) (r : ReadAnswer) (e : (r ≡ answerOf s) × (r .refusal ≡ 0 → t ≡ tableOf s ++ drop (length (tableOf s)) lent)) (z : r .refusal ≡ 0) where
+module _ (K : Kind) (sound : Sound K) (s lent t : List ℕ) (r : ReadAnswer) (e : (r ≡ answerFor K s) × (r .refusal ≡ 0 → t ≡ tableOf s ++ drop (length (tableOf s)) lent)) (z : r .refusal ≡ 0) where
   pub load-few : r .turns ≤ mostTurns
-  load-few = whole-few s (e .0) z
+  load-few = omega (arith, whole-few-for K s (e .0) z sound, sound .turns)
 
   pub load-room : rowNumbers * r .turns ≤ length t
-  load-room = whole-room s (e .0) z lent (e .1)
+  load-room = whole-room-for K s (e .0) z lent (e .1)
 
-  accepted : firstOf (sheetCauses s) ≡ 0
-  accepted = whole-accepted s (e .0) z
+  accepted : firstOf (causesFor K s) ≡ 0
+  accepted = whole-accepted-for K s (e .0) z
 
   number : (k : ℕ) → k < rowNumbers * turnCount s → getD t k 0 ≡ getD (tableOf s) k 0
   number k h = rw (e .1 z) (List·getD-append (tableOf s) (drop (length (tableOf s)) lent) 0 k (omega (arith, table-length s)))
@@ -176,12 +184,54 @@ module _ (s lent t : List ℕ) (r : ReadAnswer) (e : (r ≡ answerOf s) × (r .r
   pub load-fits : EndsFit (r .turns) t
   unfolding EndsFit
   load-fits i h =
-      let l : i < turnCount s = omega (arith, whole-turns s (e .0) z) in
+      let l : i < turnCount s = omega (arith, whole-turns-for K s (e .0) z) in
       let q : turnIn t i .start + turnIn t i .length ≡ getD (turnsOf s) i noTurn .start + getD (turnsOf s) i noTurn .length = ap (λ (u : Turn). u .start + u .length) (read-turn i l) in
-      omega (arith, sheet-range s accepted i l .end-to)
+      omega (arith, sheet-range-for K sound 0 s accepted i l .end-to)
 
-  pub load-posed : (cols : List ℕ) → RowsOf t cols (r .turns) × (length cols ≡ columnPlaces) → Posed s cols
+  pub load-posed : (cols : List ℕ) → RowsOf t cols (r .turns) × (length cols ≡ columnPlaces) → (gap : ℕ) → PosedFor gap s cols
   unfolding RowsOf
-  load-posed cols o = posed s accepted cols (o .1) (λ i h. o .0 i (omega (arith, whole-turns s (e .0) z)) ∙ ap rowFor (read-turn i h))
+  load-posed cols o gap = posed K sound gap s accepted cols (o .1) (λ i h. o .0 i (omega (arith, whole-turns-for K s (e .0) z)) ∙ ap rowFor (read-turn i h))
 
 pub ruleset load-cases = (load-refused, load-few, load-room, load-fits, load-posed)
+
+-- ---- the garage's sheet, with a shift's gap
+
+module _ (s : List ℕ) (z : firstOf (sheetCauses s) ≡ 0) where
+  pub sheet-count : sheetTurns s .count ≡ turnCount s
+  unfolding sheetTurns sheetCauses
+  sheet-count = sheet-count-for garage garage-sound shiftGap s z
+
+  pub sheet-starts : (t : ℕ) → t < turnCount s → sheetTurns s .start t < sheetTurns s .end t
+  unfolding sheetTurns sheetCauses
+  sheet-starts = sheet-starts-for garage garage-sound shiftGap s z
+
+  pub sheet-lengths : PositiveLengths (sheetTurns s)
+  unfolding sheetTurns sheetCauses
+  sheet-lengths = sheet-lengths-for garage garage-sound shiftGap s z
+
+  pub sheet-ends : (t : ℕ) → t < turnCount s → sheetTurns s .end t ≤ shiftMinutes
+  unfolding sheetTurns sheetCauses
+  sheet-ends = sheet-ends-for garage garage-sound shiftGap s z
+
+  pub sheet-worths : (t : ℕ) → t < turnCount s → sheetTurns s .worth t ≤ mostWorth
+  unfolding sheetTurns sheetCauses
+  sheet-worths = sheet-worths-for garage garage-sound shiftGap s z
+
+  pub sheet-worths-from : (t : ℕ) → t < turnCount s → 1 ≤ sheetTurns s .worth t
+  unfolding sheetTurns sheetCauses
+  sheet-worths-from = sheet-worths-from-for garage garage-sound shiftGap s z
+
+  pub sheet-slopes : (t : ℕ) → t < turnCount s → (1 ≤ sheetTurns s .slope t) × (sheetTurns s .slope t ≤ countsIn s .slopes)
+  unfolding sheetTurns sheetCauses
+  sheet-slopes = sheet-slopes-for garage garage-sound shiftGap s z
+
+  pub sheet-groomers : (t : ℕ) → t < turnCount s → (1 ≤ sheetTurns s .groomer t) × (sheetTurns s .groomer t ≤ countsIn s .groomers)
+  unfolding sheetTurns sheetCauses
+  sheet-groomers = sheet-groomers-for garage garage-sound shiftGap s z
+
+-- its loading is that of its kind
+pub load-garage : (s cols : List ℕ) (r : ReadAnswer) → (r .refusal ≡ 0 → (gap : ℕ) → PosedFor gap s cols) → r .refusal ≡ 0 → Posed s cols
+unfolding sheetTurns
+load-garage s cols r w z = record { turns = w z shiftGap .turns; held = w z shiftGap .held }
+
+pub ruleset garage-load-cases = (garage-given, answer-garage, load-garage)

@@ -3,11 +3,11 @@ use mathlib.Core.Path.{_≡_}
 use mathlib.Core.List.{List}
 use Prim.Native.Nat.{ℕ, _+_, _<_}
 use Rattle.turns.specs.Turn.{turnIn}
-use Rattle.sheet.specs.Read.{turnCount}
+use Rattle.sheet.specs.Read.{turnCount, turnsOf}
 use Rattle.problem.specs.declared.columns.Size.{Size}
 use Rattle.problem.specs.Ways.{rowFor}
 use Rattle.problem.specs.Columns.{rowIn, turnsBy, Held}
-use Rattle.problem.specs.Problem.{shiftGap, sheetTurns}
+use Rattle.problem.specs.Problem.{problemOf, shiftGap, sheetTurns}
 use Rattle.model.specs.Turns.{Turns}
 
 -- a shift of n turns
@@ -22,7 +22,12 @@ EndsFit n table = (t : ℕ) → t < n → turnIn table t .start + turnIn table t
 unfoldable pub RowsOf : List ℕ → List ℕ → ℕ → Type 0
 RowsOf table cols i = (t : ℕ) → t < i → rowIn cols t ≡ rowFor (turnIn table t)
 
--- the columns hold the problem of this sheet
+-- the columns hold the problem that the sheet's turns pose with a gap
+pub record PosedFor (gap : ℕ) (s cols : List ℕ) : Type 0 where
+  pub turns : turnsBy (record { count = turnCount s; gap = gap }) cols ≡ problemOf gap (turnsOf s)
+  pub held : Held (record { count = turnCount s; gap = gap }) cols
+
+-- they hold that of this sheet as a shift's
 pub record Posed (s cols : List ℕ) : Type 0 where
   pub turns : turnsBy (shiftSize (turnCount s)) cols ≡ sheetTurns s
   pub held : Held (shiftSize (turnCount s)) cols

@@ -1,17 +1,18 @@
 // From a sheet to the columns.
 ghost use mathlib.Core.Path.{_≡_};
-ghost use Prim.Native.Nat.{_+_, _*_, _≤_, _<_};
+ghost use Prim.Native.Nat.{ℕ, _+_, _*_, _≤_, _<_};
 ghost use lib.ListN.{length};
 ghost use Rattle.turns.specs.Turn.{rowNumbers, turnIn};
-ghost use Rattle.sheet.specs.Kind.{mostTurns};
-ghost use Rattle.sheet.specs.Read.{answerOf};
+ghost use Rattle.sheet.specs.Kind.{mostTurns, Sound};
+ghost use Rattle.sheet.specs.Read.{answerFor, answerOf};
 ghost use Rattle.problem.specs.Ways.{rowFor};
 ghost use Rattle.problem.specs.Columns.{columnPlaces};
-ghost use Rattle.problem.specs.Load.{shiftSize, EndsFit, RowsOf, Posed};
+ghost use Rattle.problem.specs.Load.{shiftSize, EndsFit, RowsOf, PosedFor, Posed};
 use super::columns::PLACES;
 use super::columns::Size;
 use super::columns::put_row;
 use super::ways::Row;
+use sheet::Kind;
 use sheet::ReadAnswer;
 use sheet::TABLE_PLACES;
 
@@ -57,17 +58,25 @@ fn put_rows(cols: &mut [u16; PLACES], table: &[u16], n: usize)
     }
 }
 
-// Reads any bytes as a sheet into columns, the reader's answer beside them. After a refusal nothing is
-// said of what the columns hold.
-pub fn load(s: &[u8], cols: &mut [u16; PLACES]) -> ReadAnswer
-    requires { ⌜ length (now cols) ≡ columnPlaces ⌝ }
-    ensures { λ r. ⌜ (r ≡ answerOf (now (s .entry))) × (r .refusal ≡ 0 → Posed (now (s .entry)) (now (cols .exit))) ⌝ }
+// Reads any bytes as a sheet of a kind into columns, the reader's answer beside them; the gap is for
+// the problem's size to say. After a refusal nothing is said of what the columns hold.
+pub fn load_as(kind: Kind, s: &[u8], cols: &mut [u16; PLACES]) -> ReadAnswer
+    requires { ⌜ Sound kind × (length (now cols) ≡ columnPlaces) ⌝ }
+    ensures { λ r. ⌜ (r ≡ answerFor kind (now (s .entry))) × (r .refusal ≡ 0 → (gap : ℕ) → PosedFor gap (now (s .entry)) (now (cols .exit))) ⌝ }
 {
     let mut table = [0u16; TABLE_PLACES];
-    let r = sheet::read_table(s, &mut table);
+    let r = sheet::read_table_of(kind, s, &mut table);
     if r.refusal != 0 {
         return r;
     }
     put_rows(&mut *cols, &table, r.turns as usize);
     r
+}
+
+// The garage's sheet, likewise.
+pub fn load(s: &[u8], cols: &mut [u16; PLACES]) -> ReadAnswer
+    requires { ⌜ length (now cols) ≡ columnPlaces ⌝ }
+    ensures { λ r. ⌜ (r ≡ answerOf (now (s .entry))) × (r .refusal ≡ 0 → Posed (now (s .entry)) (now (cols .exit))) ⌝ }
+{
+    load_as(sheet::garage(), s, &mut *cols)
 }

@@ -3,3 +3,4 @@ pub mod Steps
 pub mod Order
 pub mod Replaying
 pub mod Holdings
+pub mod Written

@@ -9,5 +9,6 @@ pub use orders::is_right;
 pub use residuals::apply_step;
 pub use residuals::is_open;
 pub use residuals::left_of;
+pub use residuals::lower;
 pub use residuals::none_open;
 pub use residuals::set_initial;

@@ -85,6 +85,18 @@ tooManyForScreen = 20
 abbrev pub notSingleTurns : ℕ
 notSingleTurns = 21
 
+-- more than 64 turns, for the search
+abbrev pub tooManyToSearch : ℕ
+tooManyToSearch = 22
+
 -- a seed that no draw can be
 abbrev pub badSeed : ℕ
 badSeed = 23
+
+-- delays that are not one a turn, or one above 120
+abbrev pub badDelays : ℕ
+badDelays = 24
+
+-- a draw that the hall does not have
+abbrev pub badDraw : ℕ
+badDraw = 25

@@ -43,4 +43,10 @@ pub const TOO_MANY_FOR_SCREEN: u8 = 20; // more than 96 turns, for the lift desk
 
 pub const NOT_SINGLE_TURNS: u8 = 21; // a slope with two turns, or a driver, on a sheet that may have neither
 
+pub const TOO_MANY_TO_SEARCH: u8 = 22; // more than 64 turns, for the search
+
 pub const BAD_SEED: u8 = 23; // a seed that no draw can be: 0, or the generator's modulus or above
+
+pub const BAD_DELAYS: u8 = 24; // the delay table has not a number for each turn, or a delay is above 120
+
+pub const BAD_DRAW: u8 = 25; // a window's draw is not in 1 to the hall's units

@@ -3,4 +3,7 @@ mod ordering;
 mod picking;
 mod stepping;
 
+pub use ordering::set_by_end;
+pub use picking::pick_turn;
+pub use picking::remove_spent;
 pub use stepping::plan_steps;

@@ -48,14 +48,14 @@ records-read {K} {limits} (more {t = t} {m = m} {bytes = bytes} {ts = ts} map ke
     (first-goes (recordCauses K s limits c) _ (record-numbered K numbers s limits c) (one .record-fine) ∙ rest .0, ap₂ _∷_ (one .turn-is) (rest .1))
 
 -- a header and any bytes behind it: what it was made of is what is read
-record HeaderReads (mark : List ℕ) (counts : Counts) (n : ℕ) (body : List ℕ) : Type 0 where
-  whole : headerBytes ≤ length (headerFor mark counts n ++ body)
-  mark-is : opensWith mark (headerFor mark counts n ++ body) ≡ true
-  counts-are : countsIn (headerFor mark counts n ++ body) ≡ counts
-  count-is : turnCount (headerFor mark counts n ++ body) ≡ n
-  behind : drop headerBytes (headerFor mark counts n ++ body) ≡ body
+pub record HeaderReads (mark : List ℕ) (counts : Counts) (n : ℕ) (body : List ℕ) : Type 0 where
+  pub whole : headerBytes ≤ length (headerFor mark counts n ++ body)
+  pub mark-is : opensWith mark (headerFor mark counts n ++ body) ≡ true
+  pub counts-are : countsIn (headerFor mark counts n ++ body) ≡ counts
+  pub count-is : turnCount (headerFor mark counts n ++ body) ≡ n
+  pub behind : drop headerBytes (headerFor mark counts n ++ body) ≡ body
 
-header-reads : {mark : List ℕ} → ThreeBytes mark → (counts : Counts) (n : ℕ) (body : List ℕ) → n ≤ mostTurns → HeaderReads mark counts n body
+pub header-reads : {mark : List ℕ} → ThreeBytes mark → (counts : Counts) (n : ℕ) (body : List ℕ) → n ≤ mostTurns → HeaderReads mark counts n body
 header-reads (three {a = a} {b = b} {c = c} p q r) counts n body h =
     record {
       whole = omega arith;
@@ -107,7 +107,7 @@ module _ (K : Kind) (sound : Sound K) {s : List ℕ} (b : Bytes s) where
       let one = record-stands b c K (sound .numbers) limits (both .0) in
       rw (one .bytes) (more (one .map) (one .kept) (one .fits) (records-stand k limits (cursorAfter s c) (both .1)))
 
-  header-stands : headerBytes ≤ length s → take 3 s ≡ K .mark → s ≡ headerFor (K .mark) (countsIn s) (turnCount s) ++ drop headerBytes s
+  pub header-stands : headerBytes ≤ length s → take 3 s ≡ K .mark → s ≡ headerFor (K .mark) (countsIn s) (turnCount s) ++ drop headerBytes s
   header-stands l mark =
       let g : drop 3 s ≡ valueAt s 3 1 ∷ drop 4 s = rw (drop-cons s 3 0 (omega arith), zero-add (getD s 3 0)) in
       let h : drop 4 s ≡ valueAt s 4 1 ∷ drop 5 s = rw (drop-cons s 4 0 (omega arith), zero-add (getD s 4 0)) in

@@ -27,7 +27,7 @@ use Rattle.sheet.proofs.Maps.{good-map-iff}
 use Rattle.sheet.proofs.Records.{field-carried}
 
 -- behind what stands at a place
-drop-front : (vs s : List ℕ) (at : ℕ) (rest : List ℕ) → drop at s ≡ vs ++ rest → drop (at + length vs) s ≡ rest
+pub drop-front : (vs s : List ℕ) (at : ℕ) (rest : List ℕ) → drop at s ≡ vs ++ rest → drop (at + length vs) s ≡ rest
 drop-front vs s at rest e = sym (drop-drop (length vs) at s) ∙ ap (drop (length vs)) e ∙ drop-append-seam vs rest
 
 -- ---- a field, at every width
@@ -45,7 +45,7 @@ field-is (suc zero) width v old s at rest h b k e = value-front width v s at res
 field-is (suc (suc bit)) width v old s at rest h b k e = absurd (omega arith)
 
 -- and the rest stands behind it
-field-read : (bit width v old size : ℕ) (s : List ℕ) (at : ℕ) (rest : List ℕ) → bit < 2 → size ≡ width * bit → v < 256 ^ width → (bit ≡ 0 → old ≡ v) → drop at s ≡ fieldBytes bit width v ++ rest
+pub field-read : (bit width v old size : ℕ) (s : List ℕ) (at : ℕ) (rest : List ℕ) → bit < 2 → size ≡ width * bit → v < 256 ^ width → (bit ≡ 0 → old ≡ v) → drop at s ≡ fieldBytes bit width v ++ rest
     → (field width s at bit old ≡ v) × (drop (at + size) s ≡ rest)
 field-read bit width v old size s at rest h z b k e = (field-is bit width v old s at rest h b k e, rw (z, ← field-length bit width v h) (drop-front (fieldBytes bit width v) s at rest e))
 
@@ -89,7 +89,7 @@ pub record RecordRead (K : Kind) (s : List ℕ) (limits : Counts) (c : Cursor) (
 
 module _ (K : Kind) (s : List ℕ) (limits : Counts) (c : Cursor) (m : ℕ) (t : Turn) (rest : List ℕ) (few : limits .groomers ≤ 255) (low : limits .slopes ≤ 255)
     (map : GoodMap (K .maps) (c .first) m) (kept : Carried m (c .prev) t) (fits : InRange limits t) (stands : drop (c .at) s ≡ recordOf m t ++ rest) where
-  map-is : mapAt s c ≡ m
+  pub map-is : mapAt s c ≡ m
   map-is = byte-front s (c .at) m _ (stands ∙ record-append m t rest)
 
   turn-read : (turnFrom s (c .at + 1) m (c .prev) ≡ t) × (drop (c .at + 1 + widthOf m) s ≡ rest)
@@ -127,7 +127,7 @@ module _ (K : Kind) (s : List ℕ) (limits : Counts) (c : Cursor) (m : ℕ) (t :
 -- ---- the other way: what is read of bytes stands there
 
 -- a field that was read, and then the rest
-field-stands : (bit width old size : ℕ) {s : List ℕ} → Bytes s → (at : ℕ) → bit < 2 → size ≡ width * bit → at + size ≤ length s → drop at s ≡ fieldBytes bit width (field width s at bit old) ++ drop (at + size) s
+pub field-stands : (bit width old size : ℕ) {s : List ℕ} → Bytes s → (at : ℕ) → bit < 2 → size ≡ width * bit → at + size ≤ length s → drop at s ≡ fieldBytes bit width (field width s at bit old) ++ drop (at + size) s
 unfolding field
 field-stands zero width old size b at h z l = let e : at + size ≡ at = omega (arith, mul-zero width) in rw e
 field-stands (suc zero) width old size b at h z l = let e : size ≡ width = omega (arith, mul-one width) in rw e (bytes-rest b at width (omega arith))

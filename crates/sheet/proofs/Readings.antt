@@ -34,13 +34,13 @@ turnsFrom-length (suc k) s c = ap suc (turnsFrom-length k s (cursorAfter s c))
 -- ---- the header
 
 -- a header was found: nothing is wrong with it
-record HeaderFound (K : Kind) (s : List ℕ) (limits : Counts) (k : ℕ) : Type 0 where
-  header-fine : firstOf (headerCauses K s) ≡ 0
-  limits-are : limits ≡ countsIn s
-  count-is : k ≡ turnCount s
+pub record HeaderFound (K : Kind) (s : List ℕ) (limits : Counts) (k : ℕ) : Type 0 where
+  pub header-fine : firstOf (headerCauses K s) ≡ 0
+  pub limits-are : limits ≡ countsIn s
+  pub count-is : k ≡ turnCount s
 
 module _ (K : Kind) (s : List ℕ) where
-  header-found : {h : Header} {limits : Counts} {k : ℕ} → h ≡ headerOf K s → h ≡ Found limits k → HeaderFound K s limits k
+  pub header-found : {h : Header} {limits : Counts} {k : ℕ} → h ≡ headerOf K s → h ≡ Found limits k → HeaderFound K s limits k
   unfolding headerOf
   header-found {h} {limits} {k} e g = go (eqb (firstOf (headerCauses K s)) 0) refl (sym g ∙ e)
     where
@@ -48,7 +48,7 @@ module _ (K : Kind) (s : List ℕ) where
       go true q p = record { header-fine = eqb-true (firstOf (headerCauses K s)) 0 q; limits-are = cc; count-is = cc }
       go false q p = let z : _≡_ {A = ℕ} 0 1 = cc in absurd (omega arith)
 
-  header-refused : {h : Header} {f : ℕ} → h ≡ headerOf K s → h ≡ Refused f → (firstOf (headerCauses K s) ≡ f) × (f ≡ 0 → ⊥)
+  pub header-refused : {h : Header} {f : ℕ} → h ≡ headerOf K s → h ≡ Refused f → (firstOf (headerCauses K s) ≡ f) × (f ≡ 0 → ⊥)
   unfolding headerOf
   header-refused {h} {f} e g = go (eqb (firstOf (headerCauses K s)) 0) refl (sym g ∙ e)
     where

@@ -4,8 +4,10 @@ mod kind;
 mod reader;
 mod record;
 
+pub use header::HEADER_BYTES;
 pub use header::Header;
 pub use header::count_fault;
+pub use header::read_header;
 pub use kind::FIRST_MAP;
 pub use kind::FULL_MAP;
 pub use kind::Kind;
@@ -23,4 +25,7 @@ pub use reader::read_table;
 pub use reader::read_table_of;
 pub use record::Cursor;
 pub use record::Next;
+pub use record::bad_map_for;
+pub use record::byte_field;
 pub use record::width;
+pub use record::word_field;

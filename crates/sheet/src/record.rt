@@ -29,7 +29,7 @@ pub fn width(m: u8) -> usize
 }
 
 // A one-byte field where its bit stands, else the value before.
-fn byte_field(s: &[u8], at: usize, bit: u8, old: u16) -> u16
+pub fn byte_field(s: &[u8], at: usize, bit: u8, old: u16) -> u16
     requires { ⌜ at + bit ≤ length (now s) ⌝ }
     ensures { λ r. ⌜ r ≡ field 1 (now (s .entry)) at bit old ⌝ }
 {
@@ -37,7 +37,7 @@ fn byte_field(s: &[u8], at: usize, bit: u8, old: u16) -> u16
 }
 
 // A two-byte field where its bit stands, else the value before.
-fn word_field(s: &[u8], at: usize, bit: u8, old: u16) -> u16
+pub fn word_field(s: &[u8], at: usize, bit: u8, old: u16) -> u16
     requires { ⌜ at + 2 * bit ≤ length (now s) ⌝ }
     ensures { λ r. ⌜ r ≡ field 2 (now (s .entry)) at bit old ⌝ }
 {
@@ -66,7 +66,7 @@ fn turn_from(s: &[u8], at: usize, m: u8, old: Turn) -> Turn
 }
 
 // Whether a record may not have this map.
-fn bad_map_for(maps: Maps, first: bool, m: u8) -> bool
+pub fn bad_map_for(maps: Maps, first: bool, m: u8) -> bool
     ensures { λ r. ⌜ r ≡ badMapFor maps first m ⌝ }
 {
     if maps.full < m {

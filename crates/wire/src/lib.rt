@@ -1,14 +1,19 @@
-// Numbers as bytes, high byte first, and the two opening marks.
+// Numbers as bytes, high byte first, and the opening marks.
 ghost use mathlib.Core.Path.{_≡_};
 ghost use Prim.Native.Nat.{_+_, _≤_, _<_};
 ghost use lib.ListN.{length};
 ghost use Rattle.wire.specs.Number.{valueAt, bytesOf, bytesAt, puts};
 ghost use Rattle.wire.specs.Mark.{opensWith};
 
-// The mark of a sheet and that of a board, for reading and for writing.
+// The marks of a sheet, of a board, of a sheet that is kept by column and of a charging sheet, for reading and
+// for writing.
 pub const GRM: [u8; 3] = *b"GRM";
 
 pub const GRB: [u8; 3] = *b"GRB";
+
+pub const GRC: [u8; 3] = *b"GRC";
+
+pub const GRE: [u8; 3] = *b"GRE";
 
 // Whether the first three bytes are the mark's.
 pub fn opens_with(s: &[u8], mark: [u8; 3]) -> bool

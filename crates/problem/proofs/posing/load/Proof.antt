@@ -1,37 +1,16 @@
-use Rattle.problem.proofs.Posed.{load-cases, load-few, load-room, load-fits, load-posed}
+use Rattle.problem.proofs.Posed.{garage-load-cases}
 use borrow.Author.Needs.{needs}
 use Rattle.problem.proofs.posing.load.Statement.{statement}
 use Rattle.problem.proofs.posing.load.Tie as tie
 
-slice-aggregate-read-table : tie.Need-slice-aggregate-read-table
-slice-aggregate-read-table c = search needs
+garage-requires : tie.Need-garage-requires
+garage-requires c κs = search needs
 
-read-table-requires : tie.Need-read-table-requires
-read-table-requires c κs = search needs
+load-as-requires : tie.Need-load-as-requires
+load-as-requires c κs = search (needs, garage-load-cases)
 
 returns : tie.Need-returns
-returns c = search (needs, load-cases)
-
-slice-aggregate-put-rows : tie.Need-slice-aggregate-put-rows
-slice-aggregate-put-rows c = search needs
-
-cast-put-rows : tie.Need-cast-put-rows
-cast-put-rows c = search needs
-
-put-rows-requires : tie.Need-put-rows-requires
-put-rows-requires c κs = (search needs, load-few _ _ _ _ (c .before .before .before .before .before .before .read-table .ensures) (c .before .before .before .if1 .left), load-room _ _ _ _ (c .before .before .before .before .before .before .read-table .ensures) (c .before .before .before .if1 .left), load-fits _ _ _ _ (c .before .before .before .before .before .before .read-table .ensures) (c .before .before .before .if1 .left))
-
-returns-2 : tie.Need-returns-2
-returns-2 c = (search needs, λ z. load-posed _ _ _ _ (c .before .before .before .before .before .before .before .read-table .ensures) (c .before .before .before .before .if1 .left) _ (c .put-rows .ensures))
+returns c = (search (needs, garage-load-cases), search (needs, garage-load-cases))
 
 pub load-spec : {M : Type 1} → statement M
-load-spec =
-    tie.close
-    (tie.spec
-    slice-aggregate-read-table
-    read-table-requires
-    returns
-    slice-aggregate-put-rows
-    cast-put-rows
-    put-rows-requires
-    returns-2)
+load-spec = tie.close (tie.spec garage-requires load-as-requires returns)
