@@ -1,8 +1,10 @@
 /* Slope board: reads and writes shift sheets, plans boards, opens and checks them, writes the drivers'
  * listing, assigns groomers where all turns must be done, works out the best worth where each slope has
- * one turn, and draws sheets from a seed. A second reader takes at most 96 turns. Link libslopeboard.a; all
- * that it asks for beside is memcpy and memset. The archive is for x86-64: its functions are called as the
- * System V ABI says, their structs laid out as it says.
+ * one turn, looks for a better choice than the planned one, and draws sheets from a seed. A second reader
+ * takes at most 96 turns.
+ *
+ * Link libslopeboard.a; all that it asks for beside is memcpy and memset. The archive is for x86-64: its
+ * functions are called as the System V ABI says, their structs laid out as it says.
  *
  * What holds for every function:
  *
@@ -16,13 +18,15 @@
  *   calls in several threads do not disturb each other as long as their lent buffers differ.
  * - Any bytes are taken: no content of a slice leads to anything but an answer.
  * - An answer's 'refusal' is 0, or one of the numbers below. On a refusal every other field of the
- *   answer is 0 and no lent buffer has changed. Where several numbers would fit,
+ *   answer is 0 (or false) and no lent buffer has changed. Where several numbers would fit,
  *   the order under each function says which is given.
  * - On success, the places of a lent buffer past the last one written hold what they held before.
- * - All working space is on the caller's stack, and no function calls itself. In bytes, read off the compiled
- *   code: slopeboard_list 20,352, slopeboard_plan 16,480, slopeboard_best 13,024, slopeboard_draw 11,528,
- *   slopeboard_check 11,416, slopeboard_assign 10,624, slopeboard_write 6,664, slopeboard_read and
- *   slopeboard_read_short 4,936, each of the others fewer than 100. What memcpy and memset need comes on top.
+ * - All working space is on the caller's stack. No function calls itself but the search of slopeboard_improve,
+ *   which goes one level deeper for each of at most 64 turns. In bytes, read off the compiled code:
+ *   slopeboard_list 20,352, slopeboard_improve 18,208, slopeboard_plan 16,480, slopeboard_best 13,024,
+ *   slopeboard_draw 11,528, slopeboard_check 11,416, slopeboard_assign 10,608, slopeboard_write 6,664,
+ *   slopeboard_read and slopeboard_read_short 4,936, each of the others fewer than 100. What memcpy and memset
+ *   need comes on top.
  *
  * In sheets and boards, a number of several bytes begins with its high byte. Turns are numbered from 0
  * in the order of the sheet, slopes and groomers from 1.
@@ -43,7 +47,7 @@ extern "C" {
 #endif
 
 /* The number of this interface. Each change that a caller can see raises it. */
-#define SLOPEBOARD_VERSION 11
+#define SLOPEBOARD_VERSION 12
 
 /* The refusals. */
 enum {
@@ -68,6 +72,7 @@ enum {
     SLOPEBOARD_BAD_DRIVER = 19,       /* a turn's driver is above 40 */
     SLOPEBOARD_TOO_MANY_FOR_SCREEN = 20, /* more than 96 turns, for slopeboard_read_short */
     SLOPEBOARD_NOT_SINGLE_TURNS = 21, /* a slope has two turns, or a turn names a driver */
+    SLOPEBOARD_TOO_MANY_TO_SEARCH = 22, /* more than 64 turns, for slopeboard_improve */
     SLOPEBOARD_BAD_SEED = 23          /* the seed is 0 or above SLOPEBOARD_MOST_SEED */
 };
 
@@ -76,6 +81,7 @@ enum {
 #define SLOPEBOARD_MOST_SLOPES 120
 #define SLOPEBOARD_MOST_TURNS 400
 #define SLOPEBOARD_MOST_SHORT_TURNS 96
+#define SLOPEBOARD_MOST_SEARCHED_TURNS 64
 #define SLOPEBOARD_MOST_DRIVER 40
 #define SLOPEBOARD_MOST_SEED 2147483646
 #define SLOPEBOARD_NUMBERS_PER_TURN 6
@@ -138,6 +144,14 @@ typedef struct {
     uint8_t refusal;
     uint32_t worth;
 } slopeboard_best_answer;
+
+typedef struct {
+    uint8_t refusal;
+    bool whole;      /* whether the whole search ran */
+    uint32_t worth;  /* of the turns in the map */
+    uint32_t above;  /* the planned board's ceiling less the worth */
+    uint64_t visits; /* how many were made */
+} slopeboard_improve_answer;
 
 /* Reads a sheet into a turn table: six numbers a turn, which are slope, groomer, start, length, worth and
  * driver, the last 0 where the turn names none. The answer has the counts of the sheet's header.
@@ -237,6 +251,22 @@ slopeboard_assign_answer slopeboard_assign(const uint8_t *sheet, size_t sheet_le
  * Refusals: those of slopeboard_read but 11, in their order; then 21 for any other sheet; then 11 if map_len
  * is below SLOPEBOARD_MAP_BYTES of the sheet's turns. */
 slopeboard_best_answer slopeboard_best(const uint8_t *sheet, size_t sheet_len, uint8_t *map, size_t map_len);
+
+/* Looks for a better choice than that of the board which slopeboard_plan writes, with at most so many visits,
+ * and writes the choice map of the best found. The search begins with no turn taken and goes through the turns
+ * in the order of the sheet. Each visit to a turn goes on with it, if it excludes none of those taken, and when
+ * all of that is done goes on without it. Behind the last turn, which is no visit, those taken replace the
+ * best if they are worth more; the planned board is the best to begin with.
+ *
+ * The visits of the answer are the visits allowed or those of the whole search, whichever are fewer. If the
+ * whole search ran, no set of turns in which no two exclude each other is worth more than the worth; in any
+ * case none is worth more than the worth and 'above' together. More visits never find less.
+ *
+ * Refusals: those of slopeboard_read but 11, in their order; then 22 for more than
+ * SLOPEBOARD_MOST_SEARCHED_TURNS turns; then 11 if map_len is below SLOPEBOARD_MAP_BYTES of the sheet's
+ * turns. */
+slopeboard_improve_answer slopeboard_improve(const uint8_t *sheet, size_t sheet_len, uint64_t visits, uint8_t *map,
+                                             size_t map_len);
 
 /* Draws so many turns from a seed, for so many groomers and slopes, and writes the sheet that slopeboard_write
  * makes of them; slopeboard_read accepts it. The same numbers give the same sheet on every box.

@@ -6,6 +6,8 @@ pub const MAX_SLOPES: u32 = 120;
 pub const MAX_TURNS: usize = 400;
 /// Turns that the short reader takes.
 pub const MAX_SHORT_TURNS: usize = 96;
+/// Turns of a sheet that the search for a better choice takes.
+pub const MAX_SEARCHED_TURNS: usize = 64;
 pub const LAST_END: u32 = 960;
 pub const MAX_WORTH: u16 = 60_000;
 

@@ -2,8 +2,8 @@
 //!
 //! The library reads and writes shift sheets, plans boards, opens and checks
 //! them, writes the drivers' listing, assigns groomers where all turns must be
-//! done, works out the best worth where each slope has one turn, and draws sheets
-//! from a seed. A second reader takes at most 96 turns. Every buffer is the caller's: on a refusal it holds what it held
+//! done, works out the best worth where each slope has one turn, looks for a better
+//! choice than the planned one, and draws sheets from a seed. A second reader takes at most 96 turns. Every buffer is the caller's: on a refusal it holds what it held
 //! before, and on success so do its places past the last one written. The order
 //! in which refusals are looked for is in `include/slopeboard.h`.
 //!
@@ -20,7 +20,7 @@ pub use refusal::Refusal;
 
 /// The number of this interface, as `SLOPEBOARD_VERSION` in the header: each
 /// change that a caller can see raises it.
-pub const VERSION: u32 = 11;
+pub const VERSION: u32 = 12;
 
 /// Numbers that a turn takes in a turn table: slope, groomer, start, length,
 /// worth, driver. Driver 0 is none.
@@ -28,6 +28,8 @@ pub const NUMBERS_PER_TURN: usize = 6;
 pub const MOST_TURNS: usize = 400;
 /// Turns that [`read_short`] takes at most.
 pub const MOST_SHORT_TURNS: usize = 96;
+/// Turns of a sheet that [`improve`] takes at most.
+pub const MOST_SEARCHED_TURNS: usize = 64;
 /// The greatest seed that [`draw`] takes; the least is 1.
 pub const MOST_SEED: u64 = 2_147_483_646;
 /// Bytes that hold any sheet.
@@ -63,6 +65,20 @@ pub struct Sums {
     pub tally: u32,
     pub worth: u32,
     pub ceiling: u32,
+}
+
+/// What the search for a better choice found.
+#[derive(Clone, Copy, Debug, PartialEq, Eq)]
+pub struct Improved {
+    /// What the turns in the map are worth.
+    pub worth: u32,
+    /// How far the ceiling of the planned board is above that.
+    pub above: u32,
+    /// How many turns were visited, each as often as it was.
+    pub visits: u64,
+    /// Whether the whole search ran: no set of the sheet's turns without a
+    /// conflict is then worth more.
+    pub whole: bool,
 }
 
 // SAFETY, for each call below: a slice gives a pointer to as many elements as
@@ -170,6 +186,23 @@ pub fn best(sheet: &[u8], map: &mut [u8]) -> Result<u32, Refusal> {
     let answer = unsafe { raw::slopeboard_best(sheet.as_ptr(), sheet.len(), map, map_len) };
     refusal::none(answer.refusal)?;
     Ok(answer.worth)
+}
+
+/// Starts from the board that [`plan`] writes and searches through the sets of
+/// the sheet's turns without a conflict, with at most so many visits, for one
+/// that is worth more. Writes the choice map of the best found. More visits
+/// never find less. Asks for [`map_bytes`] of the sheet's turns.
+pub fn improve(sheet: &[u8], visits: u64, map: &mut [u8]) -> Result<Improved, Refusal> {
+    let (map, map_len) = (map.as_mut_ptr(), map.len());
+    let answer =
+        unsafe { raw::slopeboard_improve(sheet.as_ptr(), sheet.len(), visits, map, map_len) };
+    refusal::none(answer.refusal)?;
+    Ok(Improved {
+        worth: answer.worth,
+        above: answer.above,
+        visits: answer.visits,
+        whole: answer.whole,
+    })
 }
 
 /// Draws so many turns from a seed, for so many groomers and slopes, writes the

@@ -61,6 +61,17 @@ pub struct BestAnswer {
     pub worth: u32,
 }
 
+/// What the search for a better choice gives; 0 and false on a refusal.
+#[repr(C)]
+#[derive(Clone, Copy, Debug, PartialEq, Eq)]
+pub struct ImproveAnswer {
+    pub refusal: u8,
+    pub whole: bool,
+    pub worth: u32,
+    pub above: u32,
+    pub visits: u64,
+}
+
 extern "C" {
     pub fn slopeboard_read(
         sheet: *const u8,
@@ -127,6 +138,14 @@ extern "C" {
         map: *mut u8,
         map_len: usize,
     ) -> BestAnswer;
+
+    pub fn slopeboard_improve(
+        sheet: *const u8,
+        sheet_len: usize,
+        visits: u64,
+        map: *mut u8,
+        map_len: usize,
+    ) -> ImproveAnswer;
 
     pub fn slopeboard_draw(
         seed: u64,

@@ -49,12 +49,14 @@ pub enum Refusal {
     TooManyForScreen = 20,
     /// A slope has two turns, or a turn names a driver.
     NotSingleTurns = 21,
+    /// More than 64 turns, which are too many to search.
+    TooManyToSearch = 22,
     /// The seed is 0, or 2,147,483,647 or above.
     BadSeed = 23,
 }
 
-/// All of them; no two have one number.
-const ALL: [Refusal; 22] = [
+/// By number, from 1.
+const ALL: [Refusal; 23] = [
     Refusal::Truncated,
     Refusal::BadMagic,
     Refusal::BadCounts,
@@ -76,6 +78,7 @@ const ALL: [Refusal; 22] = [
     Refusal::BadDriver,
     Refusal::TooManyForScreen,
     Refusal::NotSingleTurns,
+    Refusal::TooManyToSearch,
     Refusal::BadSeed,
 ];
 
@@ -84,9 +87,10 @@ impl Refusal {
         self as u8
     }
 
-    /// The refusal with this number; none for 0, 22 and numbers above 23.
+    /// The refusal with this number; none for 0 and for numbers above 23.
     pub fn from_number(number: u8) -> Option<Refusal> {
-        ALL.into_iter().find(|refusal| refusal.number() == number)
+        let place = usize::from(number).checked_sub(1)?;
+        ALL.get(place).copied()
     }
 }
 

@@ -21,12 +21,16 @@ use Rattle.checking.specs.Check.{checkOf}
 use Rattle.partition.specs.declared.PartitionAnswer.{PartitionAnswer}
 use Rattle.partition.specs.Partition.{Partition, partitioned, partitionOf}
 use Rattle.exact.specs.Exact.{Earned}
+use Rattle.improve.specs.Improve.{Improvement, improveOf}
+use Rattle.improve.specs.declared.Improved.{Improved}
+use Rattle.improve.specs.Answer.{improved}
 use Rattle.corpus.specs.declared.tools.Counts.{Counts}
 use Rattle.corpus.specs.declared.tools.Draw.{Draw}
 use Rattle.corpus.specs.declared.entries.Line.{Line}
 use Rattle.corpus.specs.declared.entries.ReadLine.{ReadLine}
 use Rattle.corpus.specs.declared.entries.CheckLine.{CheckLine}
-use Rattle.corpus.specs.Line.{numberOr, longHeld, countsHeld, drawHeld, drawnBy, unpacked, heldBefore, mixed, sumFrom, sumOf, writtenLine, readLine, partitionLine, earnedLine, checkLine}
+use Rattle.corpus.specs.declared.entries.ImproveLine.{ImproveLine}
+use Rattle.corpus.specs.Line.{numberOr, longHeld, countsHeld, drawHeld, drawnBy, unpacked, heldBefore, mixed, sumFrom, sumOf, writtenLine, readLine, partitionLine, earnedLine, checkLine, improvedLine}
 
 -- ---- a number that may not be there
 
@@ -170,6 +174,21 @@ module _ (o : Earned) {a b : ℕ} {l : List ℕ} (e : _≡_ {A = Earned} (record
 
   pub earned-lent : l ≡ o .lent
   earned-lent = ap (λ (x : Earned). x .lent) e
+
+-- of any limit of visits that the input gives
+module _ (limit sheet lent : List ℕ) {v : ℕ} (f : v ≡ longHeld limit) {a : Improved} {l : List ℕ} (e : improved a l ≡ improveOf sheet v lent) where
+  same-limit : improved a l ≡ improveOf sheet (longHeld limit) lent
+  same-limit = rw f at e
+
+  pub improved-line : {sum : ℕ} → sum ≡ sumOf l
+      → _≡_ {A = ImproveLine} (record { refusal = a .refusal; whole = a .whole; worth = a .worth; above = a .above; visits = a .visits; last = sum }) (improvedLine (improveOf sheet (longHeld limit) lent))
+  unfolding improvedLine
+  improved-line s = rw (s, ← same-limit)
+
+  pub improved-lent : l ≡ improveOf sheet (longHeld limit) lent .lent
+  improved-lent = ap (λ (x : Improvement). x .lent) same-limit
+
+pub ruleset improved-cases = (improved-line, improved-lent)
 
 pub open-line : (b : List ℕ) {r sum : ℕ} {steps : List ℕ} → r ≡ openOf b → steps ≡ stepsPart b → sum ≡ sumOf steps → _≡_ {A = Line} (record { refusal = r; value = length steps; last = sum }) (record { refusal = openOf b; value = length (stepsPart b); last = sumOf (stepsPart b) })
 open-line b e f g = rw (e, g, f)

@@ -12,11 +12,13 @@ use Rattle.turns.specs.Turn.{countsOf}
 use Rattle.trial.specs.Trial.{drawOf}
 use Rattle.partition.specs.Partition.{Partition}
 use Rattle.exact.specs.Exact.{Earned}
+use Rattle.improve.specs.Improve.{Improvement}
 use Rattle.corpus.specs.declared.tools.Counts.{Counts}
 use Rattle.corpus.specs.declared.tools.Draw.{Draw}
 use Rattle.corpus.specs.declared.entries.Line.{Line}
 use Rattle.corpus.specs.declared.entries.ReadLine.{ReadLine}
 use Rattle.corpus.specs.declared.entries.CheckLine.{CheckLine}
+use Rattle.corpus.specs.declared.entries.ImproveLine.{ImproveLine}
 use Rattle.checking.specs.declared.CheckAnswer.{CheckAnswer}
 
 -- the number in the k bytes from a place on, 0 where they are not all there
@@ -85,3 +87,7 @@ partitionLine o = record { refusal = o .answer .refusal; value = o .answer .groo
 -- the line of the best worth: the refusal, the worth, the checksum of the lent map
 unfoldable pub earnedLine : Earned → Line
 earnedLine o = record { refusal = o .refusal; value = o .worth; last = sumOf (o .lent) }
+
+-- the line of the search: the refusal, whether it ran whole, the worth, the ceiling less the worth, the visits, the checksum of the lent map
+unfoldable pub improvedLine : Improvement → ImproveLine
+improvedLine o = record { refusal = o .refusal; whole = o .whole; worth = o .worth; above = o .above; visits = o .visits; last = sumOf (o .lent) }

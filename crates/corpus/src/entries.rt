@@ -11,7 +11,9 @@ ghost use Rattle.listing.specs.List.{listOf};
 ghost use Rattle.partition.specs.Partition.{partitionOf};
 ghost use Rattle.screen.specs.Screen.{readShortOf};
 ghost use Rattle.exact.specs.Exact.{exactOf};
-ghost use Rattle.corpus.specs.Line.{countsHeld, drawHeld, drawnBy, unpacked, sumOf, writtenLine, readLine, partitionLine, earnedLine, checkLine};
+ghost use Rattle.improve.specs.Improve.{improveOf};
+ghost use Rattle.corpus.specs.Line.{longHeld, countsHeld, drawHeld, drawnBy, unpacked, sumOf, writtenLine, readLine, partitionLine, earnedLine};
+ghost use Rattle.corpus.specs.Line.{checkLine, improvedLine};
 use super::tools;
 use board::CountAnswer;
 
@@ -38,6 +40,16 @@ pub struct CheckLine {
     pub tally: u32,
     pub worth: u32,
     pub ceiling: u32,
+}
+
+// The search's line has four values between.
+pub struct ImproveLine {
+    pub refusal: u8,
+    pub whole: bool,
+    pub worth: u32,
+    pub above: u32,
+    pub visits: u64,
+    pub last: u32,
 }
 
 // Reading a sheet into the lent table.
@@ -193,6 +205,23 @@ pub fn best(sheet: &[u8], map: &mut [u8]) -> Line
     Line {
         refusal: answer.refusal,
         value: answer.worth as u64,
+        last: tools::byte_sum(&*map),
+    }
+}
+
+// A better set than the planned one, within the visits that the input gives, its map into the lent bytes.
+pub fn improve(limit: &[u8], sheet: &[u8], map: &mut [u8]) -> ImproveLine
+    ensures { λ r. ⌜ (r ≡ improvedLine (improveOf (now (sheet .entry)) (longHeld (now (limit .entry))) (now (map .entry))))
+        × (now (map .exit) ≡ improveOf (now (sheet .entry)) (longHeld (now (limit .entry))) (now (map .entry)) .lent) ⌝ }
+{
+    let visits = tools::long_in(limit);
+    let answer = improve::improve(sheet, visits, &mut *map);
+    ImproveLine {
+        refusal: answer.refusal,
+        whole: answer.whole,
+        worth: answer.worth,
+        above: answer.above,
+        visits: answer.visits,
         last: tools::byte_sum(&*map),
     }
 }

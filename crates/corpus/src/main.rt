@@ -22,18 +22,19 @@ fn input_size(entry: u8, first: u16, second: u16) -> usize {
     match entry {
         1 | 3 | 4 | 6 | 7 | 8 | 9 | 10 | 11 | 13 => second as usize,
         2 => 8 + 2 * (second as usize),
+        12 => 8 + second as usize,
         5 => first as usize + second as usize,
         _ => 0,
     }
 }
 
-// How many of them are the first part: a sheet, a board, the writer's two counts, or what a
-// sheet is drawn from. The rest is the
-// board to be checked, or the numbers of the writer's table.
+// How many of them are the first part: a sheet, a board, the writer's two counts, what a sheet is drawn
+// from, or a limit of visits. The rest is the board to be checked, the numbers of the writer's table, or the
+// sheet to be searched.
 fn front_size(entry: u8, first: u16, second: u16) -> usize {
     match entry {
         1 | 3 | 4 | 6 | 7 | 8 | 9 | 10 | 11 | 13 => second as usize,
-        2 => 8,
+        2 | 12 => 8,
         5 => first as usize,
         _ => 0,
     }
@@ -52,7 +53,7 @@ fn numbers_lent(entry: u8, first: u16, second: u16) -> usize {
 // How many bytes are lent.
 fn bytes_lent(entry: u8, first: u16) -> usize {
     match entry {
-        2 | 3 | 6 | 11 | 13 => first as usize,
+        2 | 3 | 6 | 11 | 12 | 13 => first as usize,
         _ => 0,
     }
 }
@@ -88,6 +89,17 @@ fn print_check(line: entries::CheckLine) {
     put(line.tally as u64);
     put(line.worth as u64);
     put(line.ceiling as u64);
+    io::write_all(STDOUT_FILENO, b"\n");
+}
+
+fn print_improve(line: entries::ImproveLine) {
+    io::write_all(STDOUT_FILENO, b"improve");
+    put(line.refusal as u64);
+    put(line.whole as u64);
+    put(line.worth as u64);
+    put(line.above as u64);
+    put(line.visits);
+    put(line.last as u64);
     io::write_all(STDOUT_FILENO, b"\n");
 }
 
@@ -130,6 +142,7 @@ fn run_entry(
         9 => print_line(b"assign", entries::assign(front, &mut *numbers)),
         10 => print_read(b"short", entries::short(front, &mut *numbers)),
         11 => print_line(b"best", entries::best(front, &mut *bytes)),
+        12 => print_improve(entries::improve(front, rest, &mut *bytes)),
         13 => print_line(b"draw", entries::draw(front, &mut *bytes)),
         _ => {
             return false;

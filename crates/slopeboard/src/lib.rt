@@ -17,10 +17,13 @@ ghost use Rattle.screen.specs.Screen.{readShortOf};
 ghost use Rattle.trial.specs.Trial.{drawOf};
 ghost use Rattle.exact.specs.Answer.{earned};
 ghost use Rattle.exact.specs.Exact.{exactOf};
+ghost use Rattle.improve.specs.Answer.{improved};
+ghost use Rattle.improve.specs.Improve.{improveOf};
 ghost use Rattle.slopeboard.specs.Part.{stepsPartAt};
 use board::CountAnswer;
 use checking::CheckAnswer;
 use exact::BestAnswer;
+use improve::Improved;
 use listing::ListAnswer;
 use partition::PartitionAnswer;
 use planner::PlanAnswer;
@@ -147,4 +150,11 @@ pub extern "C" fn slopeboard_best(sheet: &[u8], map: &mut [u8]) -> BestAnswer
     ensures { λ r. ⌜ earned r (now (map .exit)) ≡ exactOf (now (sheet .entry)) (now (map .entry)) ⌝ }
 {
     exact::best(sheet, &mut *map)
+}
+
+#[no_mangle]
+pub extern "C" fn slopeboard_improve(sheet: &[u8], visits: u64, map: &mut [u8]) -> Improved
+    ensures { λ r. ⌜ improved r (now (map .exit)) ≡ improveOf (now (sheet .entry)) visits (now (map .entry)) ⌝ }
+{
+    improve::improve(sheet, visits, &mut *map)
 }

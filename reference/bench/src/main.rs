@@ -129,6 +129,17 @@ const BEST: Entry = Entry {
     reference: |job| fast::best(&job.sheet, &mut job.bytes).is_ok(),
 };
 
+/// The most visits of the search.
+const VISITS: u64 = 10_000;
+
+/// The entry that looks for a better choice, on sheets that it does not get
+/// through.
+const IMPROVE: Entry = Entry {
+    name: "improve",
+    library: |job| slopeboard::improve(&job.sheet, VISITS, &mut job.bytes).is_ok(),
+    reference: |job| fast::improve(&job.sheet, VISITS, &mut job.bytes).is_ok(),
+};
+
 /// The entry that draws sheets: from one seed, with the counts of the job.
 const DRAW: Entry = Entry {
     name: "draw",
@@ -210,7 +221,7 @@ fn print_row(name: &str, label: &str, [library, reference]: [Times; 2], growth: 
     let micros = |time: f64| format!("{:.2}", time / 1000.0);
     let growth = growth.map_or(String::new(), |growth| format!("{growth:.2}"));
     println!(
-        "{name:7}{label:14}{:>9}{:>10}{:>12}{:>10}{:>8.2}{growth:>8}",
+        "{name:8}{label:14}{:>9}{:>10}{:>12}{:>10}{:>8.2}{growth:>8}",
         micros(library.best),
         micros(library.median),
         micros(reference.best),
@@ -335,11 +346,11 @@ fn main() {
     let mut driven = jobs(&mut rng, driven_sheet, 400);
 
     println!("times of one call in microseconds; n is the number of turns, m of steps,");
-    println!("g of groomers that do all turns, k of groomers that the turns name;");
+    println!("g of groomers that do all turns, k of groomers that the turns name, v of visits at most;");
     println!("12 groomers and 80 slopes; w: 16 groomers, 120 slopes, sorted; d: with drivers");
     println!("plan o: the reference makes its steps in the same order as the library");
-    println!("                     library             reference");
-    println!("entry  sheet              best    median        best    median   ratio  growth");
+    println!("                      library             reference");
+    println!("entry   sheet              best    median        best    median   ratio  growth");
     for entry in ENTRIES.iter().chain([&PLAN_SAME_ORDER]) {
         let mut before: Option<f64> = None;
         for jobs in &mut usual {
@@ -373,6 +384,10 @@ fn main() {
             print_row(BEST.name, &format!("n={turns} {groomers}"), times, growth);
             before = Some(times[0].median);
         }
+    }
+    for turns in [32, 64] {
+        let times = measure_all(&IMPROVE, &mut jobs(&mut rng, usual_sheet, turns));
+        print_row(IMPROVE.name, &format!("n={turns} v={VISITS}"), times, None);
     }
     let mut before: Option<f64> = None;
     for turns in [200, 400] {

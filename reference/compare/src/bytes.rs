@@ -4,7 +4,7 @@ use std::fmt::Debug;
 
 use slopeboard_reference::gen::Rng;
 
-use crate::foreign::{AssignAnswer, BestAnswer, BytesAnswer};
+use crate::foreign::{AssignAnswer, BestAnswer, BytesAnswer, ImproveAnswer};
 use crate::report::{show, Report};
 
 /// Places before and after the lent ones that must stay as they are.
@@ -46,6 +46,12 @@ impl Answer for AssignAnswer {
 }
 
 impl Answer for BestAnswer {
+    fn refusal(&self) -> u8 {
+        self.refusal
+    }
+}
+
+impl Answer for ImproveAnswer {
     fn refusal(&self) -> u8 {
         self.refusal
     }

@@ -3,7 +3,8 @@
 
 use slopeboard::raw;
 pub use slopeboard::raw::{
-    AssignAnswer, BestAnswer, BytesAnswer, CheckAnswer, CountAnswer, Part, ReadAnswer,
+    AssignAnswer, BestAnswer, BytesAnswer, CheckAnswer, CountAnswer, ImproveAnswer, Part,
+    ReadAnswer,
 };
 
 /// A slice as the library takes it. An empty one may come with any pointer,
@@ -97,6 +98,12 @@ pub fn assign(sheet: &[u8], places: &mut [u16]) -> AssignAnswer {
 pub fn best(sheet: &[u8], map: &mut [u8]) -> BestAnswer {
     let ((sheet, sheet_len), (map, map_len)) = (parts(sheet), parts_mut(map));
     unsafe { raw::slopeboard_best(sheet, sheet_len, map, map_len) }
+}
+
+/// Looks for a better choice than the planned one.
+pub fn improve(sheet: &[u8], visits: u64, map: &mut [u8]) -> ImproveAnswer {
+    let ((sheet, sheet_len), (map, map_len)) = (parts(sheet), parts_mut(map));
+    unsafe { raw::slopeboard_improve(sheet, sheet_len, visits, map, map_len) }
 }
 
 /// Draws a sheet from a seed.

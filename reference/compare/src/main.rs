@@ -11,6 +11,7 @@ mod check;
 mod choice;
 mod draw;
 mod foreign;
+mod improve;
 mod list;
 mod open;
 mod partition;
@@ -36,6 +37,7 @@ fn main() -> ExitCode {
         list::run,
         partition::run,
         best::run,
+        improve::run,
         draw::run,
     ];
     let mut good = true;

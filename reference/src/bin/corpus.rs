@@ -10,7 +10,7 @@
 //! repository, with the entries that the crate runs:
 //!
 //! ```text
-//! cargo run --release --manifest-path reference/Cargo.toml --bin corpus -- crates/corpus read write plan open check list count chosen assign short best draw
+//! cargo run --release --manifest-path reference/Cargo.toml --bin corpus -- crates/corpus read write plan open check list count chosen assign short best improve draw
 //! ```
 //!
 //! A case is five bytes and an input. Byte 0 is the entry's number, bytes 1
@@ -30,6 +30,7 @@
 //! | 9 assign | numbers lent | bytes of the sheet | the sheet |
 //! | 10 short | numbers lent | bytes of the sheet | the sheet |
 //! | 11 best | bytes lent | bytes of the sheet | the sheet |
+//! | 12 improve | bytes lent | bytes of the sheet | the most visits, eight bytes, then the sheet |
 //! | 13 draw | bytes lent | 20 | the seed, eight bytes, then groomers, slopes and turns, four bytes each |
 //!
 //! No input has more than 16,384 bytes, no case lends more than 2,408 numbers
@@ -42,7 +43,8 @@
 //! are the length of the steps handed back, and the checksum is theirs.
 //! `check`, whose values are tally, worth and ceiling, and `count` have no
 //! checksum. `chosen` can refuse nothing: its line has the name, and 1 or 0 for
-//! chosen or not.
+//! chosen or not. The values of `improve` are 1 or 0 for whether the whole
+//! search ran, then worth, how far the ceiling is above it, and visits.
 
 use std::path::Path;
 use std::process::ExitCode;
@@ -58,6 +60,8 @@ mod check;
 mod choice;
 #[path = "corpus/draw.rs"]
 mod draw;
+#[path = "corpus/improve.rs"]
+mod improve;
 #[path = "corpus/list.rs"]
 mod list;
 #[path = "corpus/open.rs"]
@@ -96,7 +100,7 @@ const NUMBER_FILL: u16 = 0xA5A5;
 /// An entry's name and what adds its cases.
 type Entry = (&'static str, fn(&mut Corpus));
 
-const ENTRIES: [Entry; 12] = [
+const ENTRIES: [Entry; 13] = [
     ("read", read::add),
     ("write", write::add),
     ("plan", planning::add),
@@ -108,6 +112,7 @@ const ENTRIES: [Entry; 12] = [
     ("assign", partition::add),
     ("short", read::add_short),
     ("best", best::add),
+    ("improve", improve::add),
     ("draw", draw::add),
 ];
 

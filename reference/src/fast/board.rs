@@ -21,12 +21,12 @@ pub struct View<'a> {
 }
 
 /// Bytes of the choice map of so many turns.
-pub fn map_len(turns: usize) -> usize {
+pub const fn map_len(turns: usize) -> usize {
     turns.div_ceil(8)
 }
 
 /// Bytes of a board with so many turns and steps.
-pub fn board_len(turns: usize, steps: usize) -> usize {
+pub const fn board_len(turns: usize, steps: usize) -> usize {
     HEADER_LEN + map_len(turns) + STEP_LEN * steps
 }
 

@@ -42,5 +42,7 @@ pub const BAD_DRIVER: u8 = 19;
 pub const TOO_MANY_FOR_SCREEN: u8 = 20;
 /// A slope has two turns, or a turn names a driver.
 pub const NOT_SINGLE_TURNS: u8 = 21;
+/// The sheet has over 64 turns, which are too many to search.
+pub const TOO_MANY_TO_SEARCH: u8 = 22;
 /// The generator does not take the seed.
 pub const BAD_SEED: u8 = 23;

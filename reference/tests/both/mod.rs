@@ -4,7 +4,7 @@
 // Each test file uses some of these.
 #![allow(dead_code)]
 
-use slopeboard_reference::naive::{Counts, Sums};
+use slopeboard_reference::naive::{Counts, Improved, Sums};
 use slopeboard_reference::{fast, naive};
 
 pub fn read(sheet: &[u8], table: &mut [u16]) -> Result<Counts, u8> {
@@ -84,6 +84,20 @@ pub fn best(sheet: &[u8], map: &mut [u8]) -> Result<u32, u8> {
     let answer = naive::best(sheet, map);
     assert_eq!(fast::best(sheet, &mut other), answer, "{sheet:?}");
     assert_eq!(other, map, "{sheet:?}");
+    answer
+}
+
+pub fn improve(sheet: &[u8], limit: u64, map: &mut [u8]) -> Result<Improved, u8> {
+    let mut other = map.to_vec();
+    let answer = naive::improve(sheet, limit, map);
+    let fast = fast::improve(sheet, limit, &mut other).map(|found| Improved {
+        worth: found.worth,
+        above: found.above,
+        visits: found.visits,
+        whole: found.whole,
+    });
+    assert_eq!(fast, answer, "{limit} {sheet:?}");
+    assert_eq!(other, map, "{limit} {sheet:?}");
     answer
 }
 

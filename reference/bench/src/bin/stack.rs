@@ -7,7 +7,7 @@
 //! SLOPEBOARD_LIB_DIR=$PWD/target/staticlib cargo run --release --manifest-path reference/bench/Cargo.toml --bin stack
 //! ```
 
-use std::collections::BTreeMap;
+use std::collections::{BTreeMap, BTreeSet};
 use std::env;
 use std::process::{Command, ExitCode};
 
@@ -64,13 +64,50 @@ fn functions(listing: &str) -> BTreeMap<String, Function> {
     found
 }
 
-/// The library calls nothing in a circle, so this ends.
+/// How many times functions that call each other in a circle can stand above
+/// one another: the search goes one level deeper for each of 64 turns, and once
+/// more behind the last.
+const LEVELS: usize = 65;
+
+/// The functions that can be called, one by the other, from this one.
+fn reached(found: &BTreeMap<String, Function>, name: &str) -> BTreeSet<String> {
+    let mut reached = BTreeSet::new();
+    let mut next = vec![name.to_string()];
+    while let Some(name) = next.pop() {
+        for callee in found.get(&name).map_or(&[][..], |known| &known.callees) {
+            if reached.insert(callee.clone()) {
+                next.push(callee.clone());
+            }
+        }
+    }
+    reached
+}
+
+/// The functions that call this one again, one by the other, after it has
+/// called them, and itself.
+fn circle(found: &BTreeMap<String, Function>, name: &str) -> BTreeSet<String> {
+    let mut circle = reached(found, name);
+    circle.retain(|other| reached(found, other).contains(name));
+    circle.insert(name.to_string());
+    circle
+}
+
+/// What a function needs with all below it. Each function of a circle counts
+/// for every level.
 fn need(found: &BTreeMap<String, Function>, name: &str) -> usize {
-    let Some(function) = found.get(name) else {
+    if !found.contains_key(name) {
         return 0;
+    }
+    let circle = circle(found, name);
+    let in_circle = || circle.iter().map(|name| &found[name]);
+    let frames: usize = in_circle().map(|function| function.frame).sum();
+    let levels = match reached(found, name).contains(name) {
+        true => LEVELS,
+        false => 1,
     };
-    let below = function.callees.iter().map(|callee| need(found, callee));
-    function.frame + below.max().unwrap_or(0)
+    let callees = in_circle().flat_map(|function| &function.callees);
+    let below = callees.filter(|callee| !circle.contains(*callee));
+    levels * frames + below.map(|callee| need(found, callee)).max().unwrap_or(0)
 }
 
 fn main() -> ExitCode {

@@ -1,0 +1,42 @@
+// The planned board, from which the search starts.
+ghost use mathlib.Core.Path.{_≡_};
+ghost use Prim.Native.Nat.{_≤_};
+ghost use Rattle.problem.specs.Columns.{turnsBy, Held};
+ghost use Rattle.planning.specs.Plan.{boardFor};
+ghost use Rattle.improve.specs.Words.{wordBits};
+ghost use Rattle.improve.specs.Start.{StartOf};
+use super::words::word_of;
+use problem::PLACES;
+use problem::Size;
+
+// The board's worth, its ceiling, and its set as a word.
+pub struct Start {
+    pub worth: u32,
+    pub ceiling: u32,
+    pub turns: u64,
+}
+
+// What a planned board has.
+fn start_from(p: Size, cols: &[u16; PLACES], b: &[u8]) -> Start
+    requires { ⌜ Held p (now cols) × (p .count ≤ wordBits) × (now b ≡ boardFor (turnsBy p (now cols))) ⌝ }
+    ensures { λ r. ⌜ StartOf (turnsBy p (now (cols .entry))) r ⌝ }
+{
+    let steps = board::steps(b);
+    let m = board::step_count(b);
+    let map = board::map(b);
+    Start {
+        worth: board::worth(b),
+        ceiling: ratio::ceiling_of(p, cols, steps, m as usize),
+        turns: word_of(map, p.count),
+    }
+}
+
+// The board is planned into a place of its own.
+pub fn start_of(p: Size, cols: &[u16; PLACES]) -> Start
+    requires { ⌜ Held p (now cols) × (p .count ≤ wordBits) ⌝ }
+    ensures { λ r. ⌜ StartOf (turnsBy p (now (cols .entry))) r ⌝ }
+{
+    let mut space = [0u8; planner::BOARD_BYTES];
+    let bytes = planner::write_board(p, cols, &mut space);
+    start_from(p, cols, &space[..bytes as usize])
+}

@@ -1,0 +1,314 @@
+-- The list of sets: which ones it has, their order, and that a search compares the first of them, all if its visits last. Assumes nothing.
+use mathlib.Core.Path.{_≡_, refl, sym, ap, _∙_}
+use mathlib.Core.Logic.{_⊎_, inl, inr, _↔_}
+use mathlib.Core.Bool.{Bool, true, false, cond}
+use mathlib.Core.List.{List, [], _∷_, _++_}
+use Prim.Native.Nat.{ℕ, zero, suc, _+_, _-_, _≤_, _<_}
+use native.Mathlib.Omega.{arith}
+use native.Mathlib.Decide.{decLt, ℕ-discrete}
+use lib.ListN.{length, set, take, length-set, length-append, length-replicate}
+use lib.Seq.{getD-set-same, getD-set-other, ext-getD, take-all}
+use Rattle.lists.proofs.Bools.{fails, not-both}
+use Rattle.model.specs.Turns.{Turns, PositiveLengths}
+use Rattle.model.specs.Choice.{has, fits}
+use Rattle.model.proofs.Choices.{none-chosen}
+use Rattle.model.proofs.Filled.{NoConflict, put-apart}
+use Rattle.model.proofs.Minutes
+use Rattle.model.proofs.Readings.{apart-reads}
+use Rattle.searching.specs.Search.{Progress, worthOfChoice, compared, visited, searchFrom, noneTaken, fromPlan, searchAll}
+use Rattle.searching.specs.Sets.{setsFrom, setsOf, comparedAll, wholeVisits, ListedSet, here, there, SetOf, ComesBefore, SetsInOrder, empty, leads, Compares}
+use Rattle.searching.proofs.Promised.{whole-visits}
+use Rattle.searching.proofs.Searches.{compared-cases, sets-with, sets-without, visitsFrom, visits-with, visits-without, visits-some, visits-none, search-visits, search-none, search-ind, Begins, begins-fits, begins-with, begins-without}
+
+-- ---- lists of sets
+
+listed-split : {U : List Bool} (As : List (List Bool)) {Bs : List (List Bool)} → ListedSet U (As ++ Bs) → ListedSet U As ⊎ ListedSet U Bs
+listed-split [] h = inr h
+listed-split (A ∷ As) here = inl here
+listed-split (A ∷ As) (there h) = go (listed-split As h)
+  where
+    go : {U : List Bool} {Bs : List (List Bool)} → ListedSet U As ⊎ ListedSet U Bs → ListedSet U (A ∷ As) ⊎ ListedSet U Bs
+    go (inl l) = inl (there l)
+    go (inr r) = inr r
+
+listed-left : {U : List Bool} {As : List (List Bool)} (Bs : List (List Bool)) → ListedSet U As → ListedSet U (As ++ Bs)
+listed-left Bs here = here
+listed-left Bs (there h) = there (listed-left Bs h)
+
+listed-right : {U : List Bool} (As : List (List Bool)) {Bs : List (List Bool)} → ListedSet U Bs → ListedSet U (As ++ Bs)
+listed-right [] h = h
+listed-right (A ∷ As) h = there (listed-right As h)
+
+listed-some : {U : List Bool} {As : List (List Bool)} → ListedSet U As → 1 ≤ length As
+listed-some here = omega arith
+listed-some (there h) = omega arith
+
+order-both : {As Bs : List (List Bool)} → SetsInOrder As → SetsInOrder Bs → ((U W : List Bool) → ListedSet U As → ListedSet W Bs → ComesBefore U W) → SetsInOrder (As ++ Bs)
+order-both empty b h = b
+order-both {As = A ∷ As} {Bs = Bs} (leads f a) b h = leads (λ W l. go W (listed-split As l)) (order-both a b (λ U W k l. h U W (there k) l))
+  where
+    go : (W : List Bool) → ListedSet W As ⊎ ListedSet W Bs → ComesBefore A W
+    go W (inl k) = f W k
+    go W (inr l) = h A W here l
+
+module _ (T : Turns) where
+  -- ---- what a listed set has
+
+  -- of so many turns from t on
+  record Grown (left t : ℕ) (S U : List Bool) : Type 0 where
+    places : length U ≡ T .count
+    apart : NoConflict T U
+    before : (u : ℕ) → u < t → has U u ≡ has S u
+    after : (u : ℕ) → t + left ≤ u → has U u ≡ false
+
+  -- a set from which they grow
+  record Root (t : ℕ) (S : List Bool) : Type 0 where
+    places : length S ≡ T .count
+    apart : NoConflict T S
+    after : (u : ℕ) → t ≤ u → has S u ≡ false
+
+  root-with : (t : ℕ) (S : List Bool) → fits T S t ≡ true → Root t S → Root (suc t) (set S t true)
+  root-with t S f r =
+      record {
+        places = length-set S t true ∙ r .places;
+        apart = put-apart T S t f (r .apart);
+        after = λ u l. getD-set-other S t u true false (λ e. omega arith) ∙ r .after u (omega arith);
+      }
+
+  root-without : (t : ℕ) (S : List Bool) → Root t S → Root (suc t) S
+  root-without t S r = record { places = r .places; apart = r .apart; after = λ u l. r .after u (omega arith) }
+
+  grown-with : (left t : ℕ) (S U : List Bool) → Grown left (suc t) (set S t true) U → Grown (suc left) t S U
+  grown-with left t S U g =
+      record {
+        places = g .places;
+        apart = g .apart;
+        before = λ u l. g .before u (omega arith) ∙ getD-set-other S t u true false (λ e. omega arith);
+        after = λ u l. g .after u (omega arith);
+      }
+
+  grown-without : (left t : ℕ) (S U : List Bool) → Grown left (suc t) S U → Grown (suc left) t S U
+  grown-without left t S U g = record { places = g .places; apart = g .apart; before = λ u l. g .before u (omega arith); after = λ u l. g .after u (omega arith) }
+
+  one-listed : (t : ℕ) (S U : List Bool) → ListedSet U (setsFrom T 0 t S) → U ≡ S
+  unfolding setsFrom
+  one-listed t S U here = refl
+
+  sets-grown : (left t : ℕ) (S U : List Bool) → Root t S → ListedSet U (setsFrom T left t S) → Grown left t S U
+  sets-grown zero t S U r h =
+      let e = one-listed t S U h in
+      record { places = ap length e ∙ r .places; apart = rw e (r .apart); before = λ u l. rw e; after = λ u l. rw e (r .after u (omega arith)) }
+  sets-grown (suc left) t S U r h =
+      go (fits T S t) refl h (λ f k. grown-with left t S U (sets-grown left (suc t) (set S t true) U (root-with t S f r) k)) (λ k. grown-without left t S U (sets-grown left (suc t) S U (root-without t S r) k))
+    where
+      go : (b : Bool) → fits T S t ≡ b → ListedSet U (setsFrom T (suc left) t S) → (fits T S t ≡ true → ListedSet U (setsFrom T left (suc t) (set S t true)) → Grown (suc left) t S U)
+          → (ListedSet U (setsFrom T left (suc t) S) → Grown (suc left) t S U) → Grown (suc left) t S U
+      go true f h ih jh = split (listed-split (setsFrom T left (suc t) (set S t true)) (rw (sets-with T left t S f) at h))
+        where
+          split : ListedSet U (setsFrom T left (suc t) (set S t true)) ⊎ ListedSet U (setsFrom T left (suc t) S) → Grown (suc left) t S U
+          split (inl k) = ih f k
+          split (inr k) = jh k
+      go false f h ih jh = jh (rw (sets-without T left t S f) at h)
+
+  -- ---- every such set is listed
+
+  module _ (U : List Bool) (apart : NoConflict T U) (size : length U ≡ T .count) where
+    last-listed : (t : ℕ) (S : List Bool) → Begins T U t S → ((u : ℕ) → t ≤ u → has U u ≡ false) → ListedSet U (setsFrom T 0 t S)
+    unfolding setsFrom
+    last-listed t S b a = rw same here
+      where
+        same : S ≡ U
+        same = ext-getD false S U (b .places ∙ sym size) (λ u l. go u (decLt u t))
+          where
+            go : (u : ℕ) → Dec (u < t) → has S u ≡ has U u
+            go u (yes l) = b .before u l
+            go u (no l) = b .after u (omega arith) ∙ sym (a u (omega arith))
+
+    sets-listed : (left t : ℕ) (S : List Bool) → t + left ≤ T .count → Begins T U t S → ((u : ℕ) → t + left ≤ u → has U u ≡ false) → ListedSet U (setsFrom T left t S)
+    sets-listed zero t S m b a = last-listed t S b (λ u l. a u (omega arith))
+    sets-listed (suc left) t S m b a =
+        go (has U t) refl (fits T S t) refl
+        (λ e. sets-listed left (suc t) (set S t true) (omega arith) (begins-with T U apart t S (omega arith) b e) (λ u l. a u (omega arith)))
+        (λ e. sets-listed left (suc t) S (omega arith) (begins-without T U apart t S b e) (λ u l. a u (omega arith)))
+      where
+        go : (c : Bool) → has U t ≡ c → (d : Bool) → fits T S t ≡ d → (has U t ≡ true → ListedSet U (setsFrom T left (suc t) (set S t true))) → (has U t ≡ false → ListedSet U (setsFrom T left (suc t) S)) → ListedSet U (setsFrom T (suc left) t S)
+        go true e true f ih jh = rw (sets-with T left t S f) (listed-left (setsFrom T left (suc t) S) (ih e))
+        go true e false f ih jh = absurd (not-both (begins-fits T U apart t S (omega arith) b e) f)
+        go false e true f ih jh = rw (sets-with T left t S f) (listed-right (setsFrom T left (suc t) (set S t true)) (jh e))
+        go false e false f ih jh = rw (sets-without T left t S f) (jh e)
+
+  -- ---- in order
+
+  one-in-order : (t : ℕ) (S : List Bool) → SetsInOrder (setsFrom T 0 t S)
+  unfolding setsFrom
+  one-in-order t S = leads {Us = []} (λ W h. absurd (omega (arith, listed-some {As = []} h))) empty
+
+  sets-in-order : (left t : ℕ) (S : List Bool) → t + left ≤ T .count → Root t S → SetsInOrder (setsFrom T left t S)
+  sets-in-order zero t S m r = one-in-order t S
+  sets-in-order (suc left) t S m r =
+      go (fits T S t) refl (λ f. sets-in-order left (suc t) (set S t true) (omega arith) (root-with t S f r)) (sets-in-order left (suc t) S (omega arith) (root-without t S r))
+    where
+      before : fits T S t ≡ true → (U W : List Bool) → ListedSet U (setsFrom T left (suc t) (set S t true)) → ListedSet W (setsFrom T left (suc t) S) → ComesBefore U W
+      before f U W k l =
+          let g = sets-grown left (suc t) (set S t true) U (root-with t S f r) k in
+          let h = sets-grown left (suc t) S W (root-without t S r) l in
+          record {
+            turn = t;
+            same = λ u q. g .before u (omega arith) ∙ getD-set-other S t u true false (λ e. omega arith) ∙ sym (h .before u (omega arith));
+            first-has = g .before t (omega arith) ∙ getD-set-same S t true false (omega (arith, r .places));
+            second-not = h .before t (omega arith) ∙ r .after t (omega arith);
+          }
+
+      go : (b : Bool) → fits T S t ≡ b → (fits T S t ≡ true → SetsInOrder (setsFrom T left (suc t) (set S t true))) → SetsInOrder (setsFrom T left (suc t) S) → SetsInOrder (setsFrom T (suc left) t S)
+      go true f ih jh = rw (sets-with T left t S f) (order-both (ih f) jh (before f))
+      go false f ih jh = rw (sets-without T left t S f) jh
+
+  -- ---- the sets of the first t turns
+
+  root-none : Root 0 (noneTaken T)
+  root-none = record { places = length-replicate (T .count) false; apart = λ x y hx hy d p q. absurd (none-chosen (T .count) x p); after = λ u l. fails (has (noneTaken T) u) (λ h. none-chosen (T .count) u h) }
+
+  module _ (lengths : PositiveLengths T) (t : ℕ) (few : t ≤ T .count) where
+    -- listed are exactly the sets without conflict
+    pub sets-are : (U : List Bool) → ListedSet U (setsOf T t) ↔ SetOf T t U
+    unfolding setsOf
+    sets-are U = (to, from)
+      where
+        to : ListedSet U (setsFrom T t 0 (noneTaken T)) → SetOf T t U
+        to h =
+            let g = sets-grown t 0 (noneTaken T) U root-none h in
+            record { places = g .places; first-only = λ u l. g .after u (omega arith); apart = apart-reads T U lengths (g .apart) }
+
+        from : SetOf T t U → ListedSet U (setsFrom T t 0 (noneTaken T))
+        from s =
+            sets-listed U (λ x y hx hy d p q. Minutes.no-conflict-is T lengths x y hx hy .1 (s .apart x y hx hy d p q)) (s .places) t 0 (noneTaken T) (omega arith)
+            (record { places = root-none .places; before = λ u l. absurd (omega arith); after = root-none .after }) (λ u l. s .first-only u (omega arith))
+
+    -- each once, those with the lower turns first
+    pub sets-ordered : SetsInOrder (setsOf T t)
+    unfolding setsOf
+    sets-ordered = sets-in-order t 0 (noneTaken T) (omega arith) root-none
+
+-- ---- a search compares the first of them
+
+-- the same best set of the same worth
+record SameBest (x y : Progress) : Type 0 where
+  worth-is : x .worth ≡ y .worth
+  best-is : x .best ≡ y .best
+
+same-trans : {x y z : Progress} → SameBest x y → SameBest y z → SameBest x z
+same-trans p q = record { worth-is = p .worth-is ∙ q .worth-is; best-is = p .best-is ∙ q .best-is }
+
+take-past : (As Bs : List (List Bool)) (m k : ℕ) → k ≡ length As + m → take k (As ++ Bs) ≡ As ++ take m Bs
+take-past [] Bs m k e = let z : k ≡ m = omega arith in rw z
+take-past (A ∷ As) Bs m zero e = absurd (omega arith)
+take-past (A ∷ As) Bs m (suc k) e = ap (λ (l : List (List Bool)). A ∷ l) (take-past As Bs m k (omega arith))
+
+take-within : (As Bs : List (List Bool)) (k : ℕ) → k ≤ length As → take k (As ++ Bs) ≡ take k As
+take-within As Bs zero h = refl
+take-within [] Bs (suc k) h = absurd (omega arith)
+take-within (A ∷ As) Bs (suc k) h = ap (λ (l : List (List Bool)). A ∷ l) (take-within As Bs k (omega arith))
+
+module _ (T : Turns) where
+  compared-alike : (S : List Bool) (x y : Progress) → SameBest x y → SameBest (compared T S x) (compared T S y)
+  compared-alike S x y s =
+      compared-cases T (λ z. SameBest z (compared T S y)) S x
+      (λ l. compared-cases T (λ z. SameBest (record { visits = x .visits; whole = x .whole; worth = worthOfChoice T S; best = S }) z) S y (λ k. record { worth-is = refl; best-is = refl }) (λ k. absurd (omega (arith, s .worth-is))))
+      (λ l. compared-cases T (λ z. SameBest x z) S y (λ k. absurd (omega (arith, s .worth-is))) (λ k. s))
+
+  all-alike : (Ss : List (List Bool)) (x y : Progress) → SameBest x y → SameBest (comparedAll T Ss x) (comparedAll T Ss y)
+  unfolding comparedAll
+  all-alike [] x y s = s
+  all-alike (S ∷ Ss) x y s = all-alike Ss (compared T S x) (compared T S y) (compared-alike S x y s)
+
+  all-both : (As Bs : List (List Bool)) (x : Progress) → comparedAll T (As ++ Bs) x ≡ comparedAll T Bs (comparedAll T As x)
+  unfolding comparedAll
+  all-both [] Bs x = refl
+  all-both (A ∷ As) Bs x = all-both As Bs (compared T A x)
+
+  -- y is what comparing the first of some sets makes of x, all of them where the visits last
+  record Reaches (enough : Type 0) (Ss : List (List Bool)) (x y : Progress) : Type 0 where
+    many : ℕ
+    few : many ≤ length Ss
+    all : enough → many ≡ length Ss
+    found : SameBest y (comparedAll T (take many Ss) x)
+
+  reaches-one : (t : ℕ) (S : List Bool) (x : Progress) → Reaches (visitsFrom T 0 t S ≤ x .visits) (setsFrom T 0 t S) x (compared T S x)
+  unfolding setsFrom comparedAll
+  reaches-one t S x = record { many = 1; few = omega arith; all = λ l. refl; found = record { worth-is = refl; best-is = refl } }
+
+  reaches-none : {enough : Type 0} (Ss : List (List Bool)) (x y : Progress) → (enough → ⊥) → SameBest y x → Reaches enough Ss x y
+  unfolding comparedAll
+  reaches-none Ss x y n s = record { many = 0; few = omega arith; all = λ e. absurd (n e); found = s }
+
+  reaches-both : {P Q R : Type 0} (As Bs : List (List Bool)) (x y z : Progress) → P → (R → Q) → Reaches P As x y → Reaches Q Bs y z → Reaches R (As ++ Bs) x z
+  reaches-both As Bs x y z p q a b =
+      record {
+        many = length As + b .many;
+        few = omega (arith, b .few, length-append As Bs);
+        all = λ r. omega (arith, b .all (q r), length-append As Bs);
+        found = rw (take-past As Bs (b .many) (length As + b .many) refl, all-both As (take (b .many) Bs) x)
+            (same-trans (b .found) (all-alike (take (b .many) Bs) y (comparedAll T As x) (rw (whole-taken) at (a .found))));
+      }
+    where
+      whole-taken : take (a .many) As ≡ As
+      whole-taken = take-all (a .many) As (omega (arith, a .all p))
+
+  reaches-first : {P R : Type 0} (As Bs : List (List Bool)) (x y z : Progress) → (R → ⊥) → SameBest z y → Reaches P As x y → Reaches R (As ++ Bs) x z
+  reaches-first As Bs x y z n s a =
+      record {
+        many = a .many;
+        few = omega (arith, a .few, length-append As Bs);
+        all = λ r. absurd (n r);
+        found = rw (take-within As Bs (a .many) (a .few)) (same-trans s (a .found));
+      }
+
+  reaches-alike : {P Q : Type 0} (Ss : List (List Bool)) (x z y : Progress) → (Q → P) → SameBest z x → Reaches P Ss z y → Reaches Q Ss x y
+  reaches-alike Ss x z y q s a = record { many = a .many; few = a .few; all = λ e. a .all (q e); found = same-trans (a .found) (all-alike (take (a .many) Ss) z x s) }
+
+  same-visited : (x : Progress) → SameBest (visited x) x
+  same-visited x = record { worth-is = refl; best-is = refl }
+
+  search-reaches : (left t : ℕ) (S : List Bool) (x : Progress) → Reaches (visitsFrom T left t S ≤ x .visits) (setsFrom T left t S) x (searchFrom T left t S x)
+  search-reaches =
+      search-ind T (λ left t S x y. Reaches (visitsFrom T left t S ≤ x .visits) (setsFrom T left t S) x y)
+      reaches-one
+      (λ left t S x z. reaches-none (setsFrom T (suc left) t S) x _ (λ l. omega (arith, visits-some T left t S)) (record { worth-is = refl; best-is = refl }))
+      (λ left t S x z f ih jh.
+      rw (sets-with T left t S f)
+      (both left t S x f z (reaches-alike (setsFrom T left (suc t) (set S t true)) x (visited x) (searchFrom T left (suc t) (set S t true) (visited x)) (λ e. e) (same-visited x) (ih (visited x)))
+      (jh (searchFrom T left (suc t) (set S t true) (visited x))) (decLt (x .visits - 1) (visitsFrom T left (suc t) (set S t true)))))
+      (λ left t S x z f jh.
+      rw (sets-without T left t S f)
+      (reaches-alike (setsFrom T left (suc t) S) x (visited x) (searchFrom T left (suc t) S (visited x)) (λ l. omega (arith, visits-without T left t S f)) (same-visited x) (jh (visited x))))
+    where
+      -- with no visit left, past the first part nothing is compared
+      spent : (left t : ℕ) (S : List Bool) (y : Progress) → (left ≡ 0 → ⊥) → y .visits ≡ 0 → SameBest (searchFrom T left t S y) y
+      spent zero t S y z e = absurd (z refl)
+      spent (suc left) t S y z e = rw (search-none T left t S y e) (record { worth-is = refl; best-is = refl })
+
+      both : (left t : ℕ) (S : List Bool) (x : Progress) → fits T S t ≡ true → (x .visits ≡ 0 → ⊥)
+          → Reaches (visitsFrom T left (suc t) (set S t true) ≤ x .visits - 1) (setsFrom T left (suc t) (set S t true)) x (searchFrom T left (suc t) (set S t true) (visited x))
+          → Reaches (visitsFrom T left (suc t) S ≤ searchFrom T left (suc t) (set S t true) (visited x) .visits) (setsFrom T left (suc t) S)
+          (searchFrom T left (suc t) (set S t true) (visited x)) (searchFrom T left (suc t) S (searchFrom T left (suc t) (set S t true) (visited x)))
+          → Dec (x .visits - 1 < visitsFrom T left (suc t) (set S t true))
+          → Reaches (visitsFrom T (suc left) t S ≤ x .visits) (setsFrom T left (suc t) (set S t true) ++ setsFrom T left (suc t) S) x (searchFrom T left (suc t) S (searchFrom T left (suc t) (set S t true) (visited x)))
+      both left t S x f z a b (yes l) =
+          reaches-first (setsFrom T left (suc t) (set S t true)) (setsFrom T left (suc t) S) x (searchFrom T left (suc t) (set S t true) (visited x)) _
+          (λ e. omega (arith, visits-with T left t S f))
+          (spent left (suc t) S (searchFrom T left (suc t) (set S t true) (visited x)) (λ q. nonzero q) (search-visits T left (suc t) (set S t true) (visited x) ∙ gone)) a
+        where
+          nonzero : left ≡ 0 → ⊥
+          nonzero q = let v : visitsFrom T left (suc t) (set S t true) ≡ 0 = ap (λ (k : ℕ). visitsFrom T k (suc t) (set S t true)) q ∙ visits-none T (suc t) (set S t true) in omega (arith, v)
+
+          gone : x .visits - 1 - visitsFrom T left (suc t) (set S t true) ≡ 0
+          gone = omega arith
+      both left t S x f z a b (no l) =
+          reaches-both (setsFrom T left (suc t) (set S t true)) (setsFrom T left (suc t) S) x (searchFrom T left (suc t) (set S t true) (visited x)) _
+          (omega arith) (λ e. omega (arith, visits-with T left t S f, search-visits T left (suc t) (set S t true) (visited x))) a b
+
+  pub search-compares : (limit : ℕ) → Compares T limit
+  unfolding searchAll setsOf
+  search-compares limit =
+      let r = search-reaches (T .count) 0 (noneTaken T) (fromPlan T limit) in
+      record { many = r .many; all = λ l. r .all (omega (arith, whole-visits T)); worth-is = r .found .worth-is; best-is = r .found .best-is }
