@@ -1,7 +1,7 @@
 /* Slope board: reads and writes shift sheets, plans boards, opens and checks them, writes the drivers'
  * listing, assigns groomers where all turns must be done, works out the best worth where each slope has
- * one turn, looks for a better choice than the planned one, and draws sheets from a seed. A second reader
- * takes at most 96 turns.
+ * one turn, looks for a better choice than the planned one, draws sheets from a seed, and writes sheets by
+ * column and back. A second reader takes at most 96 turns.
  *
  * Link libslopeboard.a; all that it asks for beside is memcpy and memset. The archive is for x86-64: its
  * functions are called as the System V ABI says, their structs laid out as it says.
@@ -25,8 +25,8 @@
  *   which goes one level deeper for each of at most 64 turns. In bytes, read off the compiled code:
  *   slopeboard_list 20,352, slopeboard_improve 18,208, slopeboard_plan 16,480, slopeboard_best 13,024,
  *   slopeboard_draw 11,528, slopeboard_check 11,416, slopeboard_assign 10,608, slopeboard_write 6,664,
- *   slopeboard_read and slopeboard_read_short 4,936, each of the others fewer than 100. What memcpy and memset
- *   need comes on top.
+ *   slopeboard_keep 5,336, slopeboard_read and slopeboard_read_short 4,936, slopeboard_restore 4,864, each of
+ *   the others fewer than 100. What memcpy and memset need comes on top.
  *
  * In sheets and boards, a number of several bytes begins with its high byte. Turns are numbered from 0
  * in the order of the sheet, slopes and groomers from 1.
@@ -47,12 +47,12 @@ extern "C" {
 #endif
 
 /* The number of this interface. Each change that a caller can see raises it. */
-#define SLOPEBOARD_VERSION 12
+#define SLOPEBOARD_VERSION 13
 
 /* The refusals. */
 enum {
     SLOPEBOARD_TRUNCATED = 1,         /* the sheet ends inside its header, or before a record is whole */
-    SLOPEBOARD_BAD_MAGIC = 2,         /* the sheet does not open with GRM */
+    SLOPEBOARD_BAD_MAGIC = 2,         /* the sheet does not open with GRM (the kept form with GRC) */
     SLOPEBOARD_BAD_COUNTS = 3,        /* groomers outside 1 to 16, or slopes outside 1 to 120 */
     SLOPEBOARD_TOO_MANY_TURNS = 4,    /* more than 400 turns */
     SLOPEBOARD_BAD_MAP = 5,           /* a map above 3F, or a first map that is neither 1F nor 3F */
@@ -86,7 +86,7 @@ enum {
 #define SLOPEBOARD_MOST_SEED 2147483646
 #define SLOPEBOARD_NUMBERS_PER_TURN 6
 #define SLOPEBOARD_MOST_NUMBERS (SLOPEBOARD_NUMBERS_PER_TURN * SLOPEBOARD_MOST_TURNS)
-/* A header of 7 bytes and records of at most 10. */
+/* A header of 7 bytes and records of at most 10. The kept form of a sheet has as many. */
 #define SLOPEBOARD_MOST_SHEET_BYTES (7 + 10 * SLOPEBOARD_MOST_TURNS)
 /* A choice map of so many turns. Turn t is bit t % 8, bit 0 being the lowest, of byte t / 8; bits past the last
  * turn are clear. */
@@ -280,6 +280,22 @@ slopeboard_improve_answer slopeboard_improve(const uint8_t *sheet, size_t sheet_
  * longer than bytes_len. SLOPEBOARD_MOST_SHEET_BYTES are enough for every sheet. */
 slopeboard_write_answer slopeboard_draw(uint64_t seed, uint32_t groomers, uint32_t slopes, uint32_t turns,
                                         uint8_t *bytes, size_t bytes_len);
+
+/* Writes the kept form of a sheet. It opens with the bytes 47 52 43, which are GRC, and the other four bytes of
+ * the sheet's header. Then come the map bytes of all records, then all slopes that records name, in the order
+ * of the records, and likewise all groomers, starts, lengths, worths and drivers. It is as long as the sheet.
+ *
+ * Refusals: those of slopeboard_read but 11, in their order; then 11 if kept_len is below the bytes of the
+ * sheet. */
+slopeboard_write_answer slopeboard_keep(const uint8_t *sheet, size_t sheet_len, uint8_t *kept, size_t kept_len);
+
+/* Writes the sheet of a kept form. Of the kept form that slopeboard_keep writes it makes the very bytes of the
+ * sheet, and slopeboard_keep makes of them the kept form again, whoever wrote it.
+ *
+ * Refusals, in this order: 1 for fewer than 7 bytes; 2 if the bytes do not open with GRC; 3; 4; 1 for fewer
+ * maps than turns; 5 for any map; 1 or 10 for fewer or more bytes behind the maps than these ask for; then, turn
+ * by turn, 6, 7, 8, 9, 19; then 11 if sheet_len is below the bytes of the kept form. */
+slopeboard_write_answer slopeboard_restore(const uint8_t *kept, size_t kept_len, uint8_t *sheet, size_t sheet_len);
 
 #ifdef __cplusplus
 }

@@ -365,6 +365,12 @@ fn bound_sheet(turn: Row, second: bool) -> Vec<u8> {
 
 /// The sheet with one value of one turn moved to a bound or over it.
 pub fn with_bound(rng: &mut Rng, shift: &Shift) -> Vec<u8> {
+    let shift = bounded(rng, shift);
+    encode(rng, &shift, 20).bytes
+}
+
+/// The shift with one value of one turn moved to a bound or over it.
+pub fn bounded(rng: &mut Rng, shift: &Shift) -> Shift {
     let mut shift = shift.clone();
     let place = rng.below(shift.turns.len() as u32) as usize;
     let (groomers, slopes) = (u16::from(shift.groomers), u16::from(shift.slopes));
@@ -376,7 +382,7 @@ pub fn with_bound(rng: &mut Rng, shift: &Shift) -> Vec<u8> {
         3 => turn[4] = rng.pick(&WORTHS_AT_BOUND),
         _ => turn[5] = rng.pick(&DRIVERS_AT_BOUND),
     }
-    encode(rng, &shift, 20).bytes
+    shift
 }
 
 /// The sheet with one byte changed to another value.

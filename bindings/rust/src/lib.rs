@@ -3,7 +3,8 @@
 //! The library reads and writes shift sheets, plans boards, opens and checks
 //! them, writes the drivers' listing, assigns groomers where all turns must be
 //! done, works out the best worth where each slope has one turn, looks for a better
-//! choice than the planned one, and draws sheets from a seed. A second reader takes at most 96 turns. Every buffer is the caller's: on a refusal it holds what it held
+//! choice than the planned one, draws sheets from a seed, and writes sheets by
+//! column and back. A second reader takes at most 96 turns. Every buffer is the caller's: on a refusal it holds what it held
 //! before, and on success so do its places past the last one written. The order
 //! in which refusals are looked for is in `include/slopeboard.h`.
 //!
@@ -20,7 +21,7 @@ pub use refusal::Refusal;
 
 /// The number of this interface, as `SLOPEBOARD_VERSION` in the header: each
 /// change that a caller can see raises it.
-pub const VERSION: u32 = 12;
+pub const VERSION: u32 = 13;
 
 /// Numbers that a turn takes in a turn table: slope, groomer, start, length,
 /// worth, driver. Driver 0 is none.
@@ -32,7 +33,7 @@ pub const MOST_SHORT_TURNS: usize = 96;
 pub const MOST_SEARCHED_TURNS: usize = 64;
 /// The greatest seed that [`draw`] takes; the least is 1.
 pub const MOST_SEED: u64 = 2_147_483_646;
-/// Bytes that hold any sheet.
+/// Bytes that hold any sheet, and any kept form of one.
 pub const MOST_SHEET_BYTES: usize = 7 + 10 * MOST_TURNS;
 /// Bytes that hold any listing: no listing has more than 3,823.
 pub const MOST_TEXT_BYTES: usize = 4096;
@@ -217,6 +218,20 @@ pub fn draw(
 ) -> Result<usize, Refusal> {
     let (sheet, sheet_len) = (sheet.as_mut_ptr(), sheet.len());
     length(unsafe { raw::slopeboard_draw(seed, groomers, slopes, turns, sheet, sheet_len) })
+}
+
+/// Writes the kept form of a sheet, in which like fields stand side by side,
+/// and gives its length, which is the sheet's.
+pub fn keep(sheet: &[u8], kept: &mut [u8]) -> Result<usize, Refusal> {
+    let (kept, kept_len) = (kept.as_mut_ptr(), kept.len());
+    length(unsafe { raw::slopeboard_keep(sheet.as_ptr(), sheet.len(), kept, kept_len) })
+}
+
+/// Writes the sheet of a kept form, to the very byte the one that it was made
+/// from, and gives its length.
+pub fn restore(kept: &[u8], sheet: &mut [u8]) -> Result<usize, Refusal> {
+    let (sheet, sheet_len) = (sheet.as_mut_ptr(), sheet.len());
+    length(unsafe { raw::slopeboard_restore(kept.as_ptr(), kept.len(), sheet, sheet_len) })
 }
 
 fn counts(answer: raw::ReadAnswer) -> Result<Counts, Refusal> {

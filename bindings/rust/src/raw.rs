@@ -155,4 +155,18 @@ extern "C" {
         bytes: *mut u8,
         bytes_len: usize,
     ) -> BytesAnswer;
+
+    pub fn slopeboard_keep(
+        sheet: *const u8,
+        sheet_len: usize,
+        kept: *mut u8,
+        kept_len: usize,
+    ) -> BytesAnswer;
+
+    pub fn slopeboard_restore(
+        kept: *const u8,
+        kept_len: usize,
+        sheet: *mut u8,
+        sheet_len: usize,
+    ) -> BytesAnswer;
 }

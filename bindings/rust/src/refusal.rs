@@ -9,7 +9,7 @@ use core::fmt;
 pub enum Refusal {
     /// The sheet ends inside its header, or before a record is whole.
     Truncated = 1,
-    /// The sheet does not open with GRM.
+    /// The sheet does not open with GRM, or the kept form with GRC.
     BadMagic = 2,
     /// Groomers outside 1 to 16, or slopes outside 1 to 120.
     BadCounts = 3,

@@ -12,6 +12,7 @@ ghost use Rattle.partition.specs.Partition.{partitionOf};
 ghost use Rattle.screen.specs.Screen.{readShortOf};
 ghost use Rattle.exact.specs.Exact.{exactOf};
 ghost use Rattle.improve.specs.Improve.{improveOf};
+ghost use Rattle.archive.specs.Archive.{keepOf, restoreOf};
 ghost use Rattle.corpus.specs.Line.{longHeld, countsHeld, drawHeld, drawnBy, unpacked, sumOf, writtenLine, readLine, partitionLine, earnedLine};
 ghost use Rattle.corpus.specs.Line.{checkLine, improvedLine};
 use super::tools;
@@ -223,5 +224,31 @@ pub fn improve(limit: &[u8], sheet: &[u8], map: &mut [u8]) -> ImproveLine
         above: answer.above,
         visits: answer.visits,
         last: tools::byte_sum(&*map),
+    }
+}
+
+// Keeping a sheet by column, in the lent bytes.
+pub fn keep(sheet: &[u8], kept: &mut [u8]) -> Line
+    ensures { λ r. ⌜ (r ≡ writtenLine (keepOf (now (sheet .entry)) (now (kept .entry))))
+        × (now (kept .exit) ≡ keepOf (now (sheet .entry)) (now (kept .entry)) .lent) ⌝ }
+{
+    let answer = archive::keep(sheet, &mut *kept);
+    Line {
+        refusal: answer.refusal,
+        value: answer.bytes as u64,
+        last: tools::byte_sum(&*kept),
+    }
+}
+
+// Restoring the sheet of a kept form, into the lent bytes.
+pub fn restore(kept: &[u8], sheet: &mut [u8]) -> Line
+    ensures { λ r. ⌜ (r ≡ writtenLine (restoreOf (now (kept .entry)) (now (sheet .entry))))
+        × (now (sheet .exit) ≡ restoreOf (now (kept .entry)) (now (sheet .entry)) .lent) ⌝ }
+{
+    let answer = archive::restore(kept, &mut *sheet);
+    Line {
+        refusal: answer.refusal,
+        value: answer.bytes as u64,
+        last: tools::byte_sum(&*sheet),
     }
 }

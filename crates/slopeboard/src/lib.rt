@@ -19,6 +19,7 @@ ghost use Rattle.exact.specs.Answer.{earned};
 ghost use Rattle.exact.specs.Exact.{exactOf};
 ghost use Rattle.improve.specs.Answer.{improved};
 ghost use Rattle.improve.specs.Improve.{improveOf};
+ghost use Rattle.archive.specs.Archive.{keepOf, restoreOf};
 ghost use Rattle.slopeboard.specs.Part.{stepsPartAt};
 use board::CountAnswer;
 use checking::CheckAnswer;
@@ -157,4 +158,18 @@ pub extern "C" fn slopeboard_improve(sheet: &[u8], visits: u64, map: &mut [u8]) 
     ensures { λ r. ⌜ improved r (now (map .exit)) ≡ improveOf (now (sheet .entry)) visits (now (map .entry)) ⌝ }
 {
     improve::improve(sheet, visits, &mut *map)
+}
+
+#[no_mangle]
+pub extern "C" fn slopeboard_keep(sheet: &[u8], kept: &mut [u8]) -> WriteAnswer
+    ensures { λ r. ⌜ written r (now (kept .exit)) ≡ keepOf (now (sheet .entry)) (now (kept .entry)) ⌝ }
+{
+    archive::keep(sheet, &mut *kept)
+}
+
+#[no_mangle]
+pub extern "C" fn slopeboard_restore(kept: &[u8], sheet: &mut [u8]) -> WriteAnswer
+    ensures { λ r. ⌜ written r (now (sheet .exit)) ≡ restoreOf (now (kept .entry)) (now (sheet .entry)) ⌝ }
+{
+    archive::restore(kept, &mut *sheet)
 }

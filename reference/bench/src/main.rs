@@ -30,13 +30,14 @@ const STRETCH: Duration = Duration::from_micros(200);
 const SHEETS: u32 = 5;
 
 /// A turn table with its counts, a sheet with its turns in that order, the
-/// planner's board for it, and room for any answer.
+/// planner's board for it, its kept form, and room for any answer.
 struct Job {
     groomers: u32,
     slopes: u32,
     table: Vec<u16>,
     sheet: Vec<u8>,
     board: Vec<u8>,
+    kept: Vec<u8>,
     numbers: Vec<u16>,
     bytes: Vec<u8>,
 }
@@ -47,12 +48,15 @@ impl Job {
         let mut board = vec![0; slopeboard::board_bytes(shift.turns.len())];
         let len = fast::plan(&sheet, &mut board).expect("the sheet is accepted");
         board.truncate(len);
+        let mut kept = vec![0; sheet.len()];
+        fast::keep(&sheet, &mut kept).expect("the sheet is accepted");
         Job {
             groomers: shift.groomers.into(),
             slopes: shift.slopes.into(),
             table: shift.turns.concat(),
             sheet,
             board,
+            kept,
             numbers: vec![0; FIELDS * shift.turns.len()],
             bytes: vec![0; slopeboard::MOST_TEXT_BYTES],
         }
@@ -152,6 +156,20 @@ const DRAW: Entry = Entry {
         fast::draw(1, job.groomers, job.slopes, turns, &mut job.bytes).is_ok()
     },
 };
+
+/// The entries that go by the bytes of a sheet alone.
+const KEPT: [Entry; 2] = [
+    Entry {
+        name: "keep",
+        library: |job| slopeboard::keep(&job.sheet, &mut job.bytes).is_ok(),
+        reference: |job| fast::keep(&job.sheet, &mut job.bytes).is_ok(),
+    },
+    Entry {
+        name: "restore",
+        library: |job| slopeboard::restore(&job.kept, &mut job.bytes).is_ok(),
+        reference: |job| fast::restore(&job.kept, &mut job.bytes).is_ok(),
+    },
+];
 
 /// Best and median time of one call, in nanoseconds.
 #[derive(Clone, Copy, Default)]
@@ -395,6 +413,15 @@ fn main() {
         let growth = before.map(|before| times[0].median / before);
         print_row(DRAW.name, &format!("n={turns}"), times, growth);
         before = Some(times[0].median);
+    }
+    for entry in &KEPT {
+        let mut before: Option<f64> = None;
+        for turns in [200, 400] {
+            let times = measure_all(entry, &mut jobs(&mut rng, usual_sheet, turns));
+            let growth = before.map(|before| times[0].median / before);
+            print_row(entry.name, &format!("n={turns}"), times, growth);
+            before = Some(times[0].median);
+        }
     }
     for kind in CROWDS {
         let mut before: Option<f64> = None;

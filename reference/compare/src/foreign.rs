@@ -111,3 +111,15 @@ pub fn draw(seed: u64, groomers: u32, slopes: u32, turns: u32, out: &mut [u8]) -
     let (out, out_len) = parts_mut(out);
     unsafe { raw::slopeboard_draw(seed, groomers, slopes, turns, out, out_len) }
 }
+
+/// Writes the kept form of a sheet.
+pub fn keep(sheet: &[u8], out: &mut [u8]) -> BytesAnswer {
+    let ((sheet, sheet_len), (out, out_len)) = (parts(sheet), parts_mut(out));
+    unsafe { raw::slopeboard_keep(sheet, sheet_len, out, out_len) }
+}
+
+/// Writes the sheet of a kept form.
+pub fn restore(kept: &[u8], out: &mut [u8]) -> BytesAnswer {
+    let ((kept, kept_len), (out, out_len)) = (parts(kept), parts_mut(out));
+    unsafe { raw::slopeboard_restore(kept, kept_len, out, out_len) }
+}

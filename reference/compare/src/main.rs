@@ -12,6 +12,7 @@ mod choice;
 mod draw;
 mod foreign;
 mod improve;
+mod keep;
 mod list;
 mod open;
 mod partition;
@@ -39,6 +40,8 @@ fn main() -> ExitCode {
         best::run,
         improve::run,
         draw::run,
+        keep::run,
+        keep::run_restore,
     ];
     let mut good = true;
     for run in entries {

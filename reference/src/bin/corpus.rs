@@ -10,7 +10,7 @@
 //! repository, with the entries that the crate runs:
 //!
 //! ```text
-//! cargo run --release --manifest-path reference/Cargo.toml --bin corpus -- crates/corpus read write plan open check list count chosen assign short best improve draw
+//! cargo run --release --manifest-path reference/Cargo.toml --bin corpus -- crates/corpus read write plan open check list count chosen assign short best improve draw keep restore
 //! ```
 //!
 //! A case is five bytes and an input. Byte 0 is the entry's number, bytes 1
@@ -32,6 +32,8 @@
 //! | 11 best | bytes lent | bytes of the sheet | the sheet |
 //! | 12 improve | bytes lent | bytes of the sheet | the most visits, eight bytes, then the sheet |
 //! | 13 draw | bytes lent | 20 | the seed, eight bytes, then groomers, slopes and turns, four bytes each |
+//! | 14 keep | bytes lent | bytes of the sheet | the sheet |
+//! | 15 restore | bytes lent | bytes of the kept form | the kept form |
 //!
 //! No input has more than 16,384 bytes, no case lends more than 2,408 numbers
 //! or 4,096 bytes, and no table has more than 2,408 numbers.
@@ -62,6 +64,8 @@ mod choice;
 mod draw;
 #[path = "corpus/improve.rs"]
 mod improve;
+#[path = "corpus/keep.rs"]
+mod keep;
 #[path = "corpus/list.rs"]
 mod list;
 #[path = "corpus/open.rs"]
@@ -100,7 +104,7 @@ const NUMBER_FILL: u16 = 0xA5A5;
 /// An entry's name and what adds its cases.
 type Entry = (&'static str, fn(&mut Corpus));
 
-const ENTRIES: [Entry; 13] = [
+const ENTRIES: [Entry; 15] = [
     ("read", read::add),
     ("write", write::add),
     ("plan", planning::add),
@@ -114,6 +118,8 @@ const ENTRIES: [Entry; 13] = [
     ("best", best::add),
     ("improve", improve::add),
     ("draw", draw::add),
+    ("keep", keep::add),
+    ("restore", keep::add_restored),
 ];
 
 /// The two files as they grow.

@@ -1,12 +1,14 @@
 //! The baseline of the bench: reading, writing, planning, checking, listing,
-//! assigning, the best worth, the search for a better choice and drawing, made
-//! to be fast. It judges nothing; the tests hold it to [`crate::naive`].
+//! assigning, the best worth, the search for a better choice, drawing and the
+//! kept form, made to be fast. It judges nothing; the tests hold it to
+//! [`crate::naive`].
 
 mod best;
 mod board;
 mod check;
 mod draw;
 mod improve;
+mod keep;
 mod listing;
 mod partition;
 mod plan;
@@ -20,6 +22,7 @@ pub use best::best;
 pub use check::{check, Sums};
 pub use draw::draw;
 pub use improve::{improve, Improved};
+pub use keep::{keep, restore};
 pub use listing::listing;
 pub use partition::assign;
 pub use plan::plan;

@@ -6,6 +6,8 @@ use crate::limits::{FIELDS, MAX_SHORT_TURNS, MAX_TURNS};
 
 pub const MAGIC: [u8; 3] = *b"GRM";
 pub const HEADER_LEN: usize = 7;
+/// Bytes of the longest sheet: a map and nine bytes for each turn.
+pub const MOST_LEN: usize = HEADER_LEN + 10 * MAX_TURNS;
 
 const HAS_SLOPE: u8 = 1;
 const HAS_GROOMER: u8 = 1 << 1;
@@ -65,7 +67,7 @@ pub fn parse(sheet: &[u8], turns: &mut TurnArray) -> Result<Header, u8> {
 
 /// The same with room for fewer turns, and a refusal of more.
 fn parse_within(sheet: &[u8], turns: &mut [Turn], too_many: u8) -> Result<Header, u8> {
-    let (header, mut rest) = parse_header(sheet)?;
+    let (header, mut rest) = parse_header(sheet, MAGIC)?;
     if usize::from(header.turns) > turns.len() {
         return Err(too_many);
     }
@@ -86,12 +88,13 @@ fn parse_within(sheet: &[u8], turns: &mut [Turn], too_many: u8) -> Result<Header
     }
 }
 
-fn parse_header(sheet: &[u8]) -> Result<(Header, &[u8]), u8> {
+/// Takes the header off the bytes, which open with this mark.
+pub fn parse_header(sheet: &[u8], magic: [u8; 3]) -> Result<(Header, &[u8]), u8> {
     if sheet.len() < HEADER_LEN {
         return Err(refusal::TRUNCATED);
     }
     let (bytes, rest) = sheet.split_at(HEADER_LEN);
-    if bytes[..3] != MAGIC {
+    if bytes[..3] != magic {
         return Err(refusal::BAD_MAGIC);
     }
     let header = Header {
@@ -107,11 +110,7 @@ fn parse_header(sheet: &[u8]) -> Result<(Header, &[u8]), u8> {
 /// of its values counts, so the values are judged by the caller.
 fn parse_record(bytes: &[u8], previous: Option<Turn>) -> Result<(Turn, &[u8]), u8> {
     let (&map, after) = bytes.split_first().ok_or(refusal::TRUNCATED)?;
-    let map_fits = match previous {
-        None => map | HAS_DRIVER == ALL_FIELDS,
-        Some(_) => map & !ALL_FIELDS == 0,
-    };
-    if !map_fits {
+    if !map_fits(map, previous.is_none()) {
         return Err(refusal::BAD_FIELD_MAP);
     }
     let size = fields_len(map);
@@ -122,8 +121,16 @@ fn parse_record(bytes: &[u8], previous: Option<Turn>) -> Result<(Turn, &[u8]), u
     Ok((resolve(map, fields, previous.unwrap_or_default()), rest))
 }
 
+/// Whether a record, the first or a later one, can have this map.
+pub fn map_fits(map: u8, first: bool) -> bool {
+    match first {
+        true => map | HAS_DRIVER == ALL_FIELDS,
+        false => map & !ALL_FIELDS == 0,
+    }
+}
+
 /// Bytes of the fields that a map announces.
-fn fields_len(map: u8) -> usize {
+pub fn fields_len(map: u8) -> usize {
     (map.count_ones() + (map & WIDE_FIELDS).count_ones()) as usize
 }
 

@@ -1,12 +1,9 @@
 //! The shift sheet's writer.
 
 use super::refusal;
-use super::sheet::{HEADER_LEN, MAGIC};
+use super::sheet::{HEADER_LEN, MAGIC, MOST_LEN};
 use super::turns::{judge_counts, Turn};
 use crate::limits::{FIELDS, MAX_TURNS};
-
-/// Bytes of the longest sheet: a map and nine bytes for each turn.
-const MOST_LEN: usize = HEADER_LEN + 10 * MAX_TURNS;
 
 /// Writes the sheet of a table's turns, sorted by their values, and gives its
 /// length.

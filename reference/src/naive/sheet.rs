@@ -4,7 +4,7 @@ use super::turns::{judge_counts, judge_turn, turns_of, Turn};
 use super::{bit, lend, number};
 
 /// How many bytes each field has: slope, groomer, start, length, worth, driver.
-const WIDTHS: [usize; 6] = [1, 1, 2, 2, 2, 1];
+pub const WIDTHS: [usize; 6] = [1, 1, 2, 2, 2, 1];
 
 /// What an accepted sheet says.
 pub struct Sheet {

@@ -63,6 +63,14 @@ pub fn listing(sheet: &[u8], text: &mut [u8]) -> Result<usize, u8> {
     written(sheet, text, [naive::listing, fast::listing])
 }
 
+pub fn keep(sheet: &[u8], kept: &mut [u8]) -> Result<usize, u8> {
+    written(sheet, kept, [naive::keep, fast::keep])
+}
+
+pub fn restore(kept: &[u8], sheet: &mut [u8]) -> Result<usize, u8> {
+    written(kept, sheet, [naive::restore, fast::restore])
+}
+
 pub fn sums(sheet: &[u8], board: &[u8]) -> Result<Sums, u8> {
     let answer = naive::check(sheet, board);
     let fast = fast::check(sheet, board).map(|sums| Sums {

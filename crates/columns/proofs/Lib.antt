@@ -1,0 +1,3 @@
+pub mod ColumnCases
+pub mod Across
+pub mod Resolved
