@@ -1,7 +1,7 @@
 /* Slope board: reads and writes shift sheets, plans boards, opens and checks them, writes the drivers'
  * listing, assigns groomers where all turns must be done, works out the best worth where each slope has
- * one turn, looks for a better choice than the planned one, draws sheets from a seed, and writes sheets by
- * column and back. A second reader takes at most 96 turns.
+ * one turn, looks for a better choice than the planned one, draws sheets from a seed, writes sheets by column
+ * and back, and plays a board with delays. A second reader takes at most 96 turns.
  *
  * Link libslopeboard.a; all that it asks for beside is memcpy and memset. The archive is for x86-64: its
  * functions are called as the System V ABI says, their structs laid out as it says.
@@ -13,7 +13,7 @@
  *   (and, for a lent buffer, writable) during the call.
  * - A lent buffer, which is one without 'const', overlaps no other slice of the same call. Two slices
  *   that are only read may overlap.
- * - A slice of 16-bit numbers is aligned as uint16_t.
+ * - A slice of 16-bit numbers, or of slopeboard_standing, is aligned as uint16_t.
  * - No pointer is kept. There is no heap, no lock, no global state and no input or output, so
  *   calls in several threads do not disturb each other as long as their lent buffers differ.
  * - Any bytes are taken: no content of a slice leads to anything but an answer.
@@ -23,10 +23,10 @@
  * - On success, the places of a lent buffer past the last one written hold what they held before.
  * - All working space is on the caller's stack. No function calls itself but the search of slopeboard_improve,
  *   which goes one level deeper for each of at most 64 turns. In bytes, read off the compiled code:
- *   slopeboard_list 20,352, slopeboard_improve 18,208, slopeboard_plan 16,480, slopeboard_best 13,024,
- *   slopeboard_draw 11,528, slopeboard_check 11,416, slopeboard_assign 10,608, slopeboard_write 6,664,
- *   slopeboard_keep 5,336, slopeboard_read and slopeboard_read_short 4,936, slopeboard_restore 4,864, each of
- *   the others fewer than 100. What memcpy and memset need comes on top.
+ *   slopeboard_play 26,408, slopeboard_list 20,352, slopeboard_improve 18,208, slopeboard_plan 16,480,
+ *   slopeboard_check 16,328, slopeboard_best 13,024, slopeboard_draw 11,528, slopeboard_assign 10,608,
+ *   slopeboard_write 6,664, slopeboard_keep 5,336, slopeboard_read and slopeboard_read_short 4,936,
+ *   slopeboard_restore 4,864, each of the others fewer than 100. What memcpy and memset need comes on top.
  *
  * In sheets and boards, a number of several bytes begins with its high byte. Turns are numbered from 0
  * in the order of the sheet, slopes and groomers from 1.
@@ -47,7 +47,7 @@ extern "C" {
 #endif
 
 /* The number of this interface. Each change that a caller can see raises it. */
-#define SLOPEBOARD_VERSION 13
+#define SLOPEBOARD_VERSION 14
 
 /* The refusals. */
 enum {
@@ -73,7 +73,8 @@ enum {
     SLOPEBOARD_TOO_MANY_FOR_SCREEN = 20, /* more than 96 turns, for slopeboard_read_short */
     SLOPEBOARD_NOT_SINGLE_TURNS = 21, /* a slope has two turns, or a turn names a driver */
     SLOPEBOARD_TOO_MANY_TO_SEARCH = 22, /* more than 64 turns, for slopeboard_improve */
-    SLOPEBOARD_BAD_SEED = 23          /* the seed is 0 or above SLOPEBOARD_MOST_SEED */
+    SLOPEBOARD_BAD_SEED = 23,         /* the seed is 0 or above SLOPEBOARD_MOST_SEED */
+    SLOPEBOARD_BAD_DELAYS = 24        /* the delays are not one for each turn, or one is above 120 */
 };
 
 /* The limits, and what buffers can need at most. */
@@ -84,6 +85,8 @@ enum {
 #define SLOPEBOARD_MOST_SEARCHED_TURNS 64
 #define SLOPEBOARD_MOST_DRIVER 40
 #define SLOPEBOARD_MOST_SEED 2147483646
+#define SLOPEBOARD_MOST_DELAY 120
+#define SLOPEBOARD_NO_TURN 65535
 #define SLOPEBOARD_NUMBERS_PER_TURN 6
 #define SLOPEBOARD_MOST_NUMBERS (SLOPEBOARD_NUMBERS_PER_TURN * SLOPEBOARD_MOST_TURNS)
 /* A header of 7 bytes and records of at most 10. The kept form of a sheet has as many. */
@@ -152,6 +155,19 @@ typedef struct {
     uint32_t above;  /* the planned board's ceiling less the worth */
     uint64_t visits; /* how many were made */
 } slopeboard_improve_answer;
+
+/* What a groomer has done in the minutes played. */
+typedef struct {
+    uint16_t working;
+    uint16_t driving;
+    uint16_t standing;
+    uint16_t turn; /* worked in the minute last played, SLOPEBOARD_NO_TURN if none was */
+} slopeboard_standing;
+
+typedef struct {
+    uint8_t refusal;
+    uint16_t groomers;
+} slopeboard_play_answer;
 
 /* Reads a sheet into a turn table: six numbers a turn, which are slope, groomer, start, length, worth and
  * driver, the last 0 where the turn names none. The answer has the counts of the sheet's header.
@@ -296,6 +312,21 @@ slopeboard_write_answer slopeboard_keep(const uint8_t *sheet, size_t sheet_len, 
  * maps than turns; 5 for any map; 1 or 10 for fewer or more bytes behind the maps than these ask for; then, turn
  * by turn, 6, 7, 8, 9, 19; then 11 if sheet_len is below the bytes of the kept form. */
 slopeboard_write_answer slopeboard_restore(const uint8_t *kept, size_t kept_len, uint8_t *sheet, size_t sheet_len);
+
+/* Plays minutes 0 to 959 of a board that slopeboard_check passes, each turn with a delay in minutes at its
+ * number's place in delays. A groomer takes its chosen turns by start. It begins each in the minute planned or,
+ * if that is later, ten minutes after it finished the one before, and works on it for its length and its delay.
+ * For ten minutes after every turn it drives over; in all other minutes it stands.
+ *
+ * Writes the standing of groomer g at place g - 1 of the list, whatever that held: how many minutes it worked,
+ * drove over and stood, 960 in all, and the turn that it worked on in minute 959. The answer has the number of
+ * groomers. With no delays each chosen turn is worked on in just the minutes planned.
+ *
+ * Refusals: those of slopeboard_check, in their order; then 24 if delays_len is not the number of turns or a
+ * delay, of a chosen turn or not, is above SLOPEBOARD_MOST_DELAY; then 11 if list_len is below the groomers. */
+slopeboard_play_answer slopeboard_play(const uint8_t *sheet, size_t sheet_len, const uint8_t *board, size_t board_len,
+                                       const uint16_t *delays, size_t delays_len, slopeboard_standing *list,
+                                       size_t list_len);
 
 #ifdef __cplusplus
 }

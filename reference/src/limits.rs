@@ -14,6 +14,9 @@ pub const MAX_WORTH: u16 = 60_000;
 /// Minutes that a groomer needs from the end of a turn to its next start.
 pub const DRIVE_OVER: u32 = 10;
 
+/// The longest delay of a turn, in minutes.
+pub const MAX_DELAY: u16 = 120;
+
 /// Numbers that a turn takes in a turn table.
 pub const FIELDS: usize = 6;
 

@@ -3,8 +3,8 @@
 //! The library reads and writes shift sheets, plans boards, opens and checks
 //! them, writes the drivers' listing, assigns groomers where all turns must be
 //! done, works out the best worth where each slope has one turn, looks for a better
-//! choice than the planned one, draws sheets from a seed, and writes sheets by
-//! column and back. A second reader takes at most 96 turns. Every buffer is the caller's: on a refusal it holds what it held
+//! choice than the planned one, draws sheets from a seed, writes sheets by
+//! column and back, and plays a board with delays. A second reader takes at most 96 turns. Every buffer is the caller's: on a refusal it holds what it held
 //! before, and on success so do its places past the last one written. The order
 //! in which refusals are looked for is in `include/slopeboard.h`.
 //!
@@ -17,11 +17,12 @@
 pub mod raw;
 mod refusal;
 
+pub use raw::Standing;
 pub use refusal::Refusal;
 
 /// The number of this interface, as `SLOPEBOARD_VERSION` in the header: each
 /// change that a caller can see raises it.
-pub const VERSION: u32 = 13;
+pub const VERSION: u32 = 14;
 
 /// Numbers that a turn takes in a turn table: slope, groomer, start, length,
 /// worth, driver. Driver 0 is none.
@@ -33,6 +34,11 @@ pub const MOST_SHORT_TURNS: usize = 96;
 pub const MOST_SEARCHED_TURNS: usize = 64;
 /// The greatest seed that [`draw`] takes; the least is 1.
 pub const MOST_SEED: u64 = 2_147_483_646;
+pub const MOST_GROOMERS: usize = 16;
+/// The longest delay that [`play`] takes, in minutes.
+pub const MOST_DELAY: u16 = 120;
+/// The turn in hand of a groomer that works on none.
+pub const NO_TURN: u16 = 65_535;
 /// Bytes that hold any sheet, and any kept form of one.
 pub const MOST_SHEET_BYTES: usize = 7 + 10 * MOST_TURNS;
 /// Bytes that hold any listing: no listing has more than 3,823.
@@ -232,6 +238,35 @@ pub fn keep(sheet: &[u8], kept: &mut [u8]) -> Result<usize, Refusal> {
 pub fn restore(kept: &[u8], sheet: &mut [u8]) -> Result<usize, Refusal> {
     let (sheet, sheet_len) = (sheet.as_mut_ptr(), sheet.len());
     length(unsafe { raw::slopeboard_restore(kept.as_ptr(), kept.len(), sheet, sheet_len) })
+}
+
+/// Plays minutes 0 to 959 of a board that passes the check, each turn taking as
+/// many minutes longer as its delay says. A groomer begins a chosen turn as
+/// planned or, if later, ten minutes after it finished the one before. Writes
+/// how many minutes each groomer worked, drove over and stood, and the turn that
+/// it worked on in the last minute, [`NO_TURN`] if on none. Gives the number of
+/// groomers, and asks for a place for each, and for a delay for each turn.
+pub fn play(
+    sheet: &[u8],
+    board: &[u8],
+    delays: &[u16],
+    list: &mut [Standing],
+) -> Result<u16, Refusal> {
+    let (list, list_len) = (list.as_mut_ptr(), list.len());
+    let answer = unsafe {
+        raw::slopeboard_play(
+            sheet.as_ptr(),
+            sheet.len(),
+            board.as_ptr(),
+            board.len(),
+            delays.as_ptr(),
+            delays.len(),
+            list,
+            list_len,
+        )
+    };
+    refusal::none(answer.refusal)?;
+    Ok(answer.groomers)
 }
 
 fn counts(answer: raw::ReadAnswer) -> Result<Counts, Refusal> {

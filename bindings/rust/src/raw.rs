@@ -72,6 +72,25 @@ pub struct ImproveAnswer {
     pub visits: u64,
 }
 
+/// What a groomer has done in a shift that was played: three numbers of
+/// minutes, and the turn worked in the last minute, 65,535 if none was.
+#[repr(C)]
+#[derive(Clone, Copy, Debug, Default, PartialEq, Eq)]
+pub struct Standing {
+    pub working: u16,
+    pub driving: u16,
+    pub standing: u16,
+    pub turn: u16,
+}
+
+/// What playing a board gives; 0 groomers on a refusal.
+#[repr(C)]
+#[derive(Clone, Copy, Debug, PartialEq, Eq)]
+pub struct PlayAnswer {
+    pub refusal: u8,
+    pub groomers: u16,
+}
+
 extern "C" {
     pub fn slopeboard_read(
         sheet: *const u8,
@@ -169,4 +188,15 @@ extern "C" {
         sheet: *mut u8,
         sheet_len: usize,
     ) -> BytesAnswer;
+
+    pub fn slopeboard_play(
+        sheet: *const u8,
+        sheet_len: usize,
+        board: *const u8,
+        board_len: usize,
+        delays: *const u16,
+        delays_len: usize,
+        list: *mut Standing,
+        list_len: usize,
+    ) -> PlayAnswer;
 }

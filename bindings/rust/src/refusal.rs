@@ -53,10 +53,12 @@ pub enum Refusal {
     TooManyToSearch = 22,
     /// The seed is 0, or 2,147,483,647 or above.
     BadSeed = 23,
+    /// The delays are not one for each turn, or one is above 120.
+    BadDelays = 24,
 }
 
 /// By number, from 1.
-const ALL: [Refusal; 23] = [
+const ALL: [Refusal; 24] = [
     Refusal::Truncated,
     Refusal::BadMagic,
     Refusal::BadCounts,
@@ -80,6 +82,7 @@ const ALL: [Refusal; 23] = [
     Refusal::NotSingleTurns,
     Refusal::TooManyToSearch,
     Refusal::BadSeed,
+    Refusal::BadDelays,
 ];
 
 impl Refusal {
@@ -87,7 +90,7 @@ impl Refusal {
         self as u8
     }
 
-    /// The refusal with this number; none for 0 and for numbers above 23.
+    /// The refusal with this number; none for 0 and for numbers above 24.
     pub fn from_number(number: u8) -> Option<Refusal> {
         let place = usize::from(number).checked_sub(1)?;
         ALL.get(place).copied()

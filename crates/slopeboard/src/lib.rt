@@ -20,6 +20,7 @@ ghost use Rattle.exact.specs.Exact.{exactOf};
 ghost use Rattle.improve.specs.Answer.{improved};
 ghost use Rattle.improve.specs.Improve.{improveOf};
 ghost use Rattle.archive.specs.Archive.{keepOf, restoreOf};
+ghost use Rattle.play.specs.Play.{played, playOf};
 ghost use Rattle.slopeboard.specs.Part.{stepsPartAt};
 use board::CountAnswer;
 use checking::CheckAnswer;
@@ -28,6 +29,8 @@ use improve::Improved;
 use listing::ListAnswer;
 use partition::PartitionAnswer;
 use planner::PlanAnswer;
+use play::PlayAnswer;
+use play::Standing;
 use sheet::ReadAnswer;
 use writer::WriteAnswer;
 
@@ -172,4 +175,16 @@ pub extern "C" fn slopeboard_restore(kept: &[u8], sheet: &mut [u8]) -> WriteAnsw
     ensures { λ r. ⌜ written r (now (sheet .exit)) ≡ restoreOf (now (kept .entry)) (now (sheet .entry)) ⌝ }
 {
     archive::restore(kept, &mut *sheet)
+}
+
+#[no_mangle]
+pub extern "C" fn slopeboard_play<'a>(
+    sheet: &'a [u8],
+    board: &'a [u8],
+    delays: &'a [u16],
+    list: &mut [Standing],
+) -> PlayAnswer
+    ensures { λ r. ⌜ played r (now (list .exit)) ≡ playOf (now (sheet .entry)) (now (board .entry)) (now (delays .entry)) (now (list .entry)) ⌝ }
+{
+    play::play(sheet, board, delays, list)
 }

@@ -17,7 +17,7 @@ use std::hint::black_box;
 use std::time::{Duration, Instant};
 
 use slopeboard_reference::gen::{self, Rng, Shift};
-use slopeboard_reference::limits::{FIELDS, LAST_END};
+use slopeboard_reference::limits::{FIELDS, LAST_END, MAX_DELAY, MAX_GROOMERS};
 use slopeboard_reference::{fast, naive, shapes};
 
 /// How many times each version is timed on a sheet.
@@ -30,7 +30,7 @@ const STRETCH: Duration = Duration::from_micros(200);
 const SHEETS: u32 = 5;
 
 /// A turn table with its counts, a sheet with its turns in that order, the
-/// planner's board for it, its kept form, and room for any answer.
+/// planner's board for it, its kept form, delays, and room for any answer.
 struct Job {
     groomers: u32,
     slopes: u32,
@@ -38,8 +38,11 @@ struct Job {
     sheet: Vec<u8>,
     board: Vec<u8>,
     kept: Vec<u8>,
+    delays: Vec<u16>,
     numbers: Vec<u16>,
     bytes: Vec<u8>,
+    list: [slopeboard::Standing; MAX_GROOMERS as usize],
+    other_list: [fast::Standing; MAX_GROOMERS as usize],
 }
 
 impl Job {
@@ -50,6 +53,8 @@ impl Job {
         board.truncate(len);
         let mut kept = vec![0; sheet.len()];
         fast::keep(&sheet, &mut kept).expect("the sheet is accepted");
+        let delay = |_| rng.between(0, MAX_DELAY.into()) as u16;
+        let delays = shift.turns.iter().map(delay);
         Job {
             groomers: shift.groomers.into(),
             slopes: shift.slopes.into(),
@@ -57,8 +62,11 @@ impl Job {
             sheet,
             board,
             kept,
+            delays: delays.collect(),
             numbers: vec![0; FIELDS * shift.turns.len()],
             bytes: vec![0; slopeboard::MOST_TEXT_BYTES],
+            list: Default::default(),
+            other_list: Default::default(),
         }
     }
 
@@ -168,6 +176,25 @@ const KEPT: [Entry; 2] = [
         name: "restore",
         library: |job| slopeboard::restore(&job.kept, &mut job.bytes).is_ok(),
         reference: |job| fast::restore(&job.kept, &mut job.bytes).is_ok(),
+    },
+];
+
+/// Playing a board, beside a version that goes by the turns and one that goes
+/// by the minutes as the library does.
+const PLAY: [Entry; 2] = [
+    Entry {
+        name: "play",
+        library: |job| slopeboard::play(&job.sheet, &job.board, &job.delays, &mut job.list).is_ok(),
+        reference: |job| {
+            fast::play(&job.sheet, &job.board, &job.delays, &mut job.other_list).is_ok()
+        },
+    },
+    Entry {
+        name: "play o",
+        library: |job| slopeboard::play(&job.sheet, &job.board, &job.delays, &mut job.list).is_ok(),
+        reference: |job| {
+            fast::play_by_minute(&job.sheet, &job.board, &job.delays, &mut job.other_list).is_ok()
+        },
     },
 ];
 
@@ -366,7 +393,8 @@ fn main() {
     println!("times of one call in microseconds; n is the number of turns, m of steps,");
     println!("g of groomers that do all turns, k of groomers that the turns name, v of visits at most;");
     println!("12 groomers and 80 slopes; w: 16 groomers, 120 slopes, sorted; d: with drivers");
-    println!("plan o: the reference makes its steps in the same order as the library");
+    println!("plan o: the reference makes its steps in the same order as the library;");
+    println!("play o: the reference goes minute by minute");
     println!("                      library             reference");
     println!("entry   sheet              best    median        best    median   ratio  growth");
     for entry in ENTRIES.iter().chain([&PLAN_SAME_ORDER]) {
@@ -414,7 +442,7 @@ fn main() {
         print_row(DRAW.name, &format!("n={turns}"), times, growth);
         before = Some(times[0].median);
     }
-    for entry in &KEPT {
+    for entry in KEPT.iter().chain(&PLAY) {
         let mut before: Option<f64> = None;
         for turns in [200, 400] {
             let times = measure_all(entry, &mut jobs(&mut rng, usual_sheet, turns));

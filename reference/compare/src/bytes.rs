@@ -1,16 +1,17 @@
-//! Comparing two calls that write into lent places: bytes, or 16-bit numbers.
+//! Comparing two calls that write into lent places: bytes, 16-bit numbers, or
+//! the standings of groomers.
 
 use std::fmt::Debug;
 
 use slopeboard_reference::gen::Rng;
 
-use crate::foreign::{AssignAnswer, BestAnswer, BytesAnswer, ImproveAnswer};
+use crate::foreign::{AssignAnswer, BestAnswer, BytesAnswer, ImproveAnswer, PlayAnswer, Standing};
 use crate::report::{show, Report};
 
 /// Places before and after the lent ones that must stay as they are.
 const GUARD: usize = 32;
 
-/// What a place holds: a byte or a 16-bit number.
+/// What a place holds: a byte, a 16-bit number or a standing.
 pub trait Place: Copy + PartialEq {
     /// Adds as many places as the noise fills.
     fn add(places: &mut Vec<Self>, noise: u64);
@@ -25,6 +26,18 @@ impl Place for u8 {
 impl Place for u16 {
     fn add(places: &mut Vec<u16>, noise: u64) {
         places.extend([0, 16, 32, 48].map(|by| (noise >> by) as u16));
+    }
+}
+
+impl Place for Standing {
+    fn add(places: &mut Vec<Standing>, noise: u64) {
+        let [working, driving, standing, turn] = [0, 16, 32, 48].map(|by| (noise >> by) as u16);
+        places.push(Standing {
+            working,
+            driving,
+            standing,
+            turn,
+        });
     }
 }
 
@@ -52,6 +65,12 @@ impl Answer for BestAnswer {
 }
 
 impl Answer for ImproveAnswer {
+    fn refusal(&self) -> u8 {
+        self.refusal
+    }
+}
+
+impl Answer for PlayAnswer {
     fn refusal(&self) -> u8 {
         self.refusal
     }

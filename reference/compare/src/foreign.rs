@@ -4,7 +4,7 @@
 use slopeboard::raw;
 pub use slopeboard::raw::{
     AssignAnswer, BestAnswer, BytesAnswer, CheckAnswer, CountAnswer, ImproveAnswer, Part,
-    ReadAnswer,
+    PlayAnswer, ReadAnswer, Standing,
 };
 
 /// A slice as the library takes it. An empty one may come with any pointer,
@@ -122,4 +122,15 @@ pub fn keep(sheet: &[u8], out: &mut [u8]) -> BytesAnswer {
 pub fn restore(kept: &[u8], out: &mut [u8]) -> BytesAnswer {
     let ((kept, kept_len), (out, out_len)) = (parts(kept), parts_mut(out));
     unsafe { raw::slopeboard_restore(kept, kept_len, out, out_len) }
+}
+
+/// Plays a board with delays.
+pub fn play(sheet: &[u8], board: &[u8], delays: &[u16], list: &mut [Standing]) -> PlayAnswer {
+    let ((sheet, sheet_len), (board, board_len)) = (parts(sheet), parts(board));
+    let ((delays, delays_len), (list, list_len)) = (parts(delays), parts_mut(list));
+    unsafe {
+        raw::slopeboard_play(
+            sheet, sheet_len, board, board_len, delays, delays_len, list, list_len,
+        )
+    }
 }

@@ -18,6 +18,7 @@ mod open;
 mod partition;
 mod placed;
 mod plan;
+mod play;
 mod read;
 mod report;
 mod sheets;
@@ -42,6 +43,7 @@ fn main() -> ExitCode {
         draw::run,
         keep::run,
         keep::run_restore,
+        play::run,
     ];
     let mut good = true;
     for run in entries {

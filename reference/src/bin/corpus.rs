@@ -11,6 +11,7 @@
 //!
 //! ```text
 //! cargo run --release --manifest-path reference/Cargo.toml --bin corpus -- crates/corpus read write plan open check list count chosen assign short best improve draw keep restore
+//! cargo run --release --manifest-path reference/Cargo.toml --bin corpus -- tests/play play
 //! ```
 //!
 //! A case is five bytes and an input. Byte 0 is the entry's number, bytes 1
@@ -34,11 +35,13 @@
 //! | 13 draw | bytes lent | 20 | the seed, eight bytes, then groomers, slopes and turns, four bytes each |
 //! | 14 keep | bytes lent | bytes of the sheet | the sheet |
 //! | 15 restore | bytes lent | bytes of the kept form | the kept form |
+//! | 16 play | groomers' places lent | bytes of the sheet | the bytes of the board, as two bytes, then the sheet, the board, the number of delays, as two bytes, and the delays, two bytes each |
 //!
 //! No input has more than 16,384 bytes, no case lends more than 2,408 numbers
 //! or 4,096 bytes, and no table has more than 2,408 numbers.
 //!
-//! Before the call each lent number is A5A5 and each lent byte A5. The line
+//! Before the call each lent number is A5A5 and each lent byte A5; a groomer's
+//! place has four numbers, working, driving, standing and turn. The line
 //! has the entry's name, the refusal, the values returned (0 on a refusal) and
 //! a checksum of all that was lent, as it is after the call: from 1, for each
 //! place, times 31 plus what it holds, modulo 65,521. For `open` the values
@@ -74,6 +77,8 @@ mod open;
 mod partition;
 #[path = "corpus/planning.rs"]
 mod planning;
+#[path = "corpus/play.rs"]
+mod play;
 #[path = "corpus/read.rs"]
 mod read;
 #[path = "corpus/write.rs"]
@@ -104,7 +109,7 @@ const NUMBER_FILL: u16 = 0xA5A5;
 /// An entry's name and what adds its cases.
 type Entry = (&'static str, fn(&mut Corpus));
 
-const ENTRIES: [Entry; 15] = [
+const ENTRIES: [Entry; 16] = [
     ("read", read::add),
     ("write", write::add),
     ("plan", planning::add),
@@ -120,6 +125,7 @@ const ENTRIES: [Entry; 15] = [
     ("draw", draw::add),
     ("keep", keep::add),
     ("restore", keep::add_restored),
+    ("play", play::add),
 ];
 
 /// The two files as they grow.

@@ -1,6 +1,6 @@
 //! The baseline of the bench: reading, writing, planning, checking, listing,
-//! assigning, the best worth, the search for a better choice, drawing and the
-//! kept form, made to be fast. It judges nothing; the tests hold it to
+//! assigning, the best worth, the search for a better choice, drawing, the
+//! kept form and playing a shift, made to be fast. It judges nothing; the tests hold it to
 //! [`crate::naive`].
 
 mod best;
@@ -12,6 +12,7 @@ mod keep;
 mod listing;
 mod partition;
 mod plan;
+mod play;
 mod printed;
 mod refusal;
 mod sheet;
@@ -26,6 +27,7 @@ pub use keep::{keep, restore};
 pub use listing::listing;
 pub use partition::assign;
 pub use plan::plan;
+pub use play::{play, play_by_minute, Standing};
 pub use printed::plan_as_printed;
 pub use sheet::{read, read_short, Header};
 pub use write::write;

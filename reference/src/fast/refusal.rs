@@ -46,3 +46,5 @@ pub const NOT_SINGLE_TURNS: u8 = 21;
 pub const TOO_MANY_TO_SEARCH: u8 = 22;
 /// The generator does not take the seed.
 pub const BAD_SEED: u8 = 23;
+/// The delays are not one for each turn, or one is above 120.
+pub const BAD_DELAYS: u8 = 24;

@@ -15,6 +15,7 @@ pub mod keep;
 mod listing;
 pub mod partition;
 pub mod planning;
+pub mod play;
 mod sets;
 pub mod sheet;
 pub mod turns;
@@ -28,6 +29,7 @@ pub use keep::{keep, restore};
 pub use listing::{listing, refused_line};
 pub use partition::assign;
 pub use planning::plan;
+pub use play::{play, Standing};
 pub use sets::{any_driver, best_worth, one_turn_a_slope, times_the_tally};
 pub use sheet::{read, read_short, write, Counts};
 

@@ -4,7 +4,7 @@
 // Each test file uses some of these.
 #![allow(dead_code)]
 
-use slopeboard_reference::naive::{Counts, Improved, Sums};
+use slopeboard_reference::naive::{Counts, Improved, Standing, Sums};
 use slopeboard_reference::{fast, naive};
 
 pub fn read(sheet: &[u8], table: &mut [u16]) -> Result<Counts, u8> {
@@ -107,6 +107,28 @@ pub fn improve(sheet: &[u8], limit: u64, map: &mut [u8]) -> Result<Improved, u8>
     assert_eq!(fast, answer, "{limit} {sheet:?}");
     assert_eq!(other, map, "{limit} {sheet:?}");
     answer
+}
+
+pub fn play(sheet: &[u8], board: &[u8], delays: &[u16], list: &mut [Standing]) -> Result<u16, u8> {
+    let before: Vec<fast::Standing> = list.iter().map(as_fast).collect();
+    let answer = naive::play(sheet, board, delays, list);
+    let after: Vec<fast::Standing> = list.iter().map(as_fast).collect();
+    for play in [fast::play, fast::play_by_minute] {
+        let mut other = before.clone();
+        let fast = play(sheet, board, delays, &mut other);
+        assert_eq!(fast, answer, "{sheet:?} {board:?} {delays:?}");
+        assert_eq!(other, after, "{sheet:?} {board:?} {delays:?}");
+    }
+    answer
+}
+
+fn as_fast(standing: &Standing) -> fast::Standing {
+    fast::Standing {
+        working: standing.working,
+        driving: standing.driving,
+        standing: standing.standing,
+        turn: standing.turn,
+    }
 }
 
 pub fn draw(seed: u64, [groomers, slopes, turns]: [u32; 3], sheet: &mut [u8]) -> Result<usize, u8> {

@@ -1,0 +1,98 @@
+-- A groomer's day on a board: from when to when its turns are worked if some finish late, and what it does in each minute. Assumes nothing.
+use mathlib.Core.Path.{_≡_}
+use mathlib.Core.Bool.{Bool, true, false, cond, _&&_}
+use mathlib.Core.List.{List, [], _∷_, _++_}
+use Prim.Native.Nat.{ℕ, suc, _+_, _-_, _≤_, _<_, max}
+use lib.Dec.{eqb, ltb}
+use lib.ListN.{getD}
+use Rattle.lists.specs.Lists.{every}
+use Rattle.model.specs.Turns.{Turns}
+use Rattle.model.specs.Choice.{has}
+use Rattle.partition.specs.Numbering.{orderByStart}
+use Rattle.day.specs.declared.Stint.{Stint}
+
+-- driving over takes so many minutes
+abbrev pub overMinutes : ℕ
+overMinutes = 10
+
+-- no turn finishes later than so many minutes
+abbrev pub mostDelay : ℕ
+mostDelay = 120
+
+-- a turn's delay in a table of delays
+abbrev pub delayIn : List ℕ → ℕ → ℕ
+delayIn delays u = getD delays u 0
+
+-- the delays of the first n turns are within the limit
+unfoldable pub delaysFit : List ℕ → ℕ → Bool
+delaysFit delays n = every (λ u. ltb (delayIn delays u) (suc mostDelay)) n
+
+-- the minutes in which a turn is worked, where its groomer is free from some minute on: from the planned one, or from that one if it is later; for its length and its delay
+unfoldable pub stintOf : Turns → (ℕ → ℕ) → ℕ → ℕ → Stint
+stintOf T delay free u =
+    let begin = max (T .start u) free in
+    record { turn = u; begin = begin; end = begin + (T .end u - T .start u) + delay u }
+
+-- turns worked one after another: after each the groomer drives over, and is free then
+unfoldable pub stintsFrom : Turns → (ℕ → ℕ) → ℕ → List ℕ → List Stint
+stintsFrom T delay free [] = []
+stintsFrom T delay free (u ∷ us) = let s = stintOf T delay free u in s ∷ stintsFrom T delay (s .end + overMinutes) us
+
+-- groomer h takes turn u: it is chosen, and the groomer's
+unfoldable pub takes : Turns → List Bool → ℕ → ℕ → Bool
+takes T S h u = has S u && eqb (T .groomer u) h
+
+-- of some turns, those that it takes
+unfoldable pub takenOf : Turns → List Bool → ℕ → List ℕ → List ℕ
+takenOf T S h [] = []
+takenOf T S h (u ∷ us) = cond (takes T S h u) (u ∷ []) [] ++ takenOf T S h us
+
+-- groomer h's day: its chosen turns by start, the first from minute 0 on
+unfoldable pub dayOf : Turns → List Bool → (ℕ → ℕ) → ℕ → List Stint
+dayOf T S delay h = stintsFrom T delay 0 (takenOf T S h (orderByStart T))
+
+-- what a groomer does in a minute
+pub data Doing : Type 0 where
+  works : ℕ → Doing
+  drives : Doing
+  stands : Doing
+
+-- before a turn begins the groomer stands, until it ends it works, then it drives over; afterwards the next turn counts
+unfoldable pub doingAt : List Stint → ℕ → Doing
+doingAt [] m = stands
+doingAt (s ∷ ss) m =
+    let after = doingAt ss m in
+    cond (ltb m (s .begin)) stands (cond (ltb m (s .end)) (works (s .turn)) (cond (ltb m (s .end + overMinutes)) drives after))
+
+-- whether it works, drives over, stands
+unfoldable pub isWork : Doing → Bool
+isWork (works u) = true
+isWork drives = false
+isWork stands = false
+
+unfoldable pub isDrive : Doing → Bool
+isDrive (works u) = false
+isDrive drives = true
+isDrive stands = false
+
+unfoldable pub isStand : Doing → Bool
+isStand (works u) = false
+isStand drives = false
+isStand stands = true
+
+-- ---- as statements
+
+-- in a day, each stint begins no earlier than the groomer is free, and does not end before it begins
+pub data Laid : ℕ → List Stint → Type 0 where
+  none : {free : ℕ} → Laid free []
+  more : {free : ℕ} {s : Stint} {ss : List Stint} → free ≤ s .begin → s .begin ≤ s .end → Laid (s .end + overMinutes) ss → Laid free (s ∷ ss)
+
+-- the same turns, none of which begins earlier in the second day than in the first
+pub data NoEarlier : List Stint → List Stint → Type 0 where
+  none : NoEarlier [] []
+  more : {s t : Stint} {ss ts : List Stint} → s .turn ≡ t .turn → s .begin ≤ t .begin → NoEarlier ss ts → NoEarlier (s ∷ ss) (t ∷ ts)
+
+-- groomer h works turn u in just its planned minutes
+pub record OnTime (T : Turns) (day : List Stint) (u : ℕ) : Type 0 where
+  pub planned : (m : ℕ) → T .start u ≤ m → m < T .end u → doingAt day m ≡ works u
+  pub only : (m : ℕ) → doingAt day m ≡ works u → (T .start u ≤ m) × (m < T .end u)

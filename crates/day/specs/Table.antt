@@ -1,0 +1,139 @@
+-- The days of all groomers as one table of numbers: for each groomer rows of three numbers, a stint each, cut off at the shift's end. For inner functions only. Assumes nothing.
+use mathlib.Core.Path.{_≡_}
+use mathlib.Core.Bool.{Bool, true, false, cond, _&&_}
+use mathlib.Core.List.{List, [], _∷_}
+use Prim.Native.Nat.{ℕ, zero, suc, _+_, _-_, _*_, _≤_, _<_, max}
+use lib.Dec.{ltb, leb, eqb}
+use lib.ListN.{length, getD, set, replicate}
+use Rattle.turns.specs.Turn.{shiftMinutes}
+use Rattle.sheet.specs.Kind.{mostGroomers, mostTurns}
+use Rattle.model.specs.Turns.{Turns}
+use Rattle.problem.specs.declared.ways.Row.{Row}
+use Rattle.day.specs.declared.Stint.{Stint}
+use Rattle.day.specs.Day.{overMinutes, mostDelay, delayIn, stintOf, stintsFrom, takenOf, dayOf, Doing, works, drives, stands}
+
+-- the stints that a day can have gone through: each has driven over for ten minutes
+abbrev pub dayRows : ℕ
+dayRows = 96
+
+-- a row's numbers
+abbrev pub rowSize : ℕ
+rowSize = 3
+
+abbrev pub dayPlaces : ℕ
+dayPlaces = dayRows * rowSize
+
+abbrev pub tablePlaces : ℕ
+tablePlaces = mostGroomers * dayPlaces
+
+-- a table without stints
+unfoldable pub blankTable : List ℕ
+blankTable = replicate tablePlaces shiftMinutes
+
+-- beside the table, while it is filled: from when on each groomer is free, groomers from 0, then how many stints each has
+abbrev pub countPlace : ℕ → ℕ
+countPlace g = mostGroomers + g
+
+abbrev pub keptPlaces : ℕ
+keptPlaces = mostGroomers + mostGroomers
+
+-- a minute, or the shift's end where that is earlier
+unfoldable pub cut : ℕ → ℕ
+cut x = cond (ltb x shiftMinutes) x shiftMinutes
+
+-- where row j of its day starts
+abbrev pub rowPlace : ℕ → ℕ → ℕ
+rowPlace g j = g * dayPlaces + j * rowSize
+
+-- the stint in that row
+unfoldable pub stintIn : List ℕ → ℕ → ℕ → Stint
+stintIn table g j =
+    record {
+      turn = getD table (rowPlace g j) 0;
+      begin = getD table (rowPlace g j + 1) 0;
+      end = getD table (rowPlace g j + 2) 0;
+    }
+
+-- the table with a stint in that row
+unfoldable pub withStint : List ℕ → ℕ → ℕ → Stint → List ℕ
+withStint table g j s = set (set (set table (rowPlace g j) (s .turn)) (rowPlace g j + 1) (s .begin)) (rowPlace g j + 2) (s .end)
+
+-- a row without a stint: it begins when the shift is over
+unfoldable pub noStint : Stint
+noStint = record { turn = shiftMinutes; begin = shiftMinutes; end = shiftMinutes }
+
+-- a stint cut off at the shift's end
+unfoldable pub cutStint : Stint → Stint
+cutStint s = record { turn = s .turn; begin = cut (s .begin); end = cut (s .end) }
+
+-- the row for stint j of a day
+unfoldable pub stintRow : List Stint → ℕ → Stint
+stintRow [] j = noStint
+stintRow (s ∷ ss) zero = cutStint s
+stintRow (s ∷ ss) (suc j) = stintRow ss j
+
+-- what a row says of a minute
+unfoldable pub doingBy : Stint → ℕ → Doing
+doingBy s m = cond (ltb m (s .begin)) stands (cond (ltb m (s .end)) (works (s .turn)) drives)
+
+-- from when on the groomer is free after some turns
+unfoldable pub freeAfter : Turns → (ℕ → ℕ) → ℕ → List ℕ → ℕ
+freeAfter T delay free [] = free
+freeAfter T delay free (u ∷ us) = freeAfter T delay (stintOf T delay free u .end + overMinutes) us
+
+-- a turn of a row as a stint, from the minute on which its groomer is free, cut off
+unfoldable pub stintBy : Row → ℕ → ℕ → ℕ → Stint
+stintBy r t delay free =
+    let begin = max (r .start) free in
+    record { turn = t; begin = begin; end = cut (begin + (r .end - r .start) + delay) }
+
+-- the table with a stint behind groomer g's last one; there are rows enough for all that can come up in a shift
+unfoldable pub withNext : List ℕ → List ℕ → ℕ → Stint → List ℕ
+withNext table kept g s =
+    let j = getD kept (countPlace g) 0 in
+    cond (ltb j dayRows) (withStint table g j s) table
+
+-- what is kept beside it then
+unfoldable pub keptNext : List ℕ → ℕ → Stint → List ℕ
+keptNext kept g s = set (set kept g (cut (s .end + overMinutes))) (countPlace g) (getD kept (countPlace g) 0 + 1)
+
+-- a groomer that a sheet can have
+unfoldable pub isKnown : ℕ → Bool
+isKnown h = cond (eqb h 0) false (leb h mostGroomers)
+
+-- a turn more, if it is chosen and has a groomer that a sheet can have: the table, and what is kept beside it
+unfoldable pub tableWith : Bool → Row → ℕ → ℕ → List ℕ → List ℕ → List ℕ
+tableWith chosen r u delay table kept =
+    let g = r .groomer - 1 in
+    cond (chosen && isKnown (r .groomer)) (withNext table kept g (stintBy r u delay (getD kept g 0))) table
+
+unfoldable pub keptWith : Bool → Row → ℕ → ℕ → List ℕ → List ℕ
+keptWith chosen r u delay kept =
+    let g = r .groomer - 1 in
+    cond (chosen && isKnown (r .groomer)) (keptNext kept g (stintBy r u delay (getD kept g 0))) kept
+
+-- the delays of the first n turns are within their limit
+abbrev pub DelaysFit : List ℕ → ℕ → Type 0
+DelaysFit delays n = (n ≤ length delays) × ((u : ℕ) → u < n → delayIn delays u ≤ mostDelay)
+
+-- ---- as statements
+
+-- the table has a row for each stint of the days over some turns, taken in their order, groomer by groomer
+pub record RowsPut (T : Turns) (S : List Bool) (delay : ℕ → ℕ) (us table kept : List ℕ) : Type 0 where
+  pub places : length table ≡ tablePlaces
+  pub beside : length kept ≡ keptPlaces
+  pub rows : (g j : ℕ) → g < mostGroomers → j < dayRows → stintIn table g j ≡ stintRow (stintsFrom T delay 0 (takenOf T S (suc g) us)) j
+  pub free : (g : ℕ) → g < mostGroomers → getD kept g 0 ≡ cut (freeAfter T delay 0 (takenOf T S (suc g) us))
+  pub many : (g : ℕ) → g < mostGroomers → getD kept (countPlace g) 0 ≡ length (takenOf T S (suc g) us)
+  pub few : (g : ℕ) → g < mostGroomers → getD kept (countPlace g) 0 ≤ length us
+
+-- what is kept beside a table is ready for a turn more: free minutes within the shift, and counts that fit
+pub record Open (kept : List ℕ) : Type 0 where
+  pub beside : length kept ≡ keptPlaces
+  pub free : (g : ℕ) → g < mostGroomers → getD kept g 0 ≤ shiftMinutes
+  pub few : (g : ℕ) → g < mostGroomers → getD kept (countPlace g) 0 < mostTurns
+
+-- the table holds the days
+pub record Days (T : Turns) (S : List Bool) (delay : ℕ → ℕ) (table : List ℕ) : Type 0 where
+  pub places : length table ≡ tablePlaces
+  pub rows : (g j : ℕ) → g < mostGroomers → j < dayRows → stintIn table g j ≡ stintRow (dayOf T S delay (suc g)) j

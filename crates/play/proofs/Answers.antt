@@ -1,0 +1,249 @@
+-- What is judged before the first minute, and the entry's answer, by cases; each premise in the form in which the code's calls and tests leave it. Assumes nothing.
+use Prim.Native.Nat.{ℕ, suc, _*_, _≤_, _<_}
+use mathlib.Core.Path.{_≡_, refl, sym, _∙_, ap}
+use mathlib.Core.Bool.{Bool, true, false, not, _&&_}
+use mathlib.Core.List.{List, [], _∷_, _++_}
+use native.Mathlib.Omega.{arith}
+use native.Mathlib.Decide.{ℕ-discrete}
+use lib.Dec.{eqb, ltb}
+use lib.ListN.{length, drop}
+use borrow.Author.Tests.{eq-eqb, ne-eqb, eqb-true, lt-ltb, le-ltb}
+use Rattle.lists.specs.Lists.{tab}
+use Rattle.lists.proofs.Bools.{and-1, and-2}
+use Rattle.refusal.specs.Number.{bufferTooSmall, badDelays}
+use Rattle.refusal.specs.Cause.{Cause, _when_, firstOf}
+use Rattle.refusal.proofs.Order.{numbered, numbered-append, first-stops, first-goes}
+use Rattle.turns.specs.Turn.{shiftMinutes}
+use Rattle.sheet.specs.Kind.{mostGroomers}
+use Rattle.sheet.specs.declared.reader.ReadAnswer.{ReadAnswer}
+use Rattle.sheet.specs.Read.{countsIn, turnCount, sheetCauses, answerOf, readAnswer}
+use Rattle.sheet.proofs.Readings.{sheet-numbered}
+use Rattle.sheet.proofs.Unrefused.{few-groomers}
+use Rattle.sheet.proofs.Whole.{whole-refusal, whole-accepted, whole-answer, whole-turns}
+use Rattle.model.specs.Turns.{Turns}
+use Rattle.model.specs.Ceiling.{ceiling}
+use Rattle.choicemap.specs.Choice.{mapBytes, choiceIn}
+use Rattle.board.specs.Board.{boardTurns, boardMap, boardChoice, writtenSteps}
+use Rattle.board.specs.Open.{malformed}
+use Rattle.problem.specs.declared.columns.Size.{Size}
+use Rattle.problem.specs.Columns.{turnsBy, Held}
+use Rattle.problem.specs.Problem.{sheetTurns}
+use Rattle.problem.specs.Load.{shiftSize, Posed}
+use Rattle.problem.proofs.Rows.{count-is}
+use Rattle.audit.specs.declared.replay.Judgement.{Judgement}
+use Rattle.checking.specs.Check.{boardCauses, ruleCauses, choiceCauses, stepCauses, sumCauses, checkCauses}
+use Rattle.audit.specs.Judged.{judged}
+use Rattle.audit.proofs.Faults.{judged-number}
+use Rattle.checking.proofs.Passing.{Clear, board-clear}
+use Rattle.day.specs.Day.{delayIn, delaysFit, dayOf}
+use Rattle.day.specs.Table.{tablePlaces, DelaysFit, Days}
+use Rattle.day.proofs.Rows.{fit-delays}
+use Rattle.play.specs.declared.Standing.{Standing}
+use Rattle.play.specs.declared.PlayAnswer.{PlayAnswer}
+use Rattle.play.specs.declared.Plan.{Plan}
+use Rattle.play.specs.Standing.{standingAfter}
+use Rattle.play.specs.Play.{servesFor, lentCauses, playCauses, dayAt, standingsOf, played, playRefused, playOf}
+use Rattle.play.specs.Minutes.{minutesFrom, PlannedBy, Planned}
+use Rattle.play.proofs.Standings.{minutes-say, none-moved}
+
+-- ---- the delays' test
+
+pub serves-other : (n : ℕ) (delays : List ℕ) → (length delays ≡ n → ⊥) → false ≡ servesFor n delays
+unfolding servesFor
+serves-other n delays e = rw (ne-eqb (length delays) n e)
+
+pub serves-same : (n : ℕ) (delays : List ℕ) {b : Bool} → length delays ≡ n → b ≡ delaysFit delays (length delays) → b ≡ servesFor n delays
+unfolding servesFor
+serves-same n delays e f = rw (eq-eqb (length delays) n e) f
+
+pub ruleset serves-cases = (serves-other, serves-same)
+
+-- ---- the number of the first cause
+
+append-assoc : (xs ys zs : List Cause) → (xs ++ ys) ++ zs ≡ xs ++ (ys ++ zs)
+append-assoc [] ys zs = refl
+append-assoc (x ∷ xs) ys zs = ap (λ (ws : List Cause). x ∷ ws) (append-assoc xs ys zs)
+
+board-numbered : (T : Turns) (b : List ℕ) → numbered (boardCauses T b) ≡ true
+unfolding boardCauses ruleCauses choiceCauses stepCauses sumCauses
+board-numbered T b = refl
+
+pub check-numbered : (s b : List ℕ) → numbered (checkCauses s b) ≡ true
+unfolding checkCauses
+check-numbered s b = numbered-append (sheetCauses s) (boardCauses (sheetTurns s) b) (sheet-numbered s) (board-numbered (sheetTurns s) b)
+
+pub check-stops : (s b delays : List ℕ) (places k : ℕ) → firstOf (checkCauses s b) ≡ k → (k ≡ 0 → ⊥) → firstOf (playCauses s b delays places) ≡ k
+unfolding playCauses
+check-stops s b delays places k e z = first-stops (checkCauses s b) _ k e z
+
+pub check-passed : (s b delays : List ℕ) (places : ℕ) → firstOf (checkCauses s b) ≡ 0 → firstOf (playCauses s b delays places) ≡ firstOf (lentCauses (countsIn s .groomers) (turnCount s) delays places)
+unfolding playCauses
+check-passed s b delays places e = first-goes (checkCauses s b) _ (check-numbered s b) e
+
+module _ (groomers n : ℕ) (delays : List ℕ) (places : ℕ) where
+  pub by-delays : servesFor n delays ≡ false → firstOf (lentCauses groomers n delays places) ≡ badDelays
+  unfolding lentCauses firstOf
+  by-delays d = rw d
+
+  pub by-places : servesFor n delays ≡ true → places < groomers → firstOf (lentCauses groomers n delays places) ≡ bufferTooSmall
+  unfolding lentCauses firstOf
+  by-places d l = rw (d, lt-ltb places groomers l)
+
+  pub by-none : servesFor n delays ≡ true → groomers ≤ places → firstOf (lentCauses groomers n delays places) ≡ 0
+  unfolding lentCauses firstOf
+  by-none d l = rw (d, le-ltb places groomers l)
+
+-- ---- plans
+
+abbrev Refused : Plan → ℕ → Type 0
+Refused p k = (p .refusal ≡ k) × (p .groomers ≡ 0) × (p .moved ≡ 0) × (length (p .table) ≡ tablePlaces)
+
+given : (causes : List Cause) (T : Turns) (groomers : ℕ) (S : List Bool) (delays : List ℕ) (places k : ℕ) (p : Plan) → firstOf causes ≡ k → (k ≡ 0 → ⊥) → Refused p k → PlannedBy causes T groomers S delays places p
+given causes T groomers S delays places k p e z q = record {
+  number = q .0 ∙ sym e;
+  none = λ _. q .1;
+  groomers-are = λ y. absurd (z (sym (q .0) ∙ y));
+  days = λ y. absurd (z (sym (q .0) ∙ y));
+  places-are = q .3;
+  moved-are = q .2 ∙ sym (q .1);
+  few = omega (arith, q .2);
+  inside = omega (arith, q .2);
+}
+
+-- the same plan where causes that are not there stand in front
+carried : (front causes : List Cause) (T : Turns) (groomers : ℕ) (S : List Bool) (delays : List ℕ) (places : ℕ) (p : Plan) → firstOf front ≡ firstOf causes → PlannedBy causes T groomers S delays places p → PlannedBy front T groomers S delays places p
+carried front causes T groomers S delays places p e w = record {
+  number = w .number ∙ sym e;
+  none = w .none;
+  groomers-are = w .groomers-are;
+  days = w .days;
+  places-are = w .places-are;
+  moved-are = w .moved-are;
+  few = w .few;
+  inside = w .inside;
+}
+
+-- ---- as the code leaves it: for a board that passes
+
+module _ (p : Size) (cols : List ℕ) (groomers : ℕ) (b delays : List ℕ) (places : ℕ) where
+  pub days-delays : (x : Plan) {c : Bool} → c ≡ servesFor (p .count) delays → c ≡ false → Refused x badDelays → PlannedBy (lentCauses groomers (p .count) delays places) (turnsBy p cols) groomers (boardChoice b) delays places x
+  days-delays x d f r = given (lentCauses groomers (p .count) delays places) (turnsBy p cols) groomers (boardChoice b) delays places badDelays x (by-delays groomers (p .count) delays places (sym d ∙ f)) (λ n. omega (arith, n)) r
+
+  pub days-small : (x : Plan) {c : Bool} → c ≡ servesFor (p .count) delays → c ≡ true → places < groomers → Refused x bufferTooSmall → PlannedBy (lentCauses groomers (p .count) delays places) (turnsBy p cols) groomers (boardChoice b) delays places x
+  days-small x d f l r = given (lentCauses groomers (p .count) delays places) (turnsBy p cols) groomers (boardChoice b) delays places bufferTooSmall x (by-places groomers (p .count) delays places (sym d ∙ f) l) (λ n. omega (arith, n)) r
+
+  pub days-done : {c : Bool} {map table : List ℕ} → c ≡ servesFor (p .count) delays → c ≡ true → groomers ≤ places → groomers ≤ mostGroomers → boardTurns b ≡ p .count → map ≡ boardMap b → Days (turnsBy p cols) (choiceIn (p .count) map) (delayIn delays) table
+      → PlannedBy (lentCauses groomers (p .count) delays places) (turnsBy p cols) groomers (boardChoice b) delays places (record { refusal = 0; groomers = groomers; moved = groomers; table = table })
+  unfolding boardChoice
+  days-done d f l few n m t = record {
+    number = sym (by-none groomers (p .count) delays places (sym d ∙ f) l);
+    none = λ z. absurd (z refl);
+    groomers-are = λ _. refl;
+    days = λ _. rw (n, ← m) t;
+    places-are = t .places;
+    moved-are = refl;
+    few = few;
+    inside = l;
+  }
+
+  pub days-bits : (map : List ℕ) → boardTurns b ≡ p .count → length map ≡ mapBytes (boardTurns b) → p .count ≤ 8 * length map
+  days-bits map n l = omega (arith, l, n)
+
+  pub days-fit : {c : Bool} → c ≡ servesFor (p .count) delays → c ≡ true → DelaysFit delays (p .count)
+  unfolding servesFor
+  days-fit d f =
+      let t : (eqb (length delays) (p .count) && delaysFit delays (length delays)) ≡ true = sym d ∙ f in
+      let k : length delays ≡ p .count = eqb-true (length delays) (p .count) (and-1 (eqb (length delays) (p .count)) (delaysFit delays (length delays)) t) in
+      fit-delays delays (p .count) (sym k) (ap (delaysFit delays) (sym k) ∙ and-2 (eqb (length delays) (p .count)) (delaysFit delays (length delays)) t)
+
+pub ruleset days-cases = (days-delays, days-small, days-done, days-bits, days-fit)
+
+-- ---- for a board and a problem
+
+module _ (T : Turns) (b : List ℕ) (limit : ℕ) {j : Judgement} (e : j ≡ judged (firstOf (boardCauses T b)) limit) where
+  fault-is : firstOf (boardCauses T b) ≡ j .fault
+  fault-is = sym (judged-number (firstOf (boardCauses T b)) limit e)
+
+  pub board-formed : j .fault ≡ 0 → malformed b ≡ false
+  board-formed z = board-clear T b (fault-is ∙ z) .formed
+
+  pub board-counted : j .fault ≡ 0 → boardTurns b ≡ T .count
+  board-counted z = board-clear T b (fault-is ∙ z) .counted
+
+  module _ (causes : List Cause) (groomers : ℕ) (S : List Bool) (delays : List ℕ) (places : ℕ) (x : Plan) where
+    pub board-refused : (j .fault ≡ 0 → ⊥) → Refused x (j .fault) → PlannedBy (boardCauses T b ++ causes) T groomers S delays places x
+    board-refused z r = given (boardCauses T b ++ causes) T groomers S delays places (j .fault) x (first-stops (boardCauses T b) causes (j .fault) fault-is z) z r
+
+    pub board-passes : j .fault ≡ 0 → PlannedBy causes T groomers S delays places x → PlannedBy (boardCauses T b ++ causes) T groomers S delays places x
+    board-passes z w = carried (boardCauses T b ++ causes) causes T groomers S delays places x (first-goes (boardCauses T b) causes (board-numbered T b) (fault-is ∙ z)) w
+
+pub board-size : (p : Size) (cols b : List ℕ) (limit : ℕ) {j : Judgement} → j ≡ judged (firstOf (boardCauses (turnsBy p cols) b)) limit → j .fault ≡ 0 → boardTurns b ≡ p .count
+board-size p cols b limit e z = board-counted (turnsBy p cols) b limit e z ∙ count-is p cols
+
+pub ruleset board-cases = (board-formed, board-size, board-refused, board-passes)
+
+-- ---- for a sheet
+
+module _ (s b delays : List ℕ) (places : ℕ) {a : ReadAnswer} (e : a ≡ answerOf s) where
+  pub sheet-refused : (x : Plan) → (a .refusal ≡ 0 → ⊥) → Refused x (a .refusal) → Planned s b delays places x
+  unfolding playCauses checkCauses
+  sheet-refused x z r =
+      given (playCauses s b delays places) (sheetTurns s) (countsIn s .groomers) (boardChoice b) delays places (a .refusal) x
+      (first-stops (sheetCauses s ++ boardCauses (sheetTurns s) b) _ (a .refusal) (first-stops (sheetCauses s) (boardCauses (sheetTurns s) b) (a .refusal) (sym (whole-refusal s e)) z) z) z r
+
+module _ (s : List ℕ) {a : ReadAnswer} (e : a ≡ answerOf s) (y : a .refusal ≡ 0) where
+  groomers-of : a .groomers ≡ countsIn s .groomers
+  groomers-of = ap (λ (x : ReadAnswer). x .groomers) (whole-answer s e y)
+
+  pub sheet-few : a .groomers ≤ mostGroomers
+  sheet-few = omega (arith, groomers-of, few-groomers s (whole-accepted s e y))
+
+  module _ (cols : List ℕ) {p : Size} (w : a .refusal ≡ 0 → Posed s cols) (q : p ≡ shiftSize (a .turns)) where
+    pub sheet-held : Held p cols
+    sheet-held = rw (q, whole-turns s e y) (w y .held)
+
+    turns-are : turnsBy p cols ≡ sheetTurns s
+    turns-are = rw (q, whole-turns s e y) (w y .turns)
+
+    size-is : p .count ≡ turnCount s
+    size-is = ap (λ (x : Size). x .count) q ∙ whole-turns s e y
+
+    pub sheet-planned : (b delays : List ℕ) (places : ℕ) (x : Plan) → PlannedBy (boardCauses (turnsBy p cols) b ++ lentCauses (a .groomers) (p .count) delays places) (turnsBy p cols) (a .groomers) (boardChoice b) delays places x → Planned s b delays places x
+    unfolding playCauses checkCauses
+    sheet-planned b delays places x v =
+        let v′ : PlannedBy (boardCauses (sheetTurns s) b ++ lentCauses (countsIn s .groomers) (turnCount s) delays places) (sheetTurns s) (countsIn s .groomers) (boardChoice b) delays places x = rw (turns-are, groomers-of, size-is) at v in
+        carried ((sheetCauses s ++ boardCauses (sheetTurns s) b) ++ lentCauses (countsIn s .groomers) (turnCount s) delays places) _ (sheetTurns s) (countsIn s .groomers) (boardChoice b) delays places x
+        (ap firstOf (append-assoc (sheetCauses s) (boardCauses (sheetTurns s) b) (lentCauses (countsIn s .groomers) (turnCount s) delays places)) ∙ first-goes (sheetCauses s) _ (sheet-numbered s) (whole-accepted s e y)) v′
+
+pub ruleset plan-cases = (sheet-refused, sheet-few, sheet-held, sheet-planned)
+
+-- ---- the entry
+
+-- the standings of the first k groomers
+abbrev standingsUpTo : List ℕ → List ℕ → List ℕ → ℕ → List Standing
+standingsUpTo s b delays k = tab k (λ g. standingAfter (dayOf (sheetTurns s) (boardChoice b) (delayIn delays) (suc g)) shiftMinutes)
+
+module _ (s b delays : List ℕ) (lent : List Standing) where
+  refused-is : (k : ℕ) → firstOf (playCauses s b delays (length lent)) ≡ k → (k ≡ 0 → ⊥) → played (playRefused k) lent ≡ playOf s b delays lent
+  unfolding playOf
+  refused-is k e z = rw (e, ne-eqb k 0 z)
+
+  answered-is : firstOf (playCauses s b delays (length lent)) ≡ 0 → played (record { refusal = 0; groomers = countsIn s .groomers }) (standingsOf s b delays ++ drop (countsIn s .groomers) lent) ≡ playOf s b delays lent
+  unfolding playOf
+  answered-is e = rw e
+
+  pub play-answer : (p : Plan) → Planned s b delays (length lent) p → {r : PlayAnswer} {zs : List Standing} → r ≡ record { refusal = p .refusal; groomers = p .groomers } → zs ≡ minutesFrom shiftMinutes 0 (p .moved) lent (p .table) → played r zs ≡ playOf s b delays lent
+  unfolding standingsOf dayAt
+  play-answer p w {r} {zs} x y = go (ℕ-discrete (p .refusal) 0)
+    where
+      go : Dec (p .refusal ≡ 0) → played r zs ≡ playOf s b delays lent
+      go (yes z) =
+          let n : p .groomers ≡ countsIn s .groomers = w .groomers-are z in
+          let a : zs ≡ standingsOf s b delays ++ drop (countsIn s .groomers) lent = y ∙ minutes-say (sheetTurns s) (boardChoice b) (delayIn delays) (p .table) (w .days z) (p .moved) (w .few) lent (w .inside) ∙ ap (λ (k : ℕ). standingsUpTo s b delays k ++ drop k lent) (w .moved-are ∙ n) in
+          let c : r ≡ record { refusal = 0; groomers = countsIn s .groomers } = x ∙ (λ i. record { refusal = z i; groomers = n i }) in
+          (λ i. played (c i) (a i)) ∙ answered-is (sym (w .number) ∙ z)
+      go (no z) =
+          let n : p .groomers ≡ 0 = w .none z in
+          let a : zs ≡ lent = y ∙ ap (λ (k : ℕ). minutesFrom shiftMinutes 0 k lent (p .table)) (w .moved-are ∙ n) ∙ none-moved shiftMinutes 0 lent (p .table) in
+          let c : r ≡ playRefused (p .refusal) = x ∙ (λ i. record { refusal = p .refusal; groomers = n i }) in
+          (λ i. played (c i) (a i)) ∙ refused-is (p .refusal) (sym (w .number)) z

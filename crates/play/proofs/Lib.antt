@@ -1,0 +1,5 @@
+pub mod Moves
+pub mod Again
+pub mod Standings
+pub mod Answers
+pub mod Promised

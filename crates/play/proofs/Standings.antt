@@ -1,0 +1,168 @@
+-- The standings after each minute: what a step of the table makes is what the day says; the closed reading; all minutes of the list. Assumes nothing.
+use mathlib.Core.Path.{_≡_, refl, sym, _∙_, ap}
+use mathlib.Core.Bool.{Bool, true, false, cond}
+use mathlib.Core.List.{List, [], _∷_, _++_}
+use Prim.Native.Nat.{ℕ, zero, suc, _+_, _-_, _≤_, _<_, _/_}
+use native.Mathlib.Omega.{arith}
+use native.Mathlib.Decide.{decLt}
+use lib.ListN.{length, getD, set, drop, length-set, length-append, length-drop}
+use lib.Seq.{getD-set-other, getD-append-add, getD-drop, ext-getD}
+use Rattle.turns.specs.Turn.{shiftMinutes}
+use Rattle.sheet.specs.Kind.{mostGroomers}
+use Rattle.lists.specs.Lists.{tab}
+use Rattle.lists.proofs.Sums.{tab-length, tab-at}
+use Rattle.model.specs.Turns.{Turns}
+use Rattle.sorting.specs.Order.{howMany}
+use Rattle.day.specs.declared.Stint.{Stint}
+use Rattle.day.specs.Day.{overMinutes, dayOf, Doing, works, drives, stands, doingAt, isWork, isDrive, isStand}
+use Rattle.day.specs.Table.{dayRows, stintIn, stintRow, doingBy, Days}
+use Rattle.day.proofs.Stints.{driven, day-laid, row-says}
+use Rattle.play.specs.declared.Standing.{Standing}
+use Rattle.play.specs.Standing.{noTurnInHand, freshOf, movedBy, standingAfter, inHand, StandingIs}
+use Rattle.play.specs.Minutes.{begunOf, stepOf, totalOf, minuteOf, minutesFrom}
+use Rattle.play.proofs.Moves.{begun-first, begun-later, moved-total, length-minute, minute-before, minute-at}
+
+-- ---- the counts
+
+moved-turn : (s : Standing) (d : Doing) → movedBy s d .turn ≡ inHand d
+unfolding movedBy inHand
+moved-turn s (works u) = refl
+moved-turn s drives = refl
+moved-turn s stands = refl
+
+pub append-left : (xs ys : List Standing) (i : ℕ) (d : Standing) → i < length xs → getD (xs ++ ys) i d ≡ getD xs i d
+append-left [] ys i d l = absurd (omega arith)
+append-left (x ∷ xs) ys zero d l = refl
+append-left (x ∷ xs) ys (suc i) d l = append-left xs ys i d (omega arith)
+
+module _ (day : List Stint) where
+  working-count : (k : ℕ) → standingAfter day k .working ≡ howMany (λ m. isWork (doingAt day m)) k
+  unfolding standingAfter movedBy isWork
+  working-count zero = refl
+  working-count (suc k) = go (doingAt day k) (working-count k)
+    where
+      go : (d : Doing) → standingAfter day k .working ≡ howMany (λ m. isWork (doingAt day m)) k → movedBy (standingAfter day k) d .working ≡ cond (isWork d) 1 0 + howMany (λ m. isWork (doingAt day m)) k
+      go (works u) e = omega (arith, e)
+      go drives e = omega (arith, e)
+      go stands e = omega (arith, e)
+
+  pub driving-count : (k : ℕ) → standingAfter day k .driving ≡ howMany (λ m. isDrive (doingAt day m)) k
+  unfolding standingAfter movedBy isDrive
+  driving-count zero = refl
+  driving-count (suc k) = go (doingAt day k) (driving-count k)
+    where
+      go : (d : Doing) → standingAfter day k .driving ≡ howMany (λ m. isDrive (doingAt day m)) k → movedBy (standingAfter day k) d .driving ≡ cond (isDrive d) 1 0 + howMany (λ m. isDrive (doingAt day m)) k
+      go (works u) e = omega (arith, e)
+      go drives e = omega (arith, e)
+      go stands e = omega (arith, e)
+
+  standing-count : (k : ℕ) → standingAfter day k .standing ≡ howMany (λ m. isStand (doingAt day m)) k
+  unfolding standingAfter movedBy isStand
+  standing-count zero = refl
+  standing-count (suc k) = go (doingAt day k) (standing-count k)
+    where
+      go : (d : Doing) → standingAfter day k .standing ≡ howMany (λ m. isStand (doingAt day m)) k → movedBy (standingAfter day k) d .standing ≡ cond (isStand d) 1 0 + howMany (λ m. isStand (doingAt day m)) k
+      go (works u) e = omega (arith, e)
+      go drives e = omega (arith, e)
+      go stands e = omega (arith, e)
+
+  -- the three counts make all minutes played
+  pub counts-make : (k : ℕ) → totalOf (standingAfter day k) ≡ k
+  unfolding standingAfter
+  counts-make zero = refl
+  counts-make (suc k) = omega (arith, moved-total (standingAfter day k) (doingAt day k), counts-make k)
+
+  turn-count : (m : ℕ) → standingAfter day (suc m) .turn ≡ inHand (doingAt day m)
+  unfolding standingAfter
+  turn-count m = go (doingAt day m)
+    where
+      go : (d : Doing) → movedBy (standingAfter day m) d .turn ≡ inHand d
+      go d = moved-turn (standingAfter day m) d
+
+  -- after every minute the standing is what the day says
+  pub standing-is : (m : ℕ) → StandingIs day m (standingAfter day (suc m))
+  standing-is m = record { working-is = working-count (suc m); driving-is = driving-count (suc m); standing-is = standing-count (suc m); turn-is = turn-count m; minutes = counts-make (suc m) }
+
+driving-driven : (day : List Stint) (m : ℕ) → standingAfter day m .driving ≡ driven day m
+unfolding driven
+driving-driven day m = driving-count day m
+
+-- ---- a minute by the table
+
+module _ (T : Turns) (S : List Bool) (delay : ℕ → ℕ) (table : List ℕ) (w : Days T S delay table) where
+  abbrev its : ℕ → List Stint
+  its g = dayOf T S delay (suc g)
+
+  step-says : (s : Standing) (g m : ℕ) → g < mostGroomers → m < shiftMinutes → begunOf s m ≡ standingAfter (its g) m → stepOf s table g m ≡ standingAfter (its g) (suc m)
+  unfolding stepOf standingAfter
+  step-says s g m l k e =
+      let day = its g in
+      let d : begunOf s m .driving ≡ driven day m = ap (λ (x : Standing). x .driving) e ∙ driving-driven day m in
+      let few : begunOf s m .driving ≤ m = omega (arith, ap (λ (x : Standing). x .driving) e, counts-make day m) in
+      let r : stintIn table g (begunOf s m .driving / overMinutes) ≡ stintRow day (driven day m / overMinutes) = w .rows g (begunOf s m .driving / overMinutes) l (omega (arith, few)) ∙ ap (λ (x : ℕ). stintRow day (x / overMinutes)) d in
+      let says : doingBy (stintIn table g (begunOf s m .driving / overMinutes)) m ≡ doingAt day m = ap (λ (x : Stint). doingBy x m) r ∙ row-says (day-laid T S delay (suc g)) m k in
+      λ i. movedBy (e i) (says i)
+
+  -- ---- all minutes of the list
+
+  -- before minute m: each of n groomers starts from what its day says, and all behind them is as it was
+  record Begun (n : ℕ) (ys : List Standing) (m : ℕ) (l : List Standing) : Type 0 where
+    long : length l ≡ length ys
+    starts : (g : ℕ) → g < n → begunOf (getD l g freshOf) m ≡ standingAfter (its g) m
+    others : (j : ℕ) → n ≤ j → getD l j freshOf ≡ getD ys j freshOf
+
+  minute-past : (k g : ℕ) (l : List Standing) (m j : ℕ) → g + k ≤ j → getD (minuteOf k g l table m) j freshOf ≡ getD l j freshOf
+  unfolding minuteOf
+  minute-past zero g l m j h = refl
+  minute-past (suc k) g l m j h =
+      minute-past k (g + 1) (set l g (stepOf (getD l g freshOf) table g m)) m j (omega arith) ∙ getD-set-other l g j (stepOf (getD l g freshOf) table g m) freshOf (λ e. omega (arith, e))
+
+  module _ (n : ℕ) (few : n ≤ mostGroomers) (ys : List Standing) (room : n ≤ length ys) where
+    begun-next : (m : ℕ) (l : List Standing) → m < shiftMinutes → Begun n ys m l → Begun n ys (m + 1) (minuteOf n 0 l table m)
+    begun-next m l k b =
+        record {
+          long = length-minute n 0 l table m ∙ b .long;
+          starts = λ g x.
+              let at : getD (minuteOf n 0 l table m) g freshOf ≡ stepOf (getD l g freshOf) table g m = minute-at n 0 l table m g (omega arith) (omega arith) (omega (arith, b .long)) in
+              let q : m + 1 ≡ suc m = omega arith in
+              sym (begun-later (getD (minuteOf n 0 l table m) g freshOf) (m + 1) (λ z. omega (arith, z))) ∙ at ∙ step-says (getD l g freshOf) g m (omega arith) k (b .starts g x) ∙ ap (standingAfter (its g)) (sym q);
+          others = λ j x. minute-past n 0 l m j (omega arith) ∙ b .others j x;
+        }
+
+    begun-all : (k m : ℕ) (l : List Standing) → m + k ≤ shiftMinutes → Begun n ys m l → Begun n ys (m + k) (minutesFrom k m n l table)
+    unfolding minutesFrom
+    begun-all zero m l h b = let q : m + 0 ≡ m = omega arith in rw q b
+    begun-all (suc k) m l h b = let q : m + suc k ≡ m + 1 + k = omega arith in rw q (begun-all k (m + 1) (minuteOf n 0 l table m) (omega arith) (begun-next m l (omega arith) b))
+
+    begun-start : Begun n ys 0 ys
+    unfolding standingAfter
+    begun-start = record { long = refl; starts = λ g x. sym (begun-first (getD ys g freshOf) 0 refl); others = λ j x. refl }
+
+    over : Begun n ys shiftMinutes (minutesFrom shiftMinutes 0 n ys table)
+    over = begun-all shiftMinutes 0 ys (omega arith) begun-start
+
+    pub minutes-say : minutesFrom shiftMinutes 0 n ys table ≡ tab n (λ g. standingAfter (dayOf T S delay (suc g)) shiftMinutes) ++ drop n ys
+    minutes-say =
+        let xs = tab n (λ g. standingAfter (its g) shiftMinutes) in
+        let size : length xs ≡ n = tab-length n (λ g. standingAfter (its g) shiftMinutes) in
+        ext-getD freshOf (minutesFrom shiftMinutes 0 n ys table) (xs ++ drop n ys) (omega (arith, over .long, length-append xs (drop n ys), size, length-drop n ys)) (λ i _. go i (decLt i n))
+      where
+        go : (i : ℕ) → Dec (i < n) → getD (minutesFrom shiftMinutes 0 n ys table) i freshOf ≡ getD (tab n (λ g. standingAfter (its g) shiftMinutes) ++ drop n ys) i freshOf
+        go i (yes l) =
+            begun-later (getD (minutesFrom shiftMinutes 0 n ys table) i freshOf) shiftMinutes (λ z. omega (arith, z)) ∙ over .starts i l
+            ∙ sym (tab-at n (λ g. standingAfter (its g) shiftMinutes) freshOf i l)
+            ∙ sym (append-left (tab n (λ g. standingAfter (its g) shiftMinutes)) (drop n ys) i freshOf (omega (arith, tab-length n (λ g. standingAfter (its g) shiftMinutes))))
+        go i (no l) =
+            let size : length (tab n (λ g. standingAfter (its g) shiftMinutes)) ≡ n = tab-length n (λ g. standingAfter (its g) shiftMinutes) in
+            let q : i ≡ length (tab n (λ g. standingAfter (its g) shiftMinutes)) + (i - n) = omega (arith, size) in
+            let p : n + (i - n) ≡ i = omega arith in
+            over .others i (omega arith)
+            ∙ sym (getD-drop n ys (i - n) freshOf ∙ ap (λ (j : ℕ). getD ys j freshOf) p)
+            ∙ sym (ap (λ (j : ℕ). getD (tab n (λ g. standingAfter (its g) shiftMinutes) ++ drop n ys) j freshOf) q ∙ getD-append-add (tab n (λ g. standingAfter (its g) shiftMinutes)) (drop n ys) (i - n) freshOf)
+
+-- ---- no groomers
+
+pub none-moved : (k m : ℕ) (l : List Standing) (table : List ℕ) → minutesFrom k m 0 l table ≡ l
+unfolding minutesFrom minuteOf
+none-moved zero m l table = refl
+none-moved (suc k) m l table = none-moved k (m + 1) l table

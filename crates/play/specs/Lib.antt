@@ -1,0 +1,3 @@
+pub mod Standing
+pub mod Play
+pub mod Minutes

@@ -1,0 +1,66 @@
+-- The list of standings as it is moved, minute by minute and groomer by groomer, by a table that holds the days. For inner functions only. Assumes nothing.
+use mathlib.Core.Path.{_≡_}
+use Prim.Native.Nat.{ℕ, zero, suc, _+_, _<_, _≤_, _/_}
+use mathlib.Core.Bool.{Bool, cond}
+use mathlib.Core.List.{List}
+use lib.Dec.{eqb}
+use lib.ListN.{length, set, getD}
+use Rattle.refusal.specs.Cause.{Cause, firstOf}
+use Rattle.model.specs.Turns.{Turns}
+use Rattle.turns.specs.Turn.{shiftMinutes}
+use Rattle.sheet.specs.Kind.{mostGroomers}
+use Rattle.sheet.specs.Read.{countsIn}
+use Rattle.problem.specs.Problem.{sheetTurns}
+use Rattle.board.specs.Board.{boardChoice}
+use Rattle.day.specs.Day.{overMinutes, delayIn}
+use Rattle.day.specs.Table.{tablePlaces, stintIn, doingBy, Days}
+use Rattle.play.specs.declared.Standing.{Standing}
+use Rattle.play.specs.declared.Plan.{Plan}
+use Rattle.play.specs.Standing.{freshOf, movedBy}
+use Rattle.play.specs.Play.{playCauses}
+
+-- what minute m starts from: the first one starts anew, whatever the list held
+unfoldable pub begunOf : Standing → ℕ → Standing
+begunOf s m = cond (eqb m 0) freshOf s
+
+-- minute m of the groomer at place g: the minutes driven over tell how many stints are over
+unfoldable pub stepOf : Standing → List ℕ → ℕ → ℕ → Standing
+stepOf s table g m = let b = begunOf s m in movedBy b (doingBy (stintIn table g (b .driving / overMinutes)) m)
+
+-- all minutes of a standing
+abbrev pub totalOf : Standing → ℕ
+totalOf s = s .working + s .driving + s .standing
+
+-- minute m of k groomers from place g on
+unfoldable pub minuteOf : ℕ → ℕ → List Standing → List ℕ → ℕ → List Standing
+minuteOf zero g l table m = l
+minuteOf (suc k) g l table m = minuteOf k (g + 1) (set l g (stepOf (getD l g freshOf) table g m)) table m
+
+-- k minutes from m on, of n groomers
+unfoldable pub minutesFrom : ℕ → ℕ → ℕ → List Standing → List ℕ → List Standing
+minutesFrom zero m n l table = l
+minutesFrom (suc k) m n l table = minutesFrom k (m + 1) n (minuteOf n 0 l table m) table
+
+-- ---- as statements
+
+-- what minute m of a groomer asks: a table and a groomer of it, a minute of the shift, and a standing of m minutes to start from
+abbrev pub Ready : List ℕ → ℕ → ℕ → Standing → Type 0
+Ready table g m s = (length table ≡ tablePlaces) × (g < mostGroomers) × (m < shiftMinutes) × (totalOf (begunOf s m) ≡ m)
+
+abbrev pub AllReady : List ℕ → ℕ → ℕ → List Standing → Type 0
+AllReady table m n l = (g : ℕ) → g < n → Ready table g m (getD l g freshOf)
+
+-- what is worked out before the first minute, where these are the causes to refuse: the answer, and where none is there a table that holds the days
+pub record PlannedBy (causes : List Cause) (T : Turns) (groomers : ℕ) (S : List Bool) (delays : List ℕ) (places : ℕ) (p : Plan) : Type 0 where
+  pub number : p .refusal ≡ firstOf causes
+  pub none : (p .refusal ≡ 0 → ⊥) → p .groomers ≡ 0
+  pub groomers-are : p .refusal ≡ 0 → p .groomers ≡ groomers
+  pub days : p .refusal ≡ 0 → Days T S (delayIn delays) (p .table)
+  pub places-are : length (p .table) ≡ tablePlaces
+  pub moved-are : p .moved ≡ p .groomers
+  pub few : p .moved ≤ mostGroomers
+  pub inside : p .moved ≤ places
+
+-- for a sheet and a board
+abbrev pub Planned : List ℕ → List ℕ → List ℕ → ℕ → Plan → Type 0
+Planned s b delays places p = PlannedBy (playCauses s b delays places) (sheetTurns s) (countsIn s .groomers) (boardChoice b) delays places p

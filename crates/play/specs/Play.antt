@@ -1,0 +1,72 @@
+-- A shift played through: any bytes as a sheet, any as a board, any table of delays, and a lent list of standings. Assumes nothing.
+use mathlib.Core.Path.{_≡_}
+use Prim.Native.Nat.{ℕ, suc, _≤_, _<_}
+use mathlib.Core.Bool.{Bool, not, cond, _&&_}
+use mathlib.Core.List.{List, [], _∷_, _++_}
+use lib.ListN.{length, drop}
+use lib.Dec.{ltb, eqb}
+use Rattle.refusal.specs.Number.{bufferTooSmall, badDelays}
+use Rattle.refusal.specs.Cause.{Cause, _when_, firstOf}
+use Rattle.lists.specs.Lists.{tab}
+use Rattle.turns.specs.Turn.{shiftMinutes}
+use Rattle.sheet.specs.Read.{countsIn, turnCount}
+use Rattle.problem.specs.Problem.{sheetTurns}
+use Rattle.board.specs.Board.{boardChoice}
+use Rattle.checking.specs.Check.{checkCauses, Passes, FirstCheckCause}
+use Rattle.day.specs.declared.Stint.{Stint}
+use Rattle.day.specs.Day.{mostDelay, delayIn, delaysFit, dayOf}
+use Rattle.play.specs.declared.Standing.{Standing}
+use Rattle.play.specs.declared.PlayAnswer.{PlayAnswer}
+use Rattle.play.specs.Standing.{standingAfter}
+
+-- a number for each of n turns, and none above the limit
+unfoldable pub servesFor : ℕ → List ℕ → Bool
+servesFor n delays = eqb (length delays) n && delaysFit delays (length delays)
+
+-- what may be wrong with what is lent, for so many groomers and n turns: the table of delays, then a list that is shorter than there are groomers
+unfoldable pub lentCauses : ℕ → ℕ → List ℕ → ℕ → List Cause
+lentCauses groomers n delays places = badDelays when not (servesFor n delays) ∷ bufferTooSmall when ltb places groomers ∷ []
+
+-- after the check's causes
+unfoldable pub playCauses : List ℕ → List ℕ → List ℕ → ℕ → List Cause
+playCauses s b delays places = checkCauses s b ++ lentCauses (countsIn s .groomers) (turnCount s) delays places
+
+-- the day of the groomer at place g of the list; groomers are numbered from 1
+unfoldable pub dayAt : List ℕ → List ℕ → List ℕ → ℕ → List Stint
+dayAt s b delays g = dayOf (sheetTurns s) (boardChoice b) (delayIn delays) (suc g)
+
+-- the standings of all groomers when the shift is over
+unfoldable pub standingsOf : List ℕ → List ℕ → List ℕ → List Standing
+standingsOf s b delays = tab (countsIn s .groomers) (λ g. standingAfter (dayAt s b delays g) shiftMinutes)
+
+-- what is returned, and what the lent list holds then
+pub record Play : Type 0 where
+  pub answer : PlayAnswer
+  pub list : List Standing
+
+-- an answer beside the list
+abbrev pub played : PlayAnswer → List Standing → Play
+played answer list = record { answer = answer; list = list }
+
+-- a refusal returns its number and no groomers
+abbrev pub playRefused : ℕ → PlayAnswer
+playRefused k = record { refusal = k; groomers = 0 }
+
+-- on success the number of groomers, and each one's standing at its place, then what was there; on a refusal all as before
+unfoldable pub playOf : List ℕ → List ℕ → List ℕ → List Standing → Play
+playOf s b delays lent =
+    let f = firstOf (playCauses s b delays (length lent)) in
+    cond (eqb f 0) (played (record { refusal = 0; groomers = countsIn s .groomers }) (standingsOf s b delays ++ drop (countsIn s .groomers) lent)) (played (playRefused f) lent)
+
+-- ---- as statements
+
+-- each turn of the sheet has a delay within the limit, and no number is over
+pub record DelaysServe (s delays : List ℕ) : Type 0 where
+  pub each : length delays ≡ turnCount s
+  pub within : (u : ℕ) → u < turnCount s → delayIn delays u ≤ mostDelay
+
+-- what is refused with number k: what the check refuses, by its number; then delays that do not serve; then a list that is shorter than the sheet's groomers
+pub data PlayRefusal (s b delays : List ℕ) (places : ℕ) : ℕ → Type 0 where
+  by-check : {k : ℕ} → FirstCheckCause s b k → PlayRefusal s b delays places k
+  by-delays : Passes s b → (DelaysServe s delays → ⊥) → PlayRefusal s b delays places badDelays
+  by-places : Passes s b → DelaysServe s delays → places < countsIn s .groomers → PlayRefusal s b delays places bufferTooSmall

@@ -1,0 +1,243 @@
+// A shift played through: what late machines do to a board, minute by minute. Each groomer's standing is
+// kept in a list that the caller lends.
+ghost use mathlib.Core.Path.{_≡_};
+ghost use mathlib.Core.Bool.{false};
+ghost use mathlib.Core.List.{_++_};
+ghost use Prim.Native.Nat.{_+_, _≤_, _<_};
+ghost use lib.ListN.{length};
+ghost use Rattle.turns.specs.Turn.{shiftMinutes};
+ghost use Rattle.sheet.specs.Kind.{mostGroomers};
+ghost use Rattle.problem.specs.Columns.{turnsBy, Held};
+ghost use Rattle.board.specs.Board.{boardTurns, boardChoice};
+ghost use Rattle.board.specs.Open.{malformed};
+ghost use Rattle.checking.specs.Check.{boardCauses};
+ghost use Rattle.day.specs.Table.{tablePlaces};
+ghost use Rattle.play.specs.Standing.{freshOf};
+ghost use Rattle.play.specs.Play.{servesFor, lentCauses, played, playOf};
+ghost use Rattle.play.specs.Minutes.{begunOf, stepOf, minuteOf, minutesFrom, Ready, AllReady, PlannedBy, Planned};
+use day::MINUTES;
+use day::OVER_MINUTES;
+use day::TABLE_PLACES;
+use problem::PLACES;
+use problem::Size;
+
+// The minutes that a groomer has worked, driven over and stood, and the turn that it works in the minute
+// last played.
+#[repr(C)]
+pub struct Standing {
+    pub working: u16,
+    pub driving: u16,
+    pub standing: u16,
+    pub turn: u16,
+}
+
+// What comes back: a refusal, 0 if none, and how many groomers the sheet has, 0 on a refusal.
+#[repr(C)]
+pub struct PlayAnswer {
+    pub refusal: u8,
+    pub groomers: u16,
+}
+
+// What is worked out before the first minute: the answer, how many standings are moved, and the days of
+// all groomers.
+pub struct Plan {
+    pub refusal: u8,
+    pub groomers: u16,
+    pub moved: usize,
+    pub table: [u16; TABLE_PLACES],
+}
+
+// The turn in hand where none is.
+const NO_TURN: u16 = 65535;
+
+// Before the first minute.
+fn fresh() -> Standing
+    ensures { λ r. ⌜ r ≡ freshOf ⌝ }
+{
+    Standing {
+        working: 0,
+        driving: 0,
+        standing: 0,
+        turn: NO_TURN,
+    }
+}
+
+// What minute m starts from: the first one starts anew, whatever the list held.
+fn begun(s: Standing, m: u16) -> Standing
+    ensures { λ r. ⌜ r ≡ begunOf s m ⌝ }
+{
+    if m == 0 {
+        return fresh();
+    }
+    s
+}
+
+// A minute of the groomer at place g. By its minutes of driving over it is known how many stints it has
+// behind it, and so which one is in hand or next.
+pub fn step(s: Standing, table: &[u16], g: usize, m: u16) -> Standing
+    requires { ⌜ Ready (now table) g m s ⌝ }
+    ensures { λ r. ⌜ r ≡ stepOf s (now (table .entry)) g m ⌝ }
+{
+    let b = begun(s, m);
+    let k = day::stint_at(table, g, (b.driving / OVER_MINUTES) as usize);
+    if m < k.begin {
+        return Standing {
+            working: b.working,
+            driving: b.driving,
+            standing: b.standing + 1,
+            turn: NO_TURN,
+        };
+    }
+    if m < k.end {
+        return Standing {
+            working: b.working + 1,
+            driving: b.driving,
+            standing: b.standing,
+            turn: k.turn,
+        };
+    }
+    Standing {
+        working: b.working,
+        driving: b.driving + 1,
+        standing: b.standing,
+        turn: NO_TURN,
+    }
+}
+
+// A minute of the first n groomers, in the caller's list.
+pub fn minute(list: &mut [Standing], table: &[u16], n: usize, m: u16)
+    requires { ⌜ (n ≤ length (now list)) × AllReady (now table) m n (now list) ⌝ }
+    ensures { λ _. ⌜ now (list .exit) ≡ minuteOf n 0 (now (list .entry)) (now (table .entry)) m ⌝ }
+{
+    let mut g = 0;
+    while g < n {
+        list[g] = step(list[g], table, g, m);
+        g = g + 1;
+    }
+}
+
+// All minutes of the shift.
+pub fn minutes(list: &mut [Standing], table: &[u16], n: usize)
+    requires { ⌜ (n ≤ length (now list)) × (n ≤ mostGroomers) × (length (now table) ≡ tablePlaces) ⌝ }
+    ensures { λ _. ⌜ now (list .exit) ≡ minutesFrom shiftMinutes 0 n (now (list .entry)) (now (table .entry)) ⌝ }
+{
+    let mut m = 0;
+    while m < MINUTES {
+        minute(list, table, n, m);
+        m = m + 1;
+    }
+}
+
+fn refused(k: u8) -> Plan
+    ensures { λ r. ⌜ (r .refusal ≡ k) × (r .groomers ≡ 0) × (r .moved ≡ 0) × (length (r .table) ≡ tablePlaces) ⌝ }
+{
+    Plan {
+        refusal: k,
+        groomers: 0,
+        moved: 0,
+        table: [0; TABLE_PLACES],
+    }
+}
+
+// Whether the table of delays has a number for each of n turns, none above the limit.
+fn delays_serve(delays: &[u16], n: usize) -> bool
+    ensures { λ r. ⌜ r ≡ servesFor n (now (delays .entry)) ⌝ }
+{
+    if delays.len() == n {
+        return day::delays_fit(delays);
+    }
+    false
+}
+
+// The plan for a board that passes, for a list of so many places.
+fn plan_days(
+    p: Size,
+    cols: &[u16; PLACES],
+    groomers: u16,
+    board: &[u8],
+    delays: &[u16],
+    places: usize,
+) -> Plan
+    requires { ⌜ Held p (now cols) × (groomers ≤ mostGroomers) × (malformed (now board) ≡ false) × (boardTurns (now board) ≡ p .count) ⌝ }
+    ensures { λ r. ⌜ PlannedBy (lentCauses groomers (p .count) (now (delays .entry)) places) (turnsBy p (now (cols .entry))) groomers
+        (boardChoice (now (board .entry))) (now (delays .entry)) places r ⌝ }
+{
+    if delays_serve(delays, p.count) {
+        if places < groomers as usize {
+            return refused(refusal::BUFFER_TOO_SMALL);
+        }
+        let map = board::map(board);
+        return Plan {
+            refusal: 0,
+            groomers: groomers,
+            moved: groomers as usize,
+            table: day::days_of(p, cols, map, delays),
+        };
+    }
+    refused(refusal::BAD_DELAYS)
+}
+
+// The plan for a board and a problem.
+fn plan_board(
+    p: Size,
+    cols: &[u16; PLACES],
+    groomers: u16,
+    board: &[u8],
+    delays: &[u16],
+    places: usize,
+) -> Plan
+    requires { ⌜ Held p (now cols) × (groomers ≤ mostGroomers) ⌝ }
+    ensures { λ r. ⌜ PlannedBy (boardCauses (turnsBy p (now (cols .entry))) (now (board .entry))
+        ++ lentCauses groomers (p .count) (now (delays .entry)) places) (turnsBy p (now (cols .entry))) groomers
+        (boardChoice (now (board .entry))) (now (delays .entry)) places r ⌝ }
+{
+    let judgement = audit::board_fault(board, p, cols);
+    if judgement.fault != 0 {
+        return refused(judgement.fault);
+    }
+    plan_days(p, cols, groomers, board, delays, places)
+}
+
+// All that is judged and worked out before the first minute.
+fn checked<'a>(sheet: &'a [u8], board: &'a [u8], delays: &'a [u16], places: usize) -> Plan
+    ensures { λ r. ⌜ Planned (now (sheet .entry)) (now (board .entry)) (now (delays .entry)) places r ⌝ }
+{
+    let mut cols = [0u16; PLACES];
+    let head = problem::load(sheet, &mut cols);
+    if head.refusal != 0 {
+        return refused(head.refusal);
+    }
+    let p = problem::shift_size(head.turns);
+    plan_board(p, &cols, head.groomers, board, delays, places)
+}
+
+fn table_of(p: Plan) -> [u16; TABLE_PLACES]
+    ensures { λ r. ⌜ r ≡ p .table ⌝ }
+{
+    p.table
+}
+
+fn answer_of(p: Plan) -> PlayAnswer
+    ensures { λ r. ⌜ r ≡ record { refusal = p .refusal; groomers = p .groomers } ⌝ }
+{
+    PlayAnswer {
+        refusal: p.refusal,
+        groomers: p.groomers,
+    }
+}
+
+// Plays a board for a sheet through, with a delay for each turn; the standings of the sheet's groomers go
+// into the lent list.
+pub fn play<'a>(
+    sheet: &'a [u8],
+    board: &'a [u8],
+    delays: &'a [u16],
+    list: &mut [Standing],
+) -> PlayAnswer
+    ensures { λ r. ⌜ played r (now (list .exit)) ≡ playOf (now (sheet .entry)) (now (board .entry)) (now (delays .entry)) (now (list .entry)) ⌝ }
+{
+    let p = checked(sheet, board, delays, list.len());
+    let table = table_of(p);
+    minutes(list, &table, p.moved);
+    answer_of(p)
+}
