@@ -1,7 +1,7 @@
 /* Slope board: reads and writes shift sheets, plans boards, opens and checks them, writes the drivers'
  * listing, assigns groomers where all turns must be done, works out the best worth where each slope has
  * one turn, looks for a better choice than the planned one, draws sheets from a seed, writes sheets by column
- * and back, and plays a board with delays. A second reader takes at most 96 turns.
+ * and back, plays a board with delays, and plans a charging hall. A second reader takes at most 96 turns.
  *
  * Link libslopeboard.a; all that it asks for beside is memcpy and memset. The archive is for x86-64: its
  * functions are called as the System V ABI says, their structs laid out as it says.
@@ -23,10 +23,11 @@
  * - On success, the places of a lent buffer past the last one written hold what they held before.
  * - All working space is on the caller's stack. No function calls itself but the search of slopeboard_improve,
  *   which goes one level deeper for each of at most 64 turns. In bytes, read off the compiled code:
- *   slopeboard_play 26,408, slopeboard_list 20,352, slopeboard_improve 18,208, slopeboard_plan 16,480,
- *   slopeboard_check 16,328, slopeboard_best 13,024, slopeboard_draw 11,528, slopeboard_assign 10,608,
- *   slopeboard_write 6,664, slopeboard_keep 5,336, slopeboard_read and slopeboard_read_short 4,936,
- *   slopeboard_restore 4,864, each of the others fewer than 100. What memcpy and memset need comes on top.
+ *   slopeboard_play 26,408, slopeboard_charge 22,976, slopeboard_list 22,032, slopeboard_improve 19,888,
+ *   slopeboard_plan 18,160, slopeboard_check 16,328, slopeboard_best 13,024, slopeboard_draw 11,528,
+ *   slopeboard_assign 10,608, slopeboard_write 6,664, slopeboard_keep 5,336, slopeboard_read and
+ *   slopeboard_read_short 4,936, slopeboard_restore 4,864, each of the others fewer than 100. What memcpy and
+ *   memset need comes on top.
  *
  * In sheets and boards, a number of several bytes begins with its high byte. Turns are numbered from 0
  * in the order of the sheet, slopes and groomers from 1.
@@ -47,12 +48,12 @@ extern "C" {
 #endif
 
 /* The number of this interface. Each change that a caller can see raises it. */
-#define SLOPEBOARD_VERSION 14
+#define SLOPEBOARD_VERSION 15
 
 /* The refusals. */
 enum {
     SLOPEBOARD_TRUNCATED = 1,         /* the sheet ends inside its header, or before a record is whole */
-    SLOPEBOARD_BAD_MAGIC = 2,         /* the sheet does not open with GRM (the kept form with GRC) */
+    SLOPEBOARD_BAD_MAGIC = 2,         /* the sheet does not open with GRM (kept: GRC, charging: GRE) */
     SLOPEBOARD_BAD_COUNTS = 3,        /* groomers outside 1 to 16, or slopes outside 1 to 120 */
     SLOPEBOARD_TOO_MANY_TURNS = 4,    /* more than 400 turns */
     SLOPEBOARD_BAD_MAP = 5,           /* a map above 3F, or a first map that is neither 1F nor 3F */
@@ -74,7 +75,8 @@ enum {
     SLOPEBOARD_NOT_SINGLE_TURNS = 21, /* a slope has two turns, or a turn names a driver */
     SLOPEBOARD_TOO_MANY_TO_SEARCH = 22, /* more than 64 turns, for slopeboard_improve */
     SLOPEBOARD_BAD_SEED = 23,         /* the seed is 0 or above SLOPEBOARD_MOST_SEED */
-    SLOPEBOARD_BAD_DELAYS = 24        /* the delays are not one for each turn, or one is above 120 */
+    SLOPEBOARD_BAD_DELAYS = 24,       /* the delays are not one for each turn, or one is above 120 */
+    SLOPEBOARD_BAD_DRAW = 25          /* a window's draw is 0 or above the hall's units */
 };
 
 /* The limits, and what buffers can need at most. */
@@ -87,6 +89,8 @@ enum {
 #define SLOPEBOARD_MOST_SEED 2147483646
 #define SLOPEBOARD_MOST_DELAY 120
 #define SLOPEBOARD_NO_TURN 65535
+#define SLOPEBOARD_MOST_UNITS 48
+#define SLOPEBOARD_MOST_VEHICLES 60
 #define SLOPEBOARD_NUMBERS_PER_TURN 6
 #define SLOPEBOARD_MOST_NUMBERS (SLOPEBOARD_NUMBERS_PER_TURN * SLOPEBOARD_MOST_TURNS)
 /* A header of 7 bytes and records of at most 10. The kept form of a sheet has as many. */
@@ -168,6 +172,11 @@ typedef struct {
     uint8_t refusal;
     uint16_t groomers;
 } slopeboard_play_answer;
+
+typedef struct {
+    uint8_t refusal;
+    uint32_t worth;
+} slopeboard_charge_answer;
 
 /* Reads a sheet into a turn table: six numbers a turn, which are slope, groomer, start, length, worth and
  * driver, the last 0 where the turn names none. The answer has the counts of the sheet's header.
@@ -327,6 +336,28 @@ slopeboard_write_answer slopeboard_restore(const uint8_t *kept, size_t kept_len,
 slopeboard_play_answer slopeboard_play(const uint8_t *sheet, size_t sheet_len, const uint8_t *board, size_t board_len,
                                        const uint16_t *delays, size_t delays_len, slopeboard_standing *list,
                                        size_t list_len);
+
+/* Plans the windows of a charging hall and writes the choice map of the plan. The answer has its worth.
+ *
+ * A charging sheet is laid out as a sheet is, with the mark GRE, the hall's units in the place of the groomers,
+ * its vehicles in the place of the slopes, and in each record a window: the vehicle as the slope, the draw as
+ * the groomer, and no driver. A set of windows is allowed if no vehicle has two in it and the draws of the windows
+ * that hold one minute never exceed the units. A window holds its minutes alone, not the ten behind them.
+ *
+ * There are two plans. One is of the windows with a draw above half of the units, as if they were turns of one
+ * groomer, but with no time for driving over. The other is of the windows with smaller draws: each step is for
+ * the open window that slopeboard_plan would pick and takes its amount from all open windows of that vehicle;
+ * from those of other vehicles that share a minute with it, it takes 2 * draw * amount / units, rounded up, with
+ * the draw of the window that it takes from. Both then choose as slopeboard_plan does, among their own windows, as
+ * long as the set stays allowed. The plan that is worth more is written, of equals that of the smaller draws. No
+ * allowed set is worth more than five times its worth and, besides, the units times the steps of the smaller
+ * draws.
+ *
+ * Refusals, in this order: 1 for fewer than 7 bytes; 2; 3 for units outside 1 to SLOPEBOARD_MOST_UNITS or
+ * vehicles outside 1 to SLOPEBOARD_MOST_VEHICLES; 4; then, record by record, 1 for a missing map, 5 for a map
+ * above 1F or a first map other than 1F, 1 for missing fields, 6 for the vehicle, 25 for the draw, 8, 9; then 10;
+ * then 11 if map_len is below SLOPEBOARD_MAP_BYTES of the sheet's windows. */
+slopeboard_charge_answer slopeboard_charge(const uint8_t *sheet, size_t sheet_len, uint8_t *map, size_t map_len);
 
 #ifdef __cplusplus
 }

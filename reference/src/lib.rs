@@ -11,6 +11,7 @@ pub mod boards;
 pub mod fast;
 pub mod floor;
 pub mod gen;
+pub mod halls;
 pub mod kept;
 pub mod limits;
 pub mod naive;

@@ -17,6 +17,10 @@ pub const DRIVE_OVER: u32 = 10;
 /// The longest delay of a turn, in minutes.
 pub const MAX_DELAY: u16 = 120;
 
+/// Units and vehicles of a charging hall.
+pub const MAX_UNITS: u16 = 48;
+pub const MAX_VEHICLES: u16 = 60;
+
 /// Numbers that a turn takes in a turn table.
 pub const FIELDS: usize = 6;
 

@@ -2,11 +2,13 @@
 //!
 //! The library reads and writes shift sheets, plans boards, opens and checks
 //! them, writes the drivers' listing, assigns groomers where all turns must be
-//! done, works out the best worth where each slope has one turn, looks for a better
-//! choice than the planned one, draws sheets from a seed, writes sheets by
-//! column and back, and plays a board with delays. A second reader takes at most 96 turns. Every buffer is the caller's: on a refusal it holds what it held
-//! before, and on success so do its places past the last one written. The order
-//! in which refusals are looked for is in `include/slopeboard.h`.
+//! done, works out the best worth where each slope has one turn, looks for a
+//! better choice than the planned one, draws sheets from a seed, writes sheets
+//! by column and back, plays a board with delays, and plans a charging hall. A
+//! second reader takes at most 96 turns. Every buffer is the caller's: on a
+//! refusal it holds what it held before, and on success so do its places past
+//! the last one written. The order in which refusals are looked for is in
+//! `include/slopeboard.h`.
 //!
 //! To build, the environment variable `SLOPEBOARD_LIB_DIR` names the folder of
 //! `libslopeboard.a`, an archive for x86-64. Nothing here needs an operating
@@ -22,7 +24,7 @@ pub use refusal::Refusal;
 
 /// The number of this interface, as `SLOPEBOARD_VERSION` in the header: each
 /// change that a caller can see raises it.
-pub const VERSION: u32 = 14;
+pub const VERSION: u32 = 15;
 
 /// Numbers that a turn takes in a turn table: slope, groomer, start, length,
 /// worth, driver. Driver 0 is none.
@@ -39,6 +41,10 @@ pub const MOST_GROOMERS: usize = 16;
 pub const MOST_DELAY: u16 = 120;
 /// The turn in hand of a groomer that works on none.
 pub const NO_TURN: u16 = 65_535;
+/// Units that a charging hall has at most.
+pub const MOST_UNITS: usize = 48;
+/// Vehicles that a charging hall has at most.
+pub const MOST_VEHICLES: usize = 60;
 /// Bytes that hold any sheet, and any kept form of one.
 pub const MOST_SHEET_BYTES: usize = 7 + 10 * MOST_TURNS;
 /// Bytes that hold any listing: no listing has more than 3,823.
@@ -226,8 +232,8 @@ pub fn draw(
     length(unsafe { raw::slopeboard_draw(seed, groomers, slopes, turns, sheet, sheet_len) })
 }
 
-/// Writes the kept form of a sheet, in which like fields stand side by side,
-/// and gives its length, which is the sheet's.
+/// Writes the kept form of a sheet, which has its fields column by column, and
+/// gives its length, which is the sheet's.
 pub fn keep(sheet: &[u8], kept: &mut [u8]) -> Result<usize, Refusal> {
     let (kept, kept_len) = (kept.as_mut_ptr(), kept.len());
     length(unsafe { raw::slopeboard_keep(sheet.as_ptr(), sheet.len(), kept, kept_len) })
@@ -267,6 +273,16 @@ pub fn play(
     };
     refusal::none(answer.refusal)?;
     Ok(answer.groomers)
+}
+
+/// Plans the windows of a charging sheet, those with more than half of the
+/// units apart from the others, writes the choice map of the plan that is worth
+/// more and gives its worth. Asks for [`map_bytes`] of the sheet's windows.
+pub fn charge(sheet: &[u8], map: &mut [u8]) -> Result<u32, Refusal> {
+    let (map, map_len) = (map.as_mut_ptr(), map.len());
+    let answer = unsafe { raw::slopeboard_charge(sheet.as_ptr(), sheet.len(), map, map_len) };
+    refusal::none(answer.refusal)?;
+    Ok(answer.worth)
 }
 
 fn counts(answer: raw::ReadAnswer) -> Result<Counts, Refusal> {

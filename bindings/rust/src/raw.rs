@@ -91,6 +91,14 @@ pub struct PlayAnswer {
     pub groomers: u16,
 }
 
+/// What planning a charging hall gives; 0 on a refusal.
+#[repr(C)]
+#[derive(Clone, Copy, Debug, PartialEq, Eq)]
+pub struct ChargeAnswer {
+    pub refusal: u8,
+    pub worth: u32,
+}
+
 extern "C" {
     pub fn slopeboard_read(
         sheet: *const u8,
@@ -199,4 +207,11 @@ extern "C" {
         list: *mut Standing,
         list_len: usize,
     ) -> PlayAnswer;
+
+    pub fn slopeboard_charge(
+        sheet: *const u8,
+        sheet_len: usize,
+        map: *mut u8,
+        map_len: usize,
+    ) -> ChargeAnswer;
 }

@@ -9,15 +9,17 @@ use core::fmt;
 pub enum Refusal {
     /// The sheet ends inside its header, or before a record is whole.
     Truncated = 1,
-    /// The sheet does not open with GRM, or the kept form with GRC.
+    /// The sheet does not open with GRM, the kept form with GRC or the charging
+    /// sheet with GRE.
     BadMagic = 2,
-    /// Groomers outside 1 to 16, or slopes outside 1 to 120.
+    /// Groomers outside 1 to 16, or slopes outside 1 to 120; in a charging sheet
+    /// units outside 1 to 48, or vehicles outside 1 to 60.
     BadCounts = 3,
     /// More than 400 turns.
     TooManyTurns = 4,
     /// A record's map has an unknown bit, or the first lacks a field.
     BadMap = 5,
-    /// A turn's slope is 0 or above the count.
+    /// A turn's slope, or a window's vehicle, is 0 or above the count.
     BadSlope = 6,
     /// A turn's groomer is 0 or above the count.
     BadGroomer = 7,
@@ -55,10 +57,12 @@ pub enum Refusal {
     BadSeed = 23,
     /// The delays are not one for each turn, or one is above 120.
     BadDelays = 24,
+    /// A window's draw is 0 or above the hall's units.
+    BadDraw = 25,
 }
 
 /// By number, from 1.
-const ALL: [Refusal; 24] = [
+const ALL: [Refusal; 25] = [
     Refusal::Truncated,
     Refusal::BadMagic,
     Refusal::BadCounts,
@@ -83,6 +87,7 @@ const ALL: [Refusal; 24] = [
     Refusal::TooManyToSearch,
     Refusal::BadSeed,
     Refusal::BadDelays,
+    Refusal::BadDraw,
 ];
 
 impl Refusal {
@@ -90,7 +95,7 @@ impl Refusal {
         self as u8
     }
 
-    /// The refusal with this number; none for 0 and for numbers above 24.
+    /// The refusal with this number; none for 0 and for numbers above 25.
     pub fn from_number(number: u8) -> Option<Refusal> {
         let place = usize::from(number).checked_sub(1)?;
         ALL.get(place).copied()

@@ -22,6 +22,7 @@ use Rattle.partition.specs.declared.PartitionAnswer.{PartitionAnswer}
 use Rattle.partition.specs.Partition.{Partition, partitioned, partitionOf}
 use Rattle.exact.specs.Exact.{Earned}
 use Rattle.improve.specs.Improve.{Improvement, improveOf}
+use Rattle.hall.specs.Charge.{Charged}
 use Rattle.improve.specs.declared.Improved.{Improved}
 use Rattle.improve.specs.Answer.{improved}
 use Rattle.corpus.specs.declared.tools.Counts.{Counts}
@@ -30,7 +31,7 @@ use Rattle.corpus.specs.declared.entries.Line.{Line}
 use Rattle.corpus.specs.declared.entries.ReadLine.{ReadLine}
 use Rattle.corpus.specs.declared.entries.CheckLine.{CheckLine}
 use Rattle.corpus.specs.declared.entries.ImproveLine.{ImproveLine}
-use Rattle.corpus.specs.Line.{numberOr, longHeld, countsHeld, drawHeld, drawnBy, unpacked, heldBefore, mixed, sumFrom, sumOf, writtenLine, readLine, partitionLine, earnedLine, checkLine, improvedLine}
+use Rattle.corpus.specs.Line.{numberOr, longHeld, countsHeld, drawHeld, drawnBy, unpacked, heldBefore, mixed, sumFrom, sumOf, writtenLine, readLine, partitionLine, earnedLine, checkLine, improvedLine, chargedLine}
 
 -- ---- a number that may not be there
 
@@ -175,6 +176,14 @@ module _ (o : Earned) {a b : ℕ} {l : List ℕ} (e : _≡_ {A = Earned} (record
   pub earned-lent : l ≡ o .lent
   earned-lent = ap (λ (x : Earned). x .lent) e
 
+module _ (o : Charged) {a b : ℕ} {l : List ℕ} (e : _≡_ {A = Charged} (record { refusal = a; worth = b; lent = l }) o) where
+  pub charged-line : {sum : ℕ} → sum ≡ sumOf l → _≡_ {A = Line} (record { refusal = a; value = b; last = sum }) (chargedLine o)
+  unfolding chargedLine
+  charged-line s = rw (s, ← e)
+
+  pub charged-lent : l ≡ o .lent
+  charged-lent = ap (λ (x : Charged). x .lent) e
+
 -- of any limit of visits that the input gives
 module _ (limit sheet lent : List ℕ) {v : ℕ} (f : v ≡ longHeld limit) {a : Improved} {l : List ℕ} (e : improved a l ≡ improveOf sheet v lent) where
   same-limit : improved a l ≡ improveOf sheet (longHeld limit) lent
@@ -222,4 +231,4 @@ pub ruleset draw-cases = (held-draw, draw-line, draw-lent)
 
 pub ruleset write-cases = (write-line, write-lent)
 
-pub ruleset line-cases = (held-counts, held-long, line-is, lent-is, read-line, read-table, partition-line, partition-places, earned-line, earned-lent, open-line, check-line)
+pub ruleset line-cases = (held-counts, held-long, line-is, lent-is, read-line, read-table, partition-line, partition-places, earned-line, earned-lent, charged-line, charged-lent, open-line, check-line)

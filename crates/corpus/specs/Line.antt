@@ -13,6 +13,7 @@ use Rattle.trial.specs.Trial.{drawOf}
 use Rattle.partition.specs.Partition.{Partition}
 use Rattle.exact.specs.Exact.{Earned}
 use Rattle.improve.specs.Improve.{Improvement}
+use Rattle.hall.specs.Charge.{Charged}
 use Rattle.corpus.specs.declared.tools.Counts.{Counts}
 use Rattle.corpus.specs.declared.tools.Draw.{Draw}
 use Rattle.corpus.specs.declared.entries.Line.{Line}
@@ -91,3 +92,7 @@ earnedLine o = record { refusal = o .refusal; value = o .worth; last = sumOf (o 
 -- the line of the search: the refusal, whether it ran whole, the worth, the ceiling less the worth, the visits, the checksum of the lent map
 unfoldable pub improvedLine : Improvement → ImproveLine
 improvedLine o = record { refusal = o .refusal; whole = o .whole; worth = o .worth; above = o .above; visits = o .visits; last = sumOf (o .lent) }
+
+-- the line of a hall's plan: the refusal, the worth, the checksum of the lent map
+unfoldable pub chargedLine : Charged → Line
+chargedLine o = record { refusal = o .refusal; value = o .worth; last = sumOf (o .lent) }

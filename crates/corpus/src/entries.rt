@@ -13,8 +13,9 @@ ghost use Rattle.screen.specs.Screen.{readShortOf};
 ghost use Rattle.exact.specs.Exact.{exactOf};
 ghost use Rattle.improve.specs.Improve.{improveOf};
 ghost use Rattle.archive.specs.Archive.{keepOf, restoreOf};
+ghost use Rattle.hall.specs.Charge.{chargeOf};
 ghost use Rattle.corpus.specs.Line.{longHeld, countsHeld, drawHeld, drawnBy, unpacked, sumOf, writtenLine, readLine, partitionLine, earnedLine};
-ghost use Rattle.corpus.specs.Line.{checkLine, improvedLine};
+ghost use Rattle.corpus.specs.Line.{checkLine, improvedLine, chargedLine};
 use super::tools;
 use board::CountAnswer;
 
@@ -250,5 +251,18 @@ pub fn restore(kept: &[u8], sheet: &mut [u8]) -> Line
         refusal: answer.refusal,
         value: answer.bytes as u64,
         last: tools::byte_sum(&*sheet),
+    }
+}
+
+// The plan of a charging sheet, its map into the lent bytes.
+pub fn charge(sheet: &[u8], map: &mut [u8]) -> Line
+    ensures { λ r. ⌜ (r ≡ chargedLine (chargeOf (now (sheet .entry)) (now (map .entry))))
+        × (now (map .exit) ≡ chargeOf (now (sheet .entry)) (now (map .entry)) .lent) ⌝ }
+{
+    let answer = hall::charge(sheet, &mut *map);
+    Line {
+        refusal: answer.refusal,
+        value: answer.worth as u64,
+        last: tools::byte_sum(&*map),
     }
 }

@@ -20,7 +20,7 @@ const MOST_BYTES: usize = 8192;
 // How many bytes of input follow a case's head.
 fn input_size(entry: u8, first: u16, second: u16) -> usize {
     match entry {
-        1 | 3 | 4 | 6 | 7 | 8 | 9 | 10 | 11 | 13 | 14 | 15 => second as usize,
+        1 | 3 | 4 | 6 | 7 | 8 | 9 | 10 | 11 | 13 | 14 | 15 | 17 => second as usize,
         2 => 8 + 2 * (second as usize),
         12 => 8 + second as usize,
         5 => first as usize + second as usize,
@@ -33,7 +33,7 @@ fn input_size(entry: u8, first: u16, second: u16) -> usize {
 // sheet to be searched.
 fn front_size(entry: u8, first: u16, second: u16) -> usize {
     match entry {
-        1 | 3 | 4 | 6 | 7 | 8 | 9 | 10 | 11 | 13 | 14 | 15 => second as usize,
+        1 | 3 | 4 | 6 | 7 | 8 | 9 | 10 | 11 | 13 | 14 | 15 | 17 => second as usize,
         2 | 12 => 8,
         5 => first as usize,
         _ => 0,
@@ -53,7 +53,7 @@ fn numbers_lent(entry: u8, first: u16, second: u16) -> usize {
 // How many bytes are lent.
 fn bytes_lent(entry: u8, first: u16) -> usize {
     match entry {
-        2 | 3 | 6 | 11 | 12 | 13 | 14 | 15 => first as usize,
+        2 | 3 | 6 | 11 | 12 | 13 | 14 | 15 | 17 => first as usize,
         _ => 0,
     }
 }
@@ -146,6 +146,7 @@ fn run_entry(
         13 => print_line(b"draw", entries::draw(front, &mut *bytes)),
         14 => print_line(b"keep", entries::keep(front, &mut *bytes)),
         15 => print_line(b"restore", entries::restore(front, &mut *bytes)),
+        17 => print_line(b"charge", entries::charge(front, &mut *bytes)),
         _ => {
             return false;
         }

@@ -21,10 +21,13 @@ ghost use Rattle.improve.specs.Answer.{improved};
 ghost use Rattle.improve.specs.Improve.{improveOf};
 ghost use Rattle.archive.specs.Archive.{keepOf, restoreOf};
 ghost use Rattle.play.specs.Play.{played, playOf};
+ghost use Rattle.hall.specs.Answer.{charged};
+ghost use Rattle.hall.specs.Charge.{chargeOf};
 ghost use Rattle.slopeboard.specs.Part.{stepsPartAt};
 use board::CountAnswer;
 use checking::CheckAnswer;
 use exact::BestAnswer;
+use hall::ChargeAnswer;
 use improve::Improved;
 use listing::ListAnswer;
 use partition::PartitionAnswer;
@@ -187,4 +190,11 @@ pub extern "C" fn slopeboard_play<'a>(
     ensures { λ r. ⌜ played r (now (list .exit)) ≡ playOf (now (sheet .entry)) (now (board .entry)) (now (delays .entry)) (now (list .entry)) ⌝ }
 {
     play::play(sheet, board, delays, list)
+}
+
+#[no_mangle]
+pub extern "C" fn slopeboard_charge(sheet: &[u8], map: &mut [u8]) -> ChargeAnswer
+    ensures { λ r. ⌜ charged r (now (map .exit)) ≡ chargeOf (now (sheet .entry)) (now (map .entry)) ⌝ }
+{
+    hall::charge(sheet, &mut *map)
 }

@@ -18,7 +18,7 @@ use std::time::{Duration, Instant};
 
 use slopeboard_reference::gen::{self, Rng, Shift};
 use slopeboard_reference::limits::{FIELDS, LAST_END, MAX_DELAY, MAX_GROOMERS};
-use slopeboard_reference::{fast, naive, shapes};
+use slopeboard_reference::{fast, halls, naive, shapes};
 
 /// How many times each version is timed on a sheet.
 const ROUNDS: usize = 301;
@@ -30,7 +30,8 @@ const STRETCH: Duration = Duration::from_micros(200);
 const SHEETS: u32 = 5;
 
 /// A turn table with its counts, a sheet with its turns in that order, the
-/// planner's board for it, its kept form, delays, and room for any answer.
+/// planner's board for it, its kept form, delays, a charging
+/// sheet of as many windows, and room for any answer.
 struct Job {
     groomers: u32,
     slopes: u32,
@@ -39,6 +40,7 @@ struct Job {
     board: Vec<u8>,
     kept: Vec<u8>,
     delays: Vec<u16>,
+    hall: Vec<u8>,
     numbers: Vec<u16>,
     bytes: Vec<u8>,
     list: [slopeboard::Standing; MAX_GROOMERS as usize],
@@ -53,6 +55,8 @@ impl Job {
         board.truncate(len);
         let mut kept = vec![0; sheet.len()];
         fast::keep(&sheet, &mut kept).expect("the sheet is accepted");
+        let hall = halls::usual(rng, shift.turns.len());
+        let hall = halls::encode(rng, &hall, 0).bytes;
         let delay = |_| rng.between(0, MAX_DELAY.into()) as u16;
         let delays = shift.turns.iter().map(delay);
         Job {
@@ -63,6 +67,7 @@ impl Job {
             board,
             kept,
             delays: delays.collect(),
+            hall,
             numbers: vec![0; FIELDS * shift.turns.len()],
             bytes: vec![0; slopeboard::MOST_TEXT_BYTES],
             list: Default::default(),
@@ -197,6 +202,13 @@ const PLAY: [Entry; 2] = [
         },
     },
 ];
+
+/// The entry for charging halls.
+const CHARGE: Entry = Entry {
+    name: "charge",
+    library: |job| slopeboard::charge(&job.hall, &mut job.bytes).is_ok(),
+    reference: |job| fast::charge(&job.hall, &mut job.bytes).is_ok(),
+};
 
 /// Best and median time of one call, in nanoseconds.
 #[derive(Clone, Copy, Default)]
@@ -442,7 +454,7 @@ fn main() {
         print_row(DRAW.name, &format!("n={turns}"), times, growth);
         before = Some(times[0].median);
     }
-    for entry in KEPT.iter().chain(&PLAY) {
+    for entry in KEPT.iter().chain(&PLAY).chain([&CHARGE]) {
         let mut before: Option<f64> = None;
         for turns in [200, 400] {
             let times = measure_all(entry, &mut jobs(&mut rng, usual_sheet, turns));

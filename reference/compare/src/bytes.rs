@@ -5,7 +5,9 @@ use std::fmt::Debug;
 
 use slopeboard_reference::gen::Rng;
 
-use crate::foreign::{AssignAnswer, BestAnswer, BytesAnswer, ImproveAnswer, PlayAnswer, Standing};
+use crate::foreign::{
+    AssignAnswer, BestAnswer, BytesAnswer, ChargeAnswer, ImproveAnswer, PlayAnswer, Standing,
+};
 use crate::report::{show, Report};
 
 /// Places before and after the lent ones that must stay as they are.
@@ -71,6 +73,12 @@ impl Answer for ImproveAnswer {
 }
 
 impl Answer for PlayAnswer {
+    fn refusal(&self) -> u8 {
+        self.refusal
+    }
+}
+
+impl Answer for ChargeAnswer {
     fn refusal(&self) -> u8 {
         self.refusal
     }

@@ -3,8 +3,8 @@
 
 use slopeboard::raw;
 pub use slopeboard::raw::{
-    AssignAnswer, BestAnswer, BytesAnswer, CheckAnswer, CountAnswer, ImproveAnswer, Part,
-    PlayAnswer, ReadAnswer, Standing,
+    AssignAnswer, BestAnswer, BytesAnswer, ChargeAnswer, CheckAnswer, CountAnswer, ImproveAnswer,
+    Part, PlayAnswer, ReadAnswer, Standing,
 };
 
 /// A slice as the library takes it. An empty one may come with any pointer,
@@ -133,4 +133,10 @@ pub fn play(sheet: &[u8], board: &[u8], delays: &[u16], list: &mut [Standing]) -
             sheet, sheet_len, board, board_len, delays, delays_len, list, list_len,
         )
     }
+}
+
+/// Plans a charging hall.
+pub fn charge(sheet: &[u8], map: &mut [u8]) -> ChargeAnswer {
+    let ((sheet, sheet_len), (map, map_len)) = (parts(sheet), parts_mut(map));
+    unsafe { raw::slopeboard_charge(sheet, sheet_len, map, map_len) }
 }

@@ -7,6 +7,7 @@
 mod best;
 mod bound;
 mod bytes;
+mod charge;
 mod check;
 mod choice;
 mod draw;
@@ -44,6 +45,7 @@ fn main() -> ExitCode {
         keep::run,
         keep::run_restore,
         play::run,
+        charge::run,
     ];
     let mut good = true;
     for run in entries {

@@ -1,7 +1,7 @@
 //! Counts what happened to an entry's inputs and judges the whole run.
 
 /// Highest refusal number.
-const LAST_REFUSAL: usize = 24;
+const LAST_REFUSAL: usize = 25;
 
 /// How often each refusal that an entry can give must have been seen.
 const LEAST_IN_BIN: u64 = 200;

@@ -10,7 +10,7 @@
 //! repository, with the entries that the crate runs:
 //!
 //! ```text
-//! cargo run --release --manifest-path reference/Cargo.toml --bin corpus -- crates/corpus read write plan open check list count chosen assign short best improve draw keep restore
+//! cargo run --release --manifest-path reference/Cargo.toml --bin corpus -- crates/corpus read write plan open check list count chosen assign short best improve draw keep restore charge
 //! cargo run --release --manifest-path reference/Cargo.toml --bin corpus -- tests/play play
 //! ```
 //!
@@ -36,6 +36,7 @@
 //! | 14 keep | bytes lent | bytes of the sheet | the sheet |
 //! | 15 restore | bytes lent | bytes of the kept form | the kept form |
 //! | 16 play | groomers' places lent | bytes of the sheet | the bytes of the board, as two bytes, then the sheet, the board, the number of delays, as two bytes, and the delays, two bytes each |
+//! | 17 charge | bytes lent | bytes of the charging sheet | the charging sheet |
 //!
 //! No input has more than 16,384 bytes, no case lends more than 2,408 numbers
 //! or 4,096 bytes, and no table has more than 2,408 numbers.
@@ -59,6 +60,8 @@ use slopeboard_reference::naive::plan;
 
 #[path = "corpus/best.rs"]
 mod best;
+#[path = "corpus/charge.rs"]
+mod charge;
 #[path = "corpus/check.rs"]
 mod check;
 #[path = "corpus/choice.rs"]
@@ -109,7 +112,7 @@ const NUMBER_FILL: u16 = 0xA5A5;
 /// An entry's name and what adds its cases.
 type Entry = (&'static str, fn(&mut Corpus));
 
-const ENTRIES: [Entry; 16] = [
+const ENTRIES: [Entry; 17] = [
     ("read", read::add),
     ("write", write::add),
     ("plan", planning::add),
@@ -126,6 +129,7 @@ const ENTRIES: [Entry; 16] = [
     ("keep", keep::add),
     ("restore", keep::add_restored),
     ("play", play::add),
+    ("charge", charge::add),
 ];
 
 /// The two files as they grow.

@@ -1,10 +1,11 @@
 //! The baseline of the bench: reading, writing, planning, checking, listing,
 //! assigning, the best worth, the search for a better choice, drawing, the
-//! kept form and playing a shift, made to be fast. It judges nothing; the tests hold it to
+//! kept form, playing a shift and the charging hall, made to be fast. It judges nothing; the tests hold it to
 //! [`crate::naive`].
 
 mod best;
 mod board;
+mod charge;
 mod check;
 mod draw;
 mod improve;
@@ -20,6 +21,7 @@ mod turns;
 mod write;
 
 pub use best::best;
+pub use charge::charge;
 pub use check::{check, Sums};
 pub use draw::draw;
 pub use improve::{improve, Improved};

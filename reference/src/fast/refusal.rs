@@ -48,3 +48,5 @@ pub const TOO_MANY_TO_SEARCH: u8 = 22;
 pub const BAD_SEED: u8 = 23;
 /// The delays are not one for each turn, or one is above 120.
 pub const BAD_DELAYS: u8 = 24;
+/// A window's draw is 0 or above the units.
+pub const BAD_DRAW: u8 = 25;

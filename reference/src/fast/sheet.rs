@@ -108,7 +108,7 @@ pub fn parse_header(sheet: &[u8], magic: [u8; 3]) -> Result<(Header, &[u8]), u8>
 
 /// Takes one record off the bytes. The whole record must be there before any
 /// of its values counts, so the values are judged by the caller.
-fn parse_record(bytes: &[u8], previous: Option<Turn>) -> Result<(Turn, &[u8]), u8> {
+pub fn parse_record(bytes: &[u8], previous: Option<Turn>) -> Result<(Turn, &[u8]), u8> {
     let (&map, after) = bytes.split_first().ok_or(refusal::TRUNCATED)?;
     if !map_fits(map, previous.is_none()) {
         return Err(refusal::BAD_FIELD_MAP);

@@ -1,4 +1,4 @@
-//! The kept form of a sheet, in which like fields stand side by side.
+//! The kept form of a sheet: its records taken apart, a column for each field.
 
 use super::sheet::{accept, put, WIDTHS};
 use super::turns::{judge_counts, judge_turn, Turn};

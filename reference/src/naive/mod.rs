@@ -8,6 +8,7 @@
 pub mod best;
 pub mod board;
 pub mod ceiling;
+pub mod charge;
 mod check;
 pub mod draw;
 mod improve;
@@ -22,6 +23,7 @@ pub mod turns;
 
 pub use best::best;
 pub use board::{count, is_chosen, open, steps};
+pub use charge::charge;
 pub use check::{check, Sums};
 pub use draw::draw;
 pub use improve::{improve, Improved};

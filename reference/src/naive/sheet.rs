@@ -80,7 +80,7 @@ pub fn accept_within(bytes: &[u8], limit: Limit) -> Result<Sheet, u8> {
 
 /// The record at the front, whose values are not judged yet, and the bytes
 /// behind it: refusals 1 and 5.
-fn record<'a>(bytes: &'a [u8], before: Option<&Turn>) -> Result<(Turn, &'a [u8]), u8> {
+pub fn record<'a>(bytes: &'a [u8], before: Option<&Turn>) -> Result<(Turn, &'a [u8]), u8> {
     if bytes.is_empty() {
         return Err(1);
     }

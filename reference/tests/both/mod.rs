@@ -95,6 +95,14 @@ pub fn best(sheet: &[u8], map: &mut [u8]) -> Result<u32, u8> {
     answer
 }
 
+pub fn charge(sheet: &[u8], map: &mut [u8]) -> Result<u32, u8> {
+    let mut other = map.to_vec();
+    let answer = naive::charge(sheet, map);
+    assert_eq!(fast::charge(sheet, &mut other), answer, "{sheet:?}");
+    assert_eq!(other, map, "{sheet:?}");
+    answer
+}
+
 pub fn improve(sheet: &[u8], limit: u64, map: &mut [u8]) -> Result<Improved, u8> {
     let mut other = map.to_vec();
     let answer = naive::improve(sheet, limit, map);

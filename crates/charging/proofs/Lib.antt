@@ -1,0 +1,4 @@
+pub mod OneKind
+pub mod Takes
+pub mod Planned
+pub mod Written

@@ -1,0 +1,32 @@
+-- What the hall's functions ask of what they are lent. Assumes nothing.
+use mathlib.Core.Path.{_≡_}
+use mathlib.Core.Bool.{true}
+use mathlib.Core.List.{List}
+use Prim.Native.Nat.{ℕ, _≤_, _<_}
+use lib.IntN.{ℤ}
+use Rattle.model.specs.Steps.{isOpen}
+use Rattle.problem.specs.Columns.{turnsBy, Held}
+use Rattle.hallmodel.specs.Hall.{isSmall}
+use Rattle.charging.specs.declared.among.Among.{Among}
+use Rattle.charging.specs.Among.{hallBy}
+
+-- the most units that a hall has, of which there is at least one
+abbrev pub mostUnits : ℕ
+mostUnits = 48
+
+-- the most vehicles, likewise
+abbrev pub mostVehicles : ℕ
+mostVehicles = 60
+
+-- columns that hold a hall's windows within what every charging sheet keeps to
+pub record HallHeld (a : Among) (cols : List ℕ) : Type 0 where
+  pub held : Held (a .size) cols
+  pub gapless : a .size .gap ≡ 0
+  pub units-from : 1 ≤ a .units
+  pub units-to : a .units ≤ mostUnits
+  pub vehicles : (t : ℕ) → t < a .size .count → turnsBy (a .size) cols .slope t ≤ mostVehicles
+  pub draws : (t : ℕ) → t < a .size .count → turnsBy (a .size) cols .groomer t ≤ a .units
+
+-- only small windows are open
+unfoldable pub OnlySmall : Among → List ℕ → List ℤ → Type 0
+OnlySmall a cols s = (t : ℕ) → isOpen s t ≡ true → isSmall (hallBy a cols) t ≡ true

@@ -1,0 +1,3 @@
+pub mod Among
+pub mod Taking
+pub mod Bounds

@@ -1,0 +1,102 @@
+-- Choosing among the windows of one kind, by its cases: one window, going back over the steps. Assumes nothing.
+use Prim.Native.Nat.{ℕ, _+_, _-_, _<_, _≤_}
+use mathlib.Core.Path.{_≡_, refl, sym, _∙_, ap}
+use mathlib.Core.Bool.{Bool, true, false, _&&_}
+use mathlib.Core.List.{List, _∷_, map}
+use native.Mathlib.Omega.{arith}
+use lib.ListN.{drop, replicate, drop-of-length-le}
+use Rattle.lists.proofs.Bools.{and-1, and-2}
+use Rattle.model.specs.Steps.{Step}
+use Rattle.model.specs.Choice.{choose, back, fill}
+use Rattle.model.proofs.Choices.{choose-set, choose-not}
+use Rattle.choicemap.specs.Choice.{choiceIn, withTurn, Clean}
+use Rattle.board.specs.Board.{stepAt, stepsIn}
+use Rattle.choicemap.proofs.Clean.{choice-with, choice-length}
+use Rattle.board.proofs.StepBytes.{steps-length}
+use Rattle.problem.specs.declared.ways.Row.{Row}
+use Rattle.problem.specs.Ways.{turnRow}
+use Rattle.problem.specs.Columns.{rowIn}
+use Rattle.problem.proofs.Rows.{count-is, row-is}
+use Rattle.choices.proofs.Fitting.{bit-inside, room-clean, steps-next}
+use Rattle.hallmodel.specs.Hall.{Hall, windowCount, vehicleFree, supplyLasts, staysAllowed}
+use Rattle.hallmodel.specs.Plan.{fitsAmong, chooseAmong}
+use Rattle.charging.specs.declared.among.Among.{Among}
+use Rattle.charging.specs.Among.{hallBy, ofKind, kindRow}
+use Rattle.charging.specs.Bounds.{HallHeld}
+use Rattle.charging.proofs.OneKind.{kind-is}
+use Rattle.hall.specs.Supply.{allowedRow, RoomFor, WithWindow, Supplied}
+use Rattle.hall.specs.OneKind.{backOver}
+use Rattle.hall.proofs.Supplies.{row-in-hall, lasts-room, row-stays, supplied-put, supplied-none}
+
+-- ---- one window
+
+module _ (a : Among) (cols map used : List ℕ) (j : ℕ) {r : Row} {q : Bool} (held : HallHeld a cols) (l : j < a .size .count) (e : r ≡ rowIn cols j)
+    (s : Supplied (hallBy a cols) (choiceIn (a .size .count) map) used) (f : q ≡ (kindRow a r && allowedRow (a .units) used r)) where
+  abbrev H : Hall
+  H = hallBy a cols
+
+  abbrev S : List Bool
+  S = choiceIn (a .size .count) map
+
+  inside : j < windowCount H
+  inside = omega (arith, count-is (a .size) cols)
+
+  row-turn : r ≡ turnRow (H .windows) j
+  row-turn = e ∙ row-is (a .size) cols j l
+
+  allowed-is : allowedRow (a .units) used r ≡ staysAllowed H S j
+  allowed-is = rw row-turn (row-stays H S used s j inside (held .held .ends j l))
+
+  fits-is : fitsAmong H (ofKind a cols) S j ≡ q
+  unfolding fitsAmong
+  fits-is = sym (f ∙ rw (allowed-is, row-turn) (ap (λ (b : Bool). b && staysAllowed H S j) (kind-is a cols j)))
+
+  pub allowed-none : q ≡ false → S ≡ choose (fitsAmong H (ofKind a cols)) S j
+  allowed-none g = sym (choose-not (fitsAmong H (ofKind a cols)) S j (fits-is ∙ g))
+
+  module _ (g : q ≡ true) where
+    both : (kindRow a r && allowedRow (a .units) used r) ≡ true
+    both = sym f ∙ g
+
+    pub allowed-room : RoomFor (a .units) used r
+    allowed-room = lasts-room (a .units) used r (and-2 (kindRow a r) (allowedRow (a .units) used r) both)
+
+    module _ {map′ : List ℕ} (m : map′ ≡ withTurn map j) (d : Clean (a .size .count) map) where
+      pub allowed-added : choiceIn (a .size .count) map′ ≡ choose (fitsAmong H (ofKind a cols)) S j
+      allowed-added = rw m (choice-with map j (d .bytes) (bit-inside l d) (a .size .count) l ∙ sym (choose-set (fitsAmong H (ofKind a cols)) S j (fits-is ∙ g)))
+
+      free : vehicleFree H S j ≡ true
+      unfolding staysAllowed
+      free = and-1 (vehicleFree H S j) (supplyLasts H S j) (sym allowed-is ∙ and-2 (kindRow a r) (allowedRow (a .units) used r) both)
+
+      pub allowed-supplied : {used′ : List ℕ} → WithWindow r used used′ → Supplied H (choiceIn (a .size .count) map′) used′
+      allowed-supplied w = rw (m, choice-with map j (d .bytes) (bit-inside l d) (a .size .count) l) (supplied-put H S used s j inside (choice-length (a .size .count) map ∙ sym (count-is (a .size) cols)) free (rw row-turn at w))
+
+pub ruleset allowed-cases = (row-in-hall, bit-inside, room-clean, allowed-none, allowed-room, allowed-added, allowed-supplied)
+
+-- ---- back over the steps: i of the m steps are passed
+
+module _ (a : Among) (cols : List ℕ) (m : ℕ) (steps : List ℕ) where
+  back-goes : (x : Step) (xs : List Step) → backOver a cols (x ∷ xs) ≡ choose (fitsAmong (hallBy a cols) (ofKind a cols)) (backOver a cols xs) (x .turn)
+  unfolding backOver back
+  back-goes x xs = refl
+
+  pub passed-none : {S : List Bool} → S ≡ replicate (a .size .count) false → S ≡ backOver a cols (drop (m - 0) (stepsIn m steps))
+  unfolding backOver back
+  passed-none e = e ∙ sym (rw (drop-of-length-le (stepsIn m steps) {i = m - 0} (omega (arith, steps-length m steps))))
+
+  pub passed-more : (i : ℕ) {r : ℕ} {S S′ : List Bool} → i < m → r ≡ stepAt steps (m - (i + 1)) .turn → S′ ≡ choose (fitsAmong (hallBy a cols) (ofKind a cols)) S r → S ≡ backOver a cols (drop (m - i) (stepsIn m steps))
+      → S′ ≡ backOver a cols (drop (m - (i + 1)) (stepsIn m steps))
+  passed-more i {r} {S} l e o q = o ∙ rw (steps-next m steps i l, back-goes (stepAt steps (m - (i + 1))) (drop (m - i) (stepsIn m steps)), ← q, ← e)
+
+  pub passed-all : (i : ℕ) {S : List Bool} → m ≤ i → S ≡ backOver a cols (drop (m - i) (stepsIn m steps)) → S ≡ backOver a cols (stepsIn m steps)
+  passed-all i h e = let q : m - i ≡ 0 = omega arith in rw q at e
+
+pub ruleset passed-cases = (passed-none, passed-more, passed-all)
+
+-- both
+pub chosen-among : (a : Among) (cols : List ℕ) (xs : List Step) {S U : List Bool} → U ≡ fill (fitsAmong (hallBy a cols) (ofKind a cols)) (a .size .count) S → S ≡ backOver a cols xs → U ≡ chooseAmong (hallBy a cols) (ofKind a cols) xs
+unfolding chooseAmong backOver
+chosen-among a cols xs e f = e ∙ rw (f, count-is (a .size) cols)
+
+pub ruleset both-cases = (supplied-none, chosen-among)

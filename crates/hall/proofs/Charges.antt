@@ -1,0 +1,267 @@
+-- The plans and the entry's answer by their cases, each premise in the form in which the code's calls and tests leave it. Assumes nothing.
+use Prim.Native.Nat.{ℕ, _+_, _-_, _*_, _<_, _≤_}
+use mathlib.Core.Path.{_≡_, refl, sym, ap, _∙_}
+use mathlib.Core.Bool.{Bool, true, false, cond}
+use mathlib.Core.List.{List, [], _∷_, _++_, append-nil}
+use native.Mathlib.Omega.{arith}
+use lib.Dec.{ltb, eqb}
+use lib.ListN.{length, drop, take, replicate, length-replicate, drop-of-length-le}
+use lib.Seq.{length-take-le}
+use borrow.Author.Tests.{ne-eqb, lt-ltb, le-ltb}
+use Rattle.refusal.specs.Number.{bufferTooSmall}
+use Rattle.refusal.specs.Cause.{Cause, _when_, firstOf}
+use Rattle.refusal.proofs.Order.{first-stops, first-goes}
+use Rattle.wire.specs.Number.{puts}
+use Rattle.wire.proofs.Puts.{puts-front, puts-length}
+use Rattle.sheet.specs.declared.kind.Kind.{Kind}
+use Rattle.sheet.specs.declared.reader.ReadAnswer.{ReadAnswer}
+use Rattle.sheet.specs.Kind.{mostTurns, three, Sound}
+use Rattle.sheet.specs.Read.{countsIn, turnCount, turnsOf, causesFor, answerFor}
+use Rattle.sheet.proofs.Readings.{causes-numbered}
+use Rattle.sheet.proofs.Unrefused.{legal-header}
+use Rattle.sheet.proofs.Whole.{whole-refusal-for, whole-accepted-for, whole-answer-for, whole-turns-for}
+use Rattle.model.specs.Choice.{chosen}
+use Rattle.choicemap.specs.Choice.{choiceIn, mapBytes, mapOf, Clean}
+use Rattle.board.specs.Board.{stepSize, stepsIn, stepBytes}
+use Rattle.choicemap.proofs.Clean.{clean-map, map-length}
+use Rattle.problem.specs.declared.columns.Size.{Size}
+use Rattle.problem.specs.Columns.{turnsBy}
+use Rattle.problem.specs.Problem.{problemOf}
+use Rattle.problem.specs.Load.{PosedFor}
+use Rattle.problem.proofs.Posed.{sheet-count-for, sheet-slopes-for, sheet-groomers-for}
+use Rattle.problem.proofs.Rows.{count-is}
+use Rattle.choices.specs.Below.{chosenBelow}
+use Rattle.choices.specs.Bounds.{StepsOf}
+use Rattle.hallmodel.specs.Hall.{Hall, windowCount}
+use Rattle.hallmodel.specs.Plan.{chooseAmong, wideChoice, smallChoice, worthIn, hallChoice, hallWorth}
+use Rattle.hallmodel.proofs.Allowing.{chosen-length}
+use Rattle.hallmodel.proofs.Halls.{greater-first, greater-second, plan-length}
+use Rattle.charging.specs.declared.among.Among.{Among}
+use Rattle.charging.specs.Among.{hallBy, ofKind, stepsBy}
+use Rattle.charging.specs.Bounds.{HallHeld, mostUnits, mostVehicles}
+use Rattle.charging.proofs.Written.{written-few, written-read, written-inside}
+use Rattle.hall.specs.declared.ChargeAnswer.{ChargeAnswer}
+use Rattle.hall.specs.OneKind.{kindChoice, hallIn, HeldHall}
+use Rattle.hall.specs.Charge.{chargingSheet, hallOf, chargeCauses, hallFound, hallRefused, chargeIn, chargeOf}
+use Rattle.hall.specs.Answer.{charged, chargeRefused}
+
+-- ---- the plan of one kind
+
+-- places for the steps of every sheet
+abbrev stepsPlaces : ℕ
+stepsPlaces = stepSize * mostTurns
+
+module _ (a : Among) (cols : List ℕ) (held : HallHeld a cols) {m : ℕ} (e : m ≡ length (stepsBy a cols)) {l′ : List ℕ} (p : l′ ≡ puts (replicate stepsPlaces 0) 0 (stepBytes (stepsBy a cols))) where
+  abbrev l : List ℕ
+  l = replicate stepsPlaces 0
+
+  room : 4 * a .size .count ≤ length l
+  room = omega (arith, held .held .few, length-replicate {A = ℕ} stepsPlaces 0)
+
+  pub kind-room : 4 * m ≤ length l′
+  kind-room = rw p (omega (arith, puts-length (stepBytes (stepsBy a cols)) l 0, written-few a cols held e, room))
+
+  pub kind-steps-of : StepsOf (a .size .count) m l′
+  unfolding StepsOf
+  kind-steps-of = written-inside a cols held e l room p
+
+  module _ (map : List ℕ) (c : choiceIn (a .size .count) map ≡ chooseAmong (hallBy a cols) (ofKind a cols) (stepsIn m l′)) where
+    choice-is : choiceIn (a .size .count) map ≡ kindChoice a cols
+    unfolding kindChoice
+    choice-is = c ∙ ap (chooseAmong (hallBy a cols) (ofKind a cols)) (written-read a cols held e l room p)
+
+    pub kind-worth-is : {r : ℕ} → r ≡ chosenBelow (turnsBy (a .size) cols) (choiceIn (a .size .count) map) (a .size .count) → r ≡ worthIn (hallBy a cols) (kindChoice a cols)
+    unfolding chosenBelow worthIn chosen
+    kind-worth-is q = q ∙ rw (choice-is, count-is (a .size) cols)
+
+    pub kind-map-is : Clean (a .size .count) map → map ≡ mapOf (kindChoice a cols)
+    kind-map-is d = clean-map (a .size .count) map d ∙ ap mapOf choice-is
+
+pub ruleset kind-cases = (kind-room, kind-steps-of, kind-worth-is, kind-map-is)
+
+-- ---- of the two plans the one of greater worth
+
+module _ (units : ℕ) (p : Size) (cols : List ℕ) where
+  abbrev wide : Among
+  wide = record { units = units; size = p; wide = true }
+
+  abbrev small : Among
+  small = record { units = units; size = p; wide = false }
+
+  abbrev H : Hall
+  H = hallIn units p cols
+
+  pub held-wide : HeldHall units p cols → HallHeld wide cols
+  held-wide h = record { held = h .held; gapless = h .gapless; units-from = h .units-from; units-to = h .units-to; vehicles = h .vehicles; draws = h .draws }
+
+  pub size-of : HeldHall units p cols → p .count ≤ mostTurns
+  size-of h = h .held .few
+
+  wide-is : kindChoice wide cols ≡ wideChoice H
+  unfolding kindChoice wideChoice ofKind stepsBy
+  wide-is = refl
+
+  small-is : kindChoice small cols ≡ smallChoice H
+  unfolding kindChoice smallChoice ofKind stepsBy
+  small-is = refl
+
+  kind-length : (a : Among) → a .size ≡ p → length (mapOf (kindChoice a cols)) ≡ mapBytes (p .count)
+  unfolding kindChoice
+  kind-length a e = map-length (kindChoice a cols) ∙ ap mapBytes (chosen-length (hallBy a cols) (ofKind a cols) (stepsBy a cols) ∙ count-is (a .size) cols ∙ ap (λ (q : Size). q .count) e)
+
+  -- bytes put over as many
+  over : (l vs : List ℕ) → length vs ≡ length l → puts l 0 vs ≡ vs
+  over l vs e = puts-front vs l (omega arith) ∙ rw (drop-of-length-le l {i = length vs} (omega arith)) (append-nil vs)
+
+  module _ {w s : ℕ} (f : w ≡ worthIn H (kindChoice wide cols)) (g : s ≡ worthIn H (kindChoice small cols)) where
+    first-is : s < w → hallChoice H ≡ wideChoice H
+    unfolding hallChoice
+    first-is h = greater-first H (wideChoice H) (smallChoice H) (omega (arith, f ∙ ap (worthIn H) wide-is, g ∙ ap (worthIn H) small-is))
+
+    second-is : w ≤ s → hallChoice H ≡ smallChoice H
+    unfolding hallChoice
+    second-is h = greater-second H (wideChoice H) (smallChoice H) (omega (arith, f ∙ ap (worthIn H) wide-is, g ∙ ap (worthIn H) small-is))
+
+    pub wide-worth : s < w → w ≡ hallWorth H
+    unfolding hallWorth
+    wide-worth h = rw (first-is h) (f ∙ ap (worthIn H) wide-is)
+
+    pub small-worth : w ≤ s → s ≡ hallWorth H
+    unfolding hallWorth
+    small-worth h = rw (second-is h) (g ∙ ap (worthIn H) small-is)
+
+    module _ (map : List ℕ) {own map′ : List ℕ} (l : length map ≡ mapBytes (p .count)) (q : map′ ≡ puts map 0 own) where
+      pub wide-map : s < w → own ≡ mapOf (kindChoice wide cols) → map′ ≡ mapOf (hallChoice H)
+      wide-map h o = q ∙ rw (first-is h, ← wide-is, o) (over map (mapOf (kindChoice wide cols)) (kind-length wide refl ∙ sym l))
+
+      pub small-map : w ≤ s → own ≡ mapOf (kindChoice small cols) → map′ ≡ mapOf (hallChoice H)
+      small-map h o = q ∙ rw (second-is h, ← small-is, o) (over map (mapOf (kindChoice small cols)) (kind-length small refl ∙ sym l))
+
+  pub wide-room : (map own : List ℕ) → own ≡ mapOf (kindChoice wide cols) → length map ≡ mapBytes (p .count) → 0 + length own ≤ length map
+  wide-room map own o l = omega (arith, ap length o, kind-length wide refl)
+
+  pub small-room : (map own : List ℕ) → own ≡ mapOf (kindChoice small cols) → length map ≡ mapBytes (p .count) → 0 + length own ≤ length map
+  small-room map own o l = omega (arith, ap length o, kind-length small refl)
+
+pub ruleset greater-cases = (held-wide, size-of, wide-worth, small-worth, wide-map, small-map)
+
+-- ---- a hall's answer
+
+module _ (units : ℕ) (p : Size) (cols lent : List ℕ) {size : ℕ} (m : size ≡ mapBytes (p .count)) where
+  pub hall-small : {x : ChargeAnswer} → length lent < size → x ≡ chargeRefused bufferTooSmall → charged x lent ≡ chargeIn (hallIn units p cols) lent
+  unfolding chargeIn turnsBy
+  hall-small l h = rw (h, lt-ltb (length lent) (mapBytes (p .count)) (omega (arith, m)))
+
+  pub hall-room : size ≤ length lent → length (take size lent) ≡ mapBytes (p .count)
+  hall-room l = length-take-le size lent l ∙ m
+
+  plan-places : length (mapOf (hallChoice (hallIn units p cols))) ≡ size
+  plan-places = map-length (hallChoice (hallIn units p cols)) ∙ ap mapBytes (plan-length (hallIn units p cols) ∙ count-is p cols) ∙ sym m
+
+  pub hall-done : {worth : ℕ} {map : List ℕ} → size ≤ length lent → worth ≡ hallWorth (hallIn units p cols) → map ≡ mapOf (hallChoice (hallIn units p cols))
+      → charged (record { refusal = 0; worth = worth }) (map ++ drop size lent) ≡ chargeIn (hallIn units p cols) lent
+  unfolding chargeIn
+  hall-done l h k = rw (le-ltb (length lent) (mapBytes (turnsBy p cols .count)) (omega (arith, m, ap mapBytes (count-is p cols))), h, k, plan-places)
+
+pub ruleset hall-cases = (hall-small, hall-room, hall-done)
+
+-- ---- the sheet's kind
+
+pub charging-sound : Sound chargingSheet
+unfolding chargingSheet
+charging-sound =
+    record {
+      mark = three {a = 0x47} {b = 0x52} {c = 0x45} (omega arith) (omega arith) (omega arith);
+      groomers = omega arith;
+      slopes = omega arith;
+      turns = omega arith;
+      numbers = record { counts = omega arith; turns = omega arith; slope = omega arith; groomer = omega arith };
+    }
+
+pub charging-given : {K : Kind} → K ≡ chargingSheet → Sound K
+charging-given e = rw e charging-sound
+
+-- ---- a sheet that is not refused
+
+module _ (s : List ℕ) (z : firstOf (causesFor chargingSheet s) ≡ 0) where
+  pub units-of : (1 ≤ countsIn s .groomers) × (countsIn s .groomers ≤ mostUnits)
+  unfolding chargingSheet
+  units-of = let h = legal-header chargingSheet charging-sound s z in (h .groomers-from, h .groomers-to)
+
+  vehicles-of : countsIn s .slopes ≤ mostVehicles
+  unfolding chargingSheet
+  vehicles-of = legal-header chargingSheet charging-sound s z .slopes-to
+
+  pub vehicle-of : (t : ℕ) → t < turnCount s → problemOf 0 (turnsOf s) .slope t ≤ mostVehicles
+  vehicle-of t l = omega (arith, sheet-slopes-for chargingSheet charging-sound 0 s z t l, vehicles-of)
+
+  pub draw-of : (t : ℕ) → t < turnCount s → (1 ≤ problemOf 0 (turnsOf s) .groomer t) × (problemOf 0 (turnsOf s) .groomer t ≤ countsIn s .groomers)
+  draw-of t l = sheet-groomers-for chargingSheet charging-sound 0 s z t l
+
+-- ---- the answer
+
+module _ (s lent : List ℕ) {K : Kind} {r : ReadAnswer} (k : K ≡ chargingSheet) (e : r ≡ answerFor K s) where
+  own : r ≡ answerFor chargingSheet s
+  own = e ∙ ap (λ (J : Kind). answerFor J s) k
+
+  abbrev after : List Cause
+  after = bufferTooSmall when ltb (length lent) (mapBytes (turnCount s)) ∷ []
+
+  pub charge-fault : {x : ChargeAnswer} → (r .refusal ≡ 0 → ⊥) → x ≡ chargeRefused (r .refusal) → charged x lent ≡ chargeOf s lent
+  unfolding chargeOf chargeCauses
+  charge-fault f g =
+      let q : firstOf (causesFor chargingSheet s ++ after) ≡ r .refusal = first-stops (causesFor chargingSheet s) after (r .refusal) (sym (whole-refusal-for chargingSheet s own)) f in
+      rw (g, q, ne-eqb (r .refusal) 0 f)
+
+  module _ (f : r .refusal ≡ 0) where
+    accepted : firstOf (causesFor chargingSheet s) ≡ 0
+    accepted = whole-accepted-for chargingSheet s own f
+
+    count : r .turns ≡ turnCount s
+    count = whole-turns-for chargingSheet s own f
+
+    units : r .groomers ≡ countsIn s .groomers
+    units = ap (λ (x : ReadAnswer). x .groomers) (whole-answer-for chargingSheet s own f)
+
+    module _ (cols : List ℕ) (w : r .refusal ≡ 0 → (gap : ℕ) → PosedFor gap s cols) where
+      abbrev size : Size
+      size = record { count = r .turns; gap = 0 }
+
+      turns-are : turnsBy size cols ≡ problemOf 0 (turnsOf s)
+      turns-are = rw count (w f 0 .turns)
+
+      pub charge-held : HeldHall (r .groomers) (record { count = r .turns; gap = 0 }) cols
+      charge-held =
+          record {
+            held = rw count (w f 0 .held);
+            gapless = refl;
+            units-from = rw units (units-of s accepted .0);
+            units-to = rw units (units-of s accepted .1);
+            vehicles = λ t l. rw turns-are (vehicle-of s accepted t (omega (arith, count)));
+            draws = λ t l. rw (turns-are, units) (draw-of s accepted t (omega (arith, count)) .1);
+          }
+
+      hall-is : hallIn (r .groomers) size cols ≡ hallOf s
+      unfolding hallOf
+      hall-is = rw (units, turns-are)
+
+      window-count : windowCount (hallOf s) ≡ turnCount s
+      unfolding hallOf
+      window-count = sheet-count-for chargingSheet charging-sound 0 s accepted
+
+      causes-first : firstOf (chargeCauses s (length lent)) ≡ cond (ltb (length lent) (mapBytes (turnCount s))) bufferTooSmall 0
+      unfolding chargeCauses firstOf
+      causes-first = first-goes (causesFor chargingSheet s) after (causes-numbered chargingSheet (charging-sound .numbers) s) accepted
+
+      whole : chargeIn (hallOf s) lent ≡ chargeOf s lent
+      unfolding chargeIn chargeOf
+      whole = ap (λ (n : ℕ). cond (ltb (length lent) (mapBytes n)) (hallRefused bufferTooSmall lent) (hallFound (hallOf s) lent)) window-count ∙ rw causes-first (go (ltb (length lent) (mapBytes (turnCount s))))
+        where
+          go : (c : Bool) → cond c (hallRefused bufferTooSmall lent) (hallFound (hallOf s) lent) ≡ cond (eqb (cond c bufferTooSmall 0) 0) (hallFound (hallOf s) lent) (hallRefused (cond c bufferTooSmall 0) lent)
+          go true = refl
+          go false = refl
+
+      pub charge-found : {x : ChargeAnswer} {lent′ : List ℕ} → charged x lent′ ≡ chargeIn (hallIn (r .groomers) (record { count = r .turns; gap = 0 }) cols) lent → charged x lent′ ≡ chargeOf s lent
+      charge-found h = h ∙ ap (λ (H : Hall). chargeIn H lent) hall-is ∙ whole
+
+pub ruleset charge-cases = (charging-given, charge-fault, charge-held, charge-found)

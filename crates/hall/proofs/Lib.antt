@@ -1,0 +1,4 @@
+pub mod Supplies
+pub mod Allowed
+pub mod Charges
+pub mod ChargeCauses

@@ -1,0 +1,4 @@
+pub mod Charge
+pub mod Answer
+pub mod OneKind
+pub mod Supply

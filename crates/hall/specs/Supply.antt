@@ -1,0 +1,61 @@
+-- What the chosen windows use of the supply, in places: one a minute, then one a vehicle. For the inner functions. Assumes nothing.
+use Prim.Native.Nat.{ℕ, _+_, _-_, _≤_, _<_}
+use mathlib.Core.Path.{_≡_}
+use mathlib.Core.Logic.{_≢_}
+use mathlib.Core.Bool.{Bool, _&&_}
+use mathlib.Core.List.{List}
+use lib.ListN.{length, getD}
+use lib.Dec.{leb, eqb}
+use Rattle.lists.specs.Lists.{every}
+use Rattle.turns.specs.Turn.{shiftMinutes}
+use Rattle.problem.specs.declared.ways.Row.{Row}
+use Rattle.hallmodel.specs.Hall.{Hall, windowCount, vehicle, drawnAt, vehicleFree}
+use Rattle.charging.specs.Bounds.{mostUnits, mostVehicles}
+
+-- the places: the minutes of a shift, then vehicles by their numbers from 0
+abbrev pub usedPlaces : ℕ
+usedPlaces = shiftMinutes + mostVehicles + 1
+
+-- at each of a row's minutes its draw is left
+unfoldable pub lastsRow : ℕ → List ℕ → Row → Bool
+lastsRow units used r = every (λ i. leb (getD used (r .start + i) 0 + r .groomer) units) (r .end - r .start)
+
+-- and its vehicle is not there
+unfoldable pub allowedRow : ℕ → List ℕ → Row → Bool
+allowedRow units used r = eqb (getD used (shiftMinutes + r .slope) 0) 0 && lastsRow units used r
+
+-- ---- as statements
+
+-- a row of a hall with these units
+pub record RowInHall (units : ℕ) (r : Row) : Type 0 where
+  pub units-to : units ≤ mostUnits
+  pub draw : r .groomer ≤ units
+  pub vehicle : r .slope ≤ mostVehicles
+  pub starts : r .start < r .end
+  pub ends : r .end ≤ shiftMinutes
+
+-- at each of its minutes there is room for its draw
+unfoldable pub RoomFor : ℕ → List ℕ → Row → Type 0
+RoomFor units used r = (m : ℕ) → r .start ≤ m → m < r .end → getD used m 0 + r .groomer ≤ units
+
+-- so much is drawn from a start on, up to minute k
+pub record Drawn (start draw k : ℕ) (before after : List ℕ) : Type 0 where
+  pub places : length after ≡ length before
+  pub drawing : (m : ℕ) → start ≤ m → m < k → getD after m 0 ≡ getD before m 0 + draw
+  pub earlier : (m : ℕ) → m < start → getD after m 0 ≡ getD before m 0
+  pub later : (m : ℕ) → k ≤ m → getD after m 0 ≡ getD before m 0
+
+-- the row draws at its minutes, and its vehicle is there
+pub record WithWindow (r : Row) (before after : List ℕ) : Type 0 where
+  pub places : length after ≡ length before
+  pub drawing : (m : ℕ) → r .start ≤ m → m < r .end → getD after m 0 ≡ getD before m 0 + r .groomer
+  pub earlier : (m : ℕ) → m < r .start → getD after m 0 ≡ getD before m 0
+  pub later : (m : ℕ) → r .end ≤ m → m < shiftMinutes → getD after m 0 ≡ getD before m 0
+  pub there : getD after (shiftMinutes + r .slope) 0 ≡ 1
+  pub others : (v : ℕ) → v ≢ r .slope → getD after (shiftMinutes + v) 0 ≡ getD before (shiftMinutes + v) 0
+
+-- the places say what the chosen windows use
+pub record Supplied (H : Hall) (S : List Bool) (used : List ℕ) : Type 0 where
+  pub places : length used ≡ usedPlaces
+  pub minutes : (m : ℕ) → m < shiftMinutes → getD used m 0 ≡ drawnAt H S m
+  pub vehicles : (j : ℕ) → j < windowCount H → eqb (getD used (shiftMinutes + vehicle H j) 0) 0 ≡ vehicleFree H S j

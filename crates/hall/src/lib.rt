@@ -1,0 +1,157 @@
+// The charging hall: a plan of its wide windows, a plan of its small ones, and of the two the one of greater
+// worth.
+ghost use mathlib.Core.Path.{_≡_};
+ghost use mathlib.Core.Bool.{false};
+ghost use lib.ListN.{length, replicate};
+ghost use Rattle.choicemap.specs.Choice.{choiceIn, mapBytes, mapOf, Clean};
+ghost use Rattle.hallmodel.specs.Plan.{hallChoice, hallWorth, worthIn};
+ghost use Rattle.charging.specs.Among.{hallBy};
+ghost use Rattle.charging.specs.Bounds.{HallHeld};
+ghost use Rattle.hall.specs.OneKind.{kindChoice, hallIn, HeldHall};
+ghost use Rattle.hall.specs.Charge.{chargingSheet, chargeIn, chargeOf};
+ghost use Rattle.hall.specs.Answer.{charged, chargeRefused};
+
+mod choosing;
+mod supply;
+
+use charging::Among;
+use choosing::choose_windows;
+use problem::MOST_TURNS;
+use problem::PLACES;
+use problem::Size;
+use sheet::Kind;
+use sheet::Maps;
+use sheet::Most;
+use supply::MOST_VEHICLES;
+use turns::Refusals;
+
+// The most units that a hall has.
+const MOST_UNITS: u16 = 48;
+
+// A bit for each window that a sheet can have, and steps for as many.
+const MAP_BYTES: usize = (MOST_TURNS + 7) / 8;
+
+const STEPS_BYTES: usize = board::STEP_SIZE * MOST_TURNS;
+
+// What the entry returns: a refusal, 0 if none, and the worth of the plan, 0 on a refusal.
+#[repr(C)]
+pub struct ChargeAnswer {
+    pub refusal: u8,
+    pub worth: u32,
+}
+
+// A charging sheet: its first count is the hall's units, its second the vehicles, and a window's second field
+// is its draw. No map has a driver.
+fn charging_sheet() -> Kind
+    ensures { λ r. ⌜ r ≡ chargingSheet ⌝ }
+{
+    Kind {
+        mark: wire::GRE,
+        most: Most {
+            groomers: MOST_UNITS,
+            slopes: MOST_VEHICLES,
+            turns: sheet::MOST_TURNS,
+        },
+        maps: Maps {
+            first: sheet::FIRST_MAP,
+            full: sheet::FIRST_MAP,
+        },
+        refusals: Refusals {
+            counts: refusal::BAD_COUNTS,
+            turns: refusal::TOO_MANY_TURNS,
+            slope: refusal::BAD_SLOPE,
+            groomer: refusal::BAD_DRAW,
+        },
+    }
+}
+
+// The plan of one kind into a map that has none chosen; returns its worth.
+fn plan_kind(a: Among, cols: &[u16; PLACES], map: &mut [u8]) -> u32
+    requires { ⌜ HallHeld a (now cols) × Clean (a .size .count) (now map) × (choiceIn (a .size .count) (now map) ≡ replicate (a .size .count) false) ⌝ }
+    ensures { λ r. ⌜ r ≡ worthIn (hallBy a (now (cols .entry))) (kindChoice a (now (cols .entry))) ⌝ }
+    ensures { λ _. ⌜ now (map .exit) ≡ mapOf (kindChoice a (now (cols .entry))) ⌝ }
+{
+    let mut steps = [0u8; STEPS_BYTES];
+    let m = charging::plan_among(a, cols, &mut steps);
+    choose_windows(a, cols, &steps, m, &mut *map);
+    choices::chosen_worth(a.size, cols, &*map)
+}
+
+// Writes the map of the plan of greater worth, the small windows' where they are equal; returns its worth.
+fn write_plan(units: u16, p: Size, cols: &[u16; PLACES], map: &mut [u8]) -> u32
+    requires { ⌜ HeldHall units p (now cols) × (length (now map) ≡ mapBytes (p .count)) ⌝ }
+    ensures { λ r. ⌜ r ≡ hallWorth (hallIn units p (now (cols .entry))) ⌝ }
+    ensures { λ _. ⌜ now (map .exit) ≡ mapOf (hallChoice (hallIn units p (now (cols .entry)))) ⌝ }
+{
+    let size = map.len();
+    let mut first = [0u8; MAP_BYTES];
+    let mut second = [0u8; MAP_BYTES];
+    let wide_map = &mut first[..size];
+    let small_map = &mut second[..size];
+    let wide = plan_kind(
+        Among {
+            units: units,
+            size: p,
+            wide: true,
+        },
+        cols,
+        &mut *wide_map,
+    );
+    let small = plan_kind(
+        Among {
+            units: units,
+            size: p,
+            wide: false,
+        },
+        cols,
+        &mut *small_map,
+    );
+    if small < wide {
+        wire::put_bytes(&mut *map, 0, &*wide_map);
+        return wide;
+    }
+    wire::put_bytes(&mut *map, 0, &*small_map);
+    small
+}
+
+fn refused(k: u8) -> ChargeAnswer
+    ensures { λ r. ⌜ r ≡ chargeRefused k ⌝ }
+{
+    ChargeAnswer {
+        refusal: k,
+        worth: 0,
+    }
+}
+
+// The worth of a hall's plan, and its map into any lent bytes.
+fn answer(units: u16, p: Size, cols: &[u16; PLACES], map: &mut [u8]) -> ChargeAnswer
+    requires { ⌜ HeldHall units p (now cols) ⌝ }
+    ensures { λ r. ⌜ charged r (now (map .exit)) ≡ chargeIn (hallIn units p (now (cols .entry))) (now (map .entry)) ⌝ }
+{
+    let size = choicemap::map_bytes(p.count as u16);
+    if map.len() < size {
+        return refused(refusal::BUFFER_TOO_SMALL);
+    }
+    let worth = write_plan(units, p, cols, &mut map[..size]);
+    ChargeAnswer {
+        refusal: 0,
+        worth: worth,
+    }
+}
+
+// Plans any bytes as a charging sheet: the worth of the hall's plan, and its choice map into any lent bytes.
+pub fn charge(s: &[u8], map: &mut [u8]) -> ChargeAnswer
+    ensures { λ r. ⌜ charged r (now (map .exit)) ≡ chargeOf (now (s .entry)) (now (map .entry)) ⌝ }
+{
+    let mut cols = [0u16; PLACES];
+    let r = problem::load_as(charging_sheet(), s, &mut cols);
+    let fault = r.refusal;
+    if fault != 0 {
+        return refused(fault);
+    }
+    let p = Size {
+        count: r.turns as usize,
+        gap: 0,
+    };
+    answer(r.groomers, p, &cols, &mut *map)
+}
