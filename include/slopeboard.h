@@ -54,10 +54,12 @@ extern "C" {
 enum {
     SLOPEBOARD_TRUNCATED = 1,         /* the sheet ends inside its header, or before a record is whole */
     SLOPEBOARD_BAD_MAGIC = 2,         /* the sheet does not open with GRM (kept: GRC, charging: GRE) */
-    SLOPEBOARD_BAD_COUNTS = 3,        /* groomers outside 1 to 16, or slopes outside 1 to 120 */
+    SLOPEBOARD_BAD_COUNTS = 3,        /* groomers outside 1 to 16, or slopes outside 1 to 120
+                                       * (charging: units outside 1 to 48, or vehicles outside 1 to 60) */
     SLOPEBOARD_TOO_MANY_TURNS = 4,    /* more than 400 turns */
-    SLOPEBOARD_BAD_MAP = 5,           /* a map above 3F, or a first map that is neither 1F nor 3F */
-    SLOPEBOARD_BAD_SLOPE = 6,         /* a turn's slope is 0 or above the count */
+    SLOPEBOARD_BAD_MAP = 5,           /* a map above 3F, or a first map that is neither 1F nor 3F
+                                       * (charging: a map above 1F, or another first map than 1F) */
+    SLOPEBOARD_BAD_SLOPE = 6,         /* a turn's slope (charging: vehicle) is 0 or above the count */
     SLOPEBOARD_BAD_GROOMER = 7,       /* a turn's groomer is 0 or above the count */
     SLOPEBOARD_BAD_TIME = 8,          /* a turn has length 0 or ends after minute 960 */
     SLOPEBOARD_BAD_WORTH = 9,         /* a turn's worth is 0 or above 60,000 */
@@ -318,13 +320,15 @@ slopeboard_write_answer slopeboard_keep(const uint8_t *sheet, size_t sheet_len, 
  * sheet, and slopeboard_keep makes of them the kept form again, whoever wrote it.
  *
  * Refusals, in this order: 1 for fewer than 7 bytes; 2 if the bytes do not open with GRC; 3; 4; 1 for fewer
- * maps than turns; 5 for any map; 1 or 10 for fewer or more bytes behind the maps than these ask for; then, turn
- * by turn, 6, 7, 8, 9, 19; then 11 if sheet_len is below the bytes of the kept form. */
+ * maps than turns; 5 if slopeboard_read would refuse one of the maps, the first by its own rule; 1 or 10 for
+ * fewer or more bytes behind the maps than these ask for; then, for one turn after another, 6, 7, 8, 9, 19;
+ * then 11 if sheet_len is below the bytes of the kept form. */
 slopeboard_write_answer slopeboard_restore(const uint8_t *kept, size_t kept_len, uint8_t *sheet, size_t sheet_len);
 
 /* Plays minutes 0 to 959 of a board that slopeboard_check passes, each turn with a delay in minutes at its
- * number's place in delays. A groomer takes its chosen turns by start. It begins each in the minute planned or,
- * if that is later, ten minutes after it finished the one before, and works on it for its length and its delay.
+ * number's place in delays. Of a groomer's chosen turns the one that starts first comes first. It begins each
+ * in the minute planned or, if that is later, ten minutes after it finished the one before, and works on it
+ * for its length and its delay.
  * For ten minutes after every turn it drives over; in all other minutes it stands.
  *
  * Writes the standing of groomer g at place g - 1 of the list, whatever that held: how many minutes it worked,
@@ -341,15 +345,15 @@ slopeboard_play_answer slopeboard_play(const uint8_t *sheet, size_t sheet_len, c
  *
  * A charging sheet is laid out as a sheet is, with the mark GRE, the hall's units in the place of the groomers,
  * its vehicles in the place of the slopes, and in each record a window: the vehicle as the slope, the draw as
- * the groomer, and no driver. A set of windows is allowed if no vehicle has two in it and the draws of the windows
- * that hold one minute never exceed the units. A window holds its minutes alone, not the ten behind them.
+ * the groomer, and no driver. Windows go together, are allowed, where no two are of one vehicle and in each minute
+ * the draws of those that hold it come to at most the units. A window holds its minutes alone, not the ten behind them.
  *
  * There are two plans. One is of the windows with a draw above half of the units, as if they were turns of one
  * groomer, but with no time for driving over. The other is of the windows with smaller draws: each step is for
  * the open window that slopeboard_plan would pick and takes its amount from all open windows of that vehicle;
  * from those of other vehicles that share a minute with it, it takes 2 * draw * amount / units, rounded up, with
- * the draw of the window that it takes from. Both then choose as slopeboard_plan does, among their own windows, as
- * long as the set stays allowed. The plan that is worth more is written, of equals that of the smaller draws. No
+ * the draw of the window that it takes from. Both then choose as slopeboard_plan does, among their own windows,
+ * wherever the set stays allowed. The plan that is worth more is written, of equals that of the smaller draws. No
  * allowed set is worth more than five times its worth and, besides, the units times the steps of the smaller
  * draws.
  *

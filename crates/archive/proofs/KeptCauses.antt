@@ -12,7 +12,7 @@ use borrow.Author.Tests.{ltb-true, lt-ltb}
 use Rattle.refusal.specs.Number.{truncated, badMap, trailingBytes, bufferTooSmall}
 use Rattle.refusal.specs.Cause.{Cause, _when_, There, here, later, firstOf}
 use Rattle.refusal.proofs.Order.{none-iff}
-use Rattle.refusal.proofs.Written.{number-first}
+use Rattle.refusal.proofs.Written.{number-first, enough-iff}
 use Rattle.refusal.proofs.Places.{causeAt, there-at, at-there, there-left, there-right, there-split}
 use Rattle.wire.specs.Number.{Bytes}
 use Rattle.turns.specs.declared.Turn.{Turn}
@@ -22,8 +22,10 @@ use Rattle.sheet.specs.declared.kind.Maps.{Maps}
 use Rattle.sheet.specs.Kind.{garage}
 use Rattle.sheet.specs.Record.{badMapFor, cursorAfter, firstCursor}
 use Rattle.sheet.specs.Read.{countsIn, countCauses, headerCauses, recordsCauses, causesFor, sheetCauses, turnCount}
-use Rattle.sheet.specs.Accepted.{CauseFor, WrongMap, LentCause, cursorOf, FirstAmong}
+use Rattle.sheet.specs.Accepted.{CauseFor, WrongMap, LentCause, cursorOf, FirstAmong, Accepted}
 use Rattle.sheet.proofs.Maps.{bad-map-iff}
+use Rattle.sheet.proofs.Readings.{sheet-numbered}
+use Rattle.sheet.proofs.Accepting.{accepted-iff}
 use Rattle.sheet.proofs.Causes.{cause-there-for, there-cause-for, first-same}
 use Rattle.sheet.proofs.ReadCauses.{lent-causes-iff}
 use Rattle.writing.specs.Write.{turnsCauses}
@@ -252,22 +254,45 @@ module _ (k : List ℕ) where
 
 -- ---- the number that is given
 
+pub restore-number : (k lent : List ℕ) → restoreOf k lent .refusal ≡ firstOf (restoreCauses k (length lent))
+unfolding restoreOf
+restore-number k lent = number-first (restoreCauses k (length lent)) (restoredOf k) lent
+
+pub keep-number : (s lent : List ℕ) → keepOf s lent .refusal ≡ firstOf (keepCauses s (length lent))
+unfolding keepOf
+keep-number s lent = number-first (keepCauses s (length lent)) (keptOf s) lent
+
 -- restoring gives j exactly where the first cause has number j
 pub restore-refused-iff : (k lent : List ℕ) (j : ℕ) → (j ≡ 0 → ⊥) → (restoreOf k lent .refusal ≡ j) ↔ FirstRestoreCause k (length lent) j
-unfolding restoreOf
 restore-refused-iff k lent j z =
     let same = first-same (restoreCauses k (length lent)) (RestoreCause k (length lent)) (restore-causes-iff k (length lent)) j z in
-    let number = number-first (restoreCauses k (length lent)) (restoredOf k) lent in
-    (λ e. same .0 (sym number ∙ e), λ f. number ∙ same .1 f)
+    (λ e. same .0 (sym (restore-number k lent) ∙ e), λ f. restore-number k lent ∙ same .1 f)
+
+keep-causes-iff : (s : List ℕ) (places j r : ℕ) → LentCause s (length s) places j r ↔ There (keepCauses s places) j r
+unfolding keepCauses
+keep-causes-iff s places = lent-causes-iff s (length s) places
 
 -- keeping gives j exactly where the first cause has number j
 pub keep-refused-iff : (s lent : List ℕ) (j : ℕ) → (j ≡ 0 → ⊥) → (keepOf s lent .refusal ≡ j) ↔ FirstKeepCause s (length lent) j
-unfolding keepOf keepCauses
 keep-refused-iff s lent j z =
-    let causes = sheetCauses s ++ bufferTooSmall when ltb (length lent) (length s) ∷ [] in
-    let same = first-same causes (LentCause s (length s) (length lent)) (lent-causes-iff s (length s) (length lent)) j z in
-    let number = number-first causes (keptOf s) lent in
-    (λ e. same .0 (sym number ∙ e), λ f. number ∙ same .1 f)
+    let same = first-same (keepCauses s (length lent)) (LentCause s (length s) (length lent)) (keep-causes-iff s (length lent)) j z in
+    (λ e. same .0 (sym (keep-number s lent) ∙ e), λ f. keep-number s lent ∙ same .1 f)
+
+-- restoring refuses nothing just if the kept form is accepted and the lent bytes are as many
+pub restore-accepted-iff : {k : List ℕ} → Bytes k → (lent : List ℕ) → (restoreOf k lent .refusal ≡ 0) ↔ (AcceptedKept k × (length k ≤ length lent))
+unfolding restoreCauses
+restore-accepted-iff {k} b lent =
+    let e = enough-iff (keptCauses k) (length lent) (length k) (kept-numbered k) in
+    let a = accepted-kept-iff b in
+    (λ z. let h = e .0 (sym (restore-number k lent) ∙ z) in (a .0 (h .0), h .1), λ h. restore-number k lent ∙ e .1 (a .1 (h .0), h .1))
+
+-- keeping refuses nothing just if the sheet is accepted and the lent bytes are as many
+pub keep-accepted-iff : {s : List ℕ} → Bytes s → (lent : List ℕ) → (keepOf s lent .refusal ≡ 0) ↔ (Accepted s × (length s ≤ length lent))
+unfolding keepCauses
+keep-accepted-iff {s} b lent =
+    let e = enough-iff (sheetCauses s) (length lent) (length s) (sheet-numbered s) in
+    let a = accepted-iff b in
+    (λ z. let h = e .0 (sym (keep-number s lent) ∙ z) in (a .0 (h .0), h .1), λ h. keep-number s lent ∙ e .1 (a .1 (h .0), h .1))
 
 -- in words alone: a kept form is accepted just if no cause is there
 pub accepted-kept-no-cause : {k : List ℕ} → Bytes k → AcceptedKept k ↔ ((j r : ℕ) → KeptCause k j r → ⊥)

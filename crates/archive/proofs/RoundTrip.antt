@@ -4,11 +4,12 @@ use mathlib.Core.Path.{_≡_, refl, sym, _∙_, ap, ap₂}
 use mathlib.Core.Bool.{true}
 use mathlib.Core.List.{List, [], _∷_, _++_}
 use native.Mathlib.Omega.{arith}
-use lib.ListN.{length, drop, length-append}
+use lib.ListN.{length, take, drop, length-append}
+use lib.Seq.{take-append-seam}
 use Rattle.refusal.specs.Cause.{firstOf}
 use Rattle.refusal.specs.Written.{Written, wrote}
-use Rattle.refusal.proofs.Written.{wrote-enough}
-use Rattle.wire.specs.Number.{bytesOf, bytesAt}
+use Rattle.refusal.proofs.Written.{wrote-all, wrote-enough}
+use Rattle.wire.specs.Number.{Bytes, bytesOf, bytesAt}
 use Rattle.wire.specs.Mark.{sheetMark, keptMark}
 use Rattle.turns.specs.declared.Turn.{Turn}
 use Rattle.turns.specs.declared.Counts.{Counts}
@@ -26,6 +27,7 @@ use Rattle.archive.specs.Archive.{keepCauses, keepOf, keptCauses, restor
 use Rattle.archive.specs.AcceptedKept.{Together, KeptFor, AcceptedKept}
 use Rattle.archive.proofs.Bodies.{together-length, records-length, together-records, records-mapped, maps-read}
 use Rattle.archive.proofs.Accepting.{kept-reads, kept-long, kept-numbered}
+use Rattle.archive.proofs.KeptCauses.{keep-number, restore-number, keep-accepted-iff, restore-accepted-iff}
 
 -- a sheet with its maps named
 pub record SheetWith (s : List ℕ) (counts : Counts) (ms : List ℕ) (ts : List Turn) : Type 0 where
@@ -116,6 +118,9 @@ module _ (s : List ℕ) (a : Accepted s) where
   pub keep-back : restoredOf (keptOf s) ≡ s
   keep-back = kept-back s (a .counts) (name .maps) (a .turns) (name .sheet)
 
+  pub keep-turns : keptTurns (keptOf s) ≡ turnsOf s
+  keep-turns = kept-turns (keptOf s) (a .counts) (name .maps) (a .turns) (sheet-kept s (a .counts) (name .maps) (a .turns) (name .sheet)) ∙ ap turnsOf keep-back
+
 -- ---- an accepted kept form
 
 module _ (k : List ℕ) (a : AcceptedKept k) where
@@ -156,3 +161,25 @@ keep-then-restore s lent a h = restore-writes (keptOf s) lent (keep-accepted s a
 -- and what restoring wrote is kept as the very bytes of the kept form
 pub restore-then-keep : (k lent : List ℕ) → AcceptedKept k → length k ≤ length lent → keepOf (restoredOf k) lent ≡ wrote k lent
 restore-then-keep k lent a h = keep-writes (restoredOf k) lent (restore-accepted k a) (omega (arith, restore-length k a)) ∙ ap (λ (x : List ℕ). wrote x lent) (restore-back k a)
+
+-- ---- the entries one after the other
+
+-- what keeping wrote where it refused nothing, whatever the lent bytes were
+pub keep-written : (s lent : List ℕ) → keepOf s lent .refusal ≡ 0 → take (keepOf s lent .bytes) (keepOf s lent .lent) ≡ keptOf s
+unfolding keepOf
+keep-written s lent e = rw (wrote-all (keepCauses s (length lent)) (keptOf s) lent (sym (keep-number s lent) ∙ e)) (take-append-seam _ _)
+
+-- and what restoring wrote
+pub restore-written : (k lent : List ℕ) → restoreOf k lent .refusal ≡ 0 → take (restoreOf k lent .bytes) (restoreOf k lent .lent) ≡ restoredOf k
+unfolding restoreOf
+restore-written k lent e = rw (wrote-all (restoreCauses k (length lent)) (restoredOf k) lent (sym (restore-number k lent) ∙ e)) (take-append-seam _ _)
+
+-- the bytes that keeping wrote, restored into any lent bytes that are enough, are the sheet again, and the rest stays
+pub keep-written-restores : {s : List ℕ} → Bytes s → (lent other : List ℕ) → keepOf s lent .refusal ≡ 0 → length s ≤ length other
+    → restoreOf (take (keepOf s lent .bytes) (keepOf s lent .lent)) other ≡ wrote s other
+keep-written-restores {s} b lent other e h = rw (keep-written s lent e) (keep-then-restore s other (keep-accepted-iff b lent .0 e .0) h)
+
+-- and the bytes that restoring wrote, kept, are the kept form again
+pub restore-written-keeps : {k : List ℕ} → Bytes k → (lent other : List ℕ) → restoreOf k lent .refusal ≡ 0 → length k ≤ length other
+    → keepOf (take (restoreOf k lent .bytes) (restoreOf k lent .lent)) other ≡ wrote k other
+restore-written-keeps {k} b lent other e h = rw (restore-written k lent e) (restore-then-keep k other (restore-accepted-iff b lent .0 e .0) h)

@@ -39,7 +39,7 @@ formCauses k =
     ∷ trailingBytes when ltb (keptEnd k) (length k)
     ∷ [])
 
--- all causes, in the order of refusal: the header, the form, then the values turn by turn
+-- all causes, in the order of refusal: the header's, the form's, and last those of each turn's values
 unfoldable pub keptCauses : List ℕ → List Cause
 keptCauses k = headerCauses archive k ++ (formCauses k ++ turnsCauses (archive .refusals) (countsIn k) (keptTurns k))
 

@@ -1,5 +1,5 @@
-// The best worth of turns in columns, by a table over the turns of each groomer in order of end, and the set
-// that earns it.
+// The best worth of turns in columns, and the set that earns it: groomer after groomer, a table has an entry
+// for each turn, filled from the one that ends first on.
 mod order;
 mod table;
 

@@ -51,11 +51,11 @@ module _ (units draw amount : ℕ) {d m u : ℕ} (e : d ≡ draw) (f : m ≡ amo
     pub share-fits : Fits w16 ((2 * d * m + (u - 1)) / u)
     share-fits = omega (arith, share-least)
 
-  pub share-is : (2 * d * m + (u - 1)) / u ≡ roundedUp (2 * draw * amount) units
+  pub share-rounded : (2 * d * m + (u - 1)) / u ≡ roundedUp (2 * draw * amount) units
   unfolding roundedUp
-  share-is = rw (e, f, g)
+  share-rounded = rw (e, f, g)
 
-pub ruleset share-cases = (share-whole, share-sum, share-least, share-fits, share-is)
+pub ruleset share-cases = (share-whole, share-sum, share-least, share-fits, share-rounded)
 
 -- ---- from one window
 

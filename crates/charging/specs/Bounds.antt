@@ -6,17 +6,9 @@ use Prim.Native.Nat.{ℕ, _≤_, _<_}
 use lib.IntN.{ℤ}
 use Rattle.model.specs.Steps.{isOpen}
 use Rattle.problem.specs.Columns.{turnsBy, Held}
-use Rattle.hallmodel.specs.Hall.{isSmall}
+use Rattle.hallmodel.specs.Hall.{mostUnits, mostVehicles, isSmall}
 use Rattle.charging.specs.declared.among.Among.{Among}
 use Rattle.charging.specs.Among.{hallBy}
-
--- the most units that a hall has, of which there is at least one
-abbrev pub mostUnits : ℕ
-mostUnits = 48
-
--- the most vehicles, likewise
-abbrev pub mostVehicles : ℕ
-mostVehicles = 60
 
 -- columns that hold a hall's windows within what every charging sheet keeps to
 pub record HallHeld (a : Among) (cols : List ℕ) : Type 0 where

@@ -21,7 +21,8 @@ pub struct Among {
     pub wide: bool,
 }
 
-pub fn wide(x: u16) -> u32
+// A number of 16 bits as one of 32.
+pub fn to_u32(x: u16) -> u32
     ensures { λ r. ⌜ (r ≡ x) × (r < 65536) ⌝ }
 {
     x as u32
@@ -32,7 +33,7 @@ pub fn is_of_kind(a: Among, r: Row) -> bool
     ensures { λ q. ⌜ q ≡ kindRow a r ⌝ }
 {
     let units = a.units;
-    let is_wide = wide(units) < 2 * wide(r.groomer);
+    let is_wide = to_u32(units) < 2 * to_u32(r.groomer);
     if a.wide { is_wide } else { !is_wide }
 }
 

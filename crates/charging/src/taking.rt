@@ -11,7 +11,7 @@ ghost use Rattle.charging.specs.Among.{hallBy};
 ghost use Rattle.charging.specs.Taking.{rowTakes};
 ghost use Rattle.charging.specs.Bounds.{HallHeld, OnlySmall};
 use super::among::Among;
-use super::among::wide;
+use super::among::to_u32;
 use problem::PLACES;
 use problem::Row;
 use problem::row_at;
@@ -21,8 +21,8 @@ fn share_of(units: u16, draw: u16, amount: u16) -> u16
     requires { ⌜ (1 ≤ units) × (2 * draw ≤ units) × (amount ≤ mostWorth) ⌝ }
     ensures { λ r. ⌜ (r ≡ roundedUp (2 * draw * amount) units) × (r ≤ amount) ⌝ }
 {
-    let whole = 2 * wide(draw) * wide(amount);
-    let by = wide(units);
+    let whole = 2 * to_u32(draw) * to_u32(amount);
+    let by = to_u32(units);
     ((whole + (by - 1)) / by) as u16
 }
 

@@ -11,7 +11,7 @@ use Rattle.turns.specs.declared.Turn.{Turn}
 use Rattle.turns.specs.Turn.{rowNumbers, turnIn, turnsOfTable}
 use Rattle.sheet.specs.Record.{widthOf}
 use Rattle.columns.specs.declared.Field.{Field}
-use Rattle.columns.specs.Column.{slopes, groomers, starts, lengths, worths, drivers, sizeIn, fieldIn, valueIn, columnSize, valuesOf, columnOf, columnRead, widths, columnsOf, Columns, columnsIn, turnAcross, turnsAcross, spread}
+use Rattle.columns.specs.Column.{slopes, groomers, starts, lengths, worths, drivers, sizeIn, fieldIn, fieldValue, columnSize, valuesOf, columnOf, columnRead, widths, columnsOf, Columns, columnsIn, turnAcross, turnsAcross, spread}
 use Rattle.columns.proofs.ColumnCases.{field-in-length}
 
 -- ---- lengths
@@ -30,7 +30,7 @@ column-length F (m ∷ ms) (v ∷ vs) e = length-append (fieldIn F m v) (columnO
 pub read-length : (F : Field) (ms s : List ℕ) (at old : ℕ) → length (columnRead F ms s at old) ≡ length ms
 unfolding columnRead
 read-length F [] s at old = refl
-read-length F (m ∷ ms) s at old = ap suc (read-length F ms s (at + sizeIn F m) (valueIn F s at m old))
+read-length F (m ∷ ms) s at old = ap suc (read-length F ms s (at + sizeIn F m) (fieldValue F s at m old))
 
 pub widths-sum : (ms : List ℕ) → widths ms ≡ columnSize slopes ms + columnSize groomers ms + columnSize starts ms + columnSize lengths ms + columnSize worths ms + columnSize drivers ms
 unfolding widths columnSize sizeIn widthOf

@@ -15,26 +15,26 @@ use Rattle.sheet.specs.Record.{widthOf, field}
 use Rattle.sheet.specs.Layout.{fieldBytes}
 use Rattle.sheet.proofs.Fields.{field-length}
 use Rattle.columns.specs.declared.Field.{Field}
-use Rattle.columns.specs.Column.{Laid, slopes, groomers, starts, lengths, worths, drivers, sizeIn, fieldIn, valueIn, columnSize, valuesOf, columnOf, columnRead, widths, spread}
+use Rattle.columns.specs.Column.{ColumnsLaid, slopes, groomers, starts, lengths, worths, drivers, sizeIn, fieldIn, fieldValue, columnSize, valuesOf, columnOf, columnRead, widths, spread}
 
 -- ---- the fields
 
-pub slopes-laid : Laid slopes
+pub slopes-laid : ColumnsLaid slopes
 slopes-laid = record { within = omega arith; unit-from = omega arith; width-from = omega arith; width-to = omega arith }
 
-pub groomers-laid : Laid groomers
+pub groomers-laid : ColumnsLaid groomers
 groomers-laid = record { within = omega arith; unit-from = omega arith; width-from = omega arith; width-to = omega arith }
 
-pub starts-laid : Laid starts
+pub starts-laid : ColumnsLaid starts
 starts-laid = record { within = omega arith; unit-from = omega arith; width-from = omega arith; width-to = omega arith }
 
-pub lengths-laid : Laid lengths
+pub lengths-laid : ColumnsLaid lengths
 lengths-laid = record { within = omega arith; unit-from = omega arith; width-from = omega arith; width-to = omega arith }
 
-pub worths-laid : Laid worths
+pub worths-laid : ColumnsLaid worths
 worths-laid = record { within = omega arith; unit-from = omega arith; width-from = omega arith; width-to = omega arith }
 
-pub drivers-laid : Laid drivers
+pub drivers-laid : ColumnsLaid drivers
 drivers-laid = record { within = omega arith; unit-from = omega arith; width-from = omega arith; width-to = omega arith }
 
 pub ruleset laid-cases = (slopes-laid, groomers-laid, starts-laid, lengths-laid, worths-laid, drivers-laid)
@@ -48,7 +48,7 @@ pub field-in-length : (F : Field) (m v : ℕ) → length (fieldIn F m v) ≡ siz
 unfolding fieldIn sizeIn
 field-in-length F m v = field-length (m / F .unit % 2) (F .width) v (bit-below (m / F .unit))
 
-two : (F : Field) → Laid F → (F .width ≡ 1 → ⊥) → F .width ≡ 2
+two : (F : Field) → ColumnsLaid F → (F .width ≡ 1 → ⊥) → F .width ≡ 2
 two F l n = go (F .width) (l .width-from) (l .width-to) n
   where
     go : (w : ℕ) → 1 ≤ w → w ≤ 2 → (w ≡ 1 → ⊥) → w ≡ 2
@@ -62,45 +62,45 @@ module _ (F : Field) (m : ℕ) where
   unfolding sizeIn
   one-size e = rw e (omega arith)
 
-  two-size : Laid F → (F .width ≡ 1 → ⊥) → sizeIn F m ≡ 2 * (m / F .unit % 2)
+  two-size : ColumnsLaid F → (F .width ≡ 1 → ⊥) → sizeIn F m ≡ 2 * (m / F .unit % 2)
   unfolding sizeIn
   two-size l n = rw (two F l n)
 
   pub narrow-size : F .width ≡ 1 → (m / F .unit % 2 ≡ sizeIn F m) × (m / F .unit % 2 ≤ 2)
   narrow-size e = (sym (one-size e), omega arith)
 
-  pub wide-size : Laid F → (F .width ≡ 1 → ⊥) → (2 * (m / F .unit % 2) ≡ sizeIn F m) × (2 * (m / F .unit % 2) ≤ 2)
+  pub wide-size : ColumnsLaid F → (F .width ≡ 1 → ⊥) → (2 * (m / F .unit % 2) ≡ sizeIn F m) × (2 * (m / F .unit % 2) ≤ 2)
   wide-size l e = (sym (two-size l e), omega arith)
 
   -- room for it
   pub narrow-fits : (at : ℕ) {n : ℕ} → F .width ≡ 1 → at + sizeIn F m ≤ n → at + m / F .unit % 2 ≤ n
   narrow-fits at e h = rw (← one-size e) h
 
-  pub wide-fits : (at : ℕ) {n : ℕ} → Laid F → (F .width ≡ 1 → ⊥) → at + sizeIn F m ≤ n → at + 2 * (m / F .unit % 2) ≤ n
+  pub wide-fits : (at : ℕ) {n : ℕ} → ColumnsLaid F → (F .width ≡ 1 → ⊥) → at + sizeIn F m ≤ n → at + 2 * (m / F .unit % 2) ≤ n
   wide-fits at l e h = rw (← two-size l e) h
 
   -- put
   pub narrow-at : (at : ℕ) {r : ℕ} → F .width ≡ 1 → r ≡ at + m / F .unit % 2 → r ≡ at + sizeIn F m
   narrow-at at e p = rw (one-size e) p
 
-  pub wide-at : (at : ℕ) {r : ℕ} → Laid F → (F .width ≡ 1 → ⊥) → r ≡ at + 2 * (m / F .unit % 2) → r ≡ at + sizeIn F m
+  pub wide-at : (at : ℕ) {r : ℕ} → ColumnsLaid F → (F .width ≡ 1 → ⊥) → r ≡ at + 2 * (m / F .unit % 2) → r ≡ at + sizeIn F m
   wide-at at l e p = rw (two-size l e) p
 
   pub narrow-put : (at x : ℕ) (l : List ℕ) {l′ : List ℕ} → F .width ≡ 1 → l′ ≡ puts l at (fieldBytes (m / F .unit % 2) 1 x) → l′ ≡ puts l at (fieldIn F m x)
   unfolding fieldIn
   narrow-put at x l e q = rw e q
 
-  pub wide-put : (at x : ℕ) (l : List ℕ) {l′ : List ℕ} → Laid F → (F .width ≡ 1 → ⊥) → l′ ≡ puts l at (fieldBytes (m / F .unit % 2) 2 x) → l′ ≡ puts l at (fieldIn F m x)
+  pub wide-put : (at x : ℕ) (l : List ℕ) {l′ : List ℕ} → ColumnsLaid F → (F .width ≡ 1 → ⊥) → l′ ≡ puts l at (fieldBytes (m / F .unit % 2) 2 x) → l′ ≡ puts l at (fieldIn F m x)
   unfolding fieldIn
   wide-put at x l laid e q = rw (two F laid e) q
 
   -- read
-  pub narrow-read : (at old : ℕ) (s : List ℕ) {r : ℕ} → F .width ≡ 1 → r ≡ field 1 s at (m / F .unit % 2) old → r ≡ valueIn F s at m old
-  unfolding valueIn
+  pub narrow-read : (at old : ℕ) (s : List ℕ) {r : ℕ} → F .width ≡ 1 → r ≡ field 1 s at (m / F .unit % 2) old → r ≡ fieldValue F s at m old
+  unfolding fieldValue
   narrow-read at old s e p = rw e p
 
-  pub wide-read : (at old : ℕ) (s : List ℕ) {r : ℕ} → Laid F → (F .width ≡ 1 → ⊥) → r ≡ field 2 s at (m / F .unit % 2) old → r ≡ valueIn F s at m old
-  unfolding valueIn
+  pub wide-read : (at old : ℕ) (s : List ℕ) {r : ℕ} → ColumnsLaid F → (F .width ≡ 1 → ⊥) → r ≡ field 2 s at (m / F .unit % 2) old → r ≡ fieldValue F s at m old
+  unfolding fieldValue
   wide-read at old s l e p = rw (two F l e) p
 
 pub ruleset field-in-cases = (bit-below, narrow-size, wide-size, narrow-fits, wide-fits, narrow-at, wide-at, narrow-put, wide-put, narrow-read, wide-read)
@@ -144,7 +144,7 @@ module _ (F : Field) (maps : List ℕ) (i at : ℕ) where
       let z : columnSize F (drop i maps) ≡ 0 = rw (q, drop-length maps) in
       omega arith
 
-  pub put-more : (table l : List ℕ) {at′ : ℕ} {l′ z : List ℕ} → i < length maps → Laid F → at′ ≡ at + sizeIn F (getD maps i 0)
+  pub put-more : (table l : List ℕ) {at′ : ℕ} {l′ z : List ℕ} → i < length maps → ColumnsLaid F → at′ ≡ at + sizeIn F (getD maps i 0)
       → l′ ≡ puts l at (fieldIn F (getD maps i 0) (getD table (i * rowNumbers + F .place) 0))
       → puts l at (columnOf F (drop i maps) (valuesOf F (turnsOfTable (length maps - i) table i))) ≡ z
       → puts l′ at′ (columnOf F (drop (i + 1) maps) (valuesOf F (turnsOfTable (length maps - (i + 1)) table (i + 1)))) ≡ z
@@ -162,7 +162,7 @@ module _ (F : Field) (maps : List ℕ) (i at : ℕ) where
   unfolding columnOf
   put-done table l h k e = let q : i ≡ length maps = omega arith in rw (q, drop-length maps) at e
 
-  pub read-more : (l s : List ℕ) (old : ℕ) {v w : ℕ} {z : List ℕ} → i < length maps → v ≡ valueIn F s at (getD maps i 0) old → w ≡ sizeIn F (getD maps i 0)
+  pub read-more : (l s : List ℕ) (old : ℕ) {v w : ℕ} {z : List ℕ} → i < length maps → v ≡ fieldValue F s at (getD maps i 0) old → w ≡ sizeIn F (getD maps i 0)
       → spread l (i * rowNumbers + F .place) (columnRead F (drop i maps) s at old) ≡ z
       → spread (set l (i * rowNumbers + F .place) v) ((i + 1) * rowNumbers + F .place) (columnRead F (drop (i + 1) maps) s (at + w) v) ≡ z
   unfolding columnRead spread
@@ -178,7 +178,7 @@ pub read-start : (F : Field) (maps l s : List ℕ) (at : ℕ) → spread l (0 * 
 read-start F maps l s at = let z : 0 * rowNumbers + F .place ≡ F .place = omega arith in rw z
 
 -- the place in a table
-pub cell-within : (F : Field) (i : ℕ) {n k : ℕ} → Laid F → i < n → rowNumbers * n ≤ k → i * rowNumbers + F .place < k
+pub cell-within : (F : Field) (i : ℕ) {n k : ℕ} → ColumnsLaid F → i < n → rowNumbers * n ≤ k → i * rowNumbers + F .place < k
 cell-within F i l h m = omega (arith, l .within)
 
 pub ruleset column-cases = (size-more, size-moved, size-fits, size-room, size-done, put-start, put-more, put-done, read-start, read-more, read-done, cell-within)

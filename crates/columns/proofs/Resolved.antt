@@ -16,7 +16,7 @@ use Rattle.sheet.specs.Accepted.{Carried}
 use Rattle.sheet.proofs.Fields.{field-read, field-stands}
 use Rattle.sheet.proofs.Records.{field-carried}
 use Rattle.columns.specs.declared.Field.{Field}
-use Rattle.columns.specs.Column.{slopes, groomers, starts, lengths, worths, drivers, sizeIn, fieldIn, valueIn, columnSize, valuesOf, columnOf, columnRead, widths, columnsOf, Columns, columnsIn, turnAcross, turnsAcross}
+use Rattle.columns.specs.Column.{slopes, groomers, starts, lengths, worths, drivers, sizeIn, fieldIn, fieldValue, columnSize, valuesOf, columnOf, columnRead, widths, columnsOf, Columns, columnsIn, turnAcross, turnsAcross}
 use Rattle.columns.proofs.ColumnCases.{bit-below}
 use Rattle.columns.proofs.Across.{widths-sum, read-length}
 
@@ -27,8 +27,8 @@ pub data Follows (F : Field) : ℕ → List ℕ → List ℕ → Type 0 where
   none : {old : ℕ} → Follows F old [] []
   more : {old m v : ℕ} {ms vs : List ℕ} → v < 256 ^ F .width → (m / F .unit % 2 ≡ 0 → old ≡ v) → Follows F v ms vs → Follows F old (m ∷ ms) (v ∷ vs)
 
-one-reads : (F : Field) (m v old : ℕ) (s : List ℕ) (at : ℕ) (rest : List ℕ) → v < 256 ^ F .width → (m / F .unit % 2 ≡ 0 → old ≡ v) → drop at s ≡ fieldIn F m v ++ rest → (valueIn F s at m old ≡ v) × (drop (at + sizeIn F m) s ≡ rest)
-unfolding fieldIn valueIn sizeIn
+one-reads : (F : Field) (m v old : ℕ) (s : List ℕ) (at : ℕ) (rest : List ℕ) → v < 256 ^ F .width → (m / F .unit % 2 ≡ 0 → old ≡ v) → drop at s ≡ fieldIn F m v ++ rest → (fieldValue F s at m old ≡ v) × (drop (at + sizeIn F m) s ≡ rest)
+unfolding fieldIn fieldValue sizeIn
 one-reads F m v old s at rest fits kept q = field-read (m / F .unit % 2) (F .width) v old (F .width * (m / F .unit % 2)) s at rest (bit-below (m / F .unit)) refl fits kept q
 
 pub column-reads : (F : Field) {old : ℕ} {ms vs : List ℕ} → Follows F old ms vs → (s : List ℕ) (at : ℕ) (rest : List ℕ) → drop at s ≡ columnOf F ms vs ++ rest
@@ -43,15 +43,15 @@ column-reads F (more {old = old} {m = m} {v = v} {ms = ms} {vs = vs} fits kept r
 
 -- ---- from what is read to the bytes
 
-one-stands : (F : Field) (m old : ℕ) {s : List ℕ} → Bytes s → (at : ℕ) → at + sizeIn F m ≤ length s → drop at s ≡ fieldIn F m (valueIn F s at m old) ++ drop (at + sizeIn F m) s
-unfolding fieldIn valueIn sizeIn
+one-stands : (F : Field) (m old : ℕ) {s : List ℕ} → Bytes s → (at : ℕ) → at + sizeIn F m ≤ length s → drop at s ≡ fieldIn F m (fieldValue F s at m old) ++ drop (at + sizeIn F m) s
+unfolding fieldIn fieldValue sizeIn
 one-stands F m old b at l = field-stands (m / F .unit % 2) (F .width) old (F .width * (m / F .unit % 2)) b at (bit-below (m / F .unit)) refl l
 
 pub column-stands : (F : Field) (ms : List ℕ) {s : List ℕ} → Bytes s → (at old : ℕ) → at + columnSize F ms ≤ length s → drop at s ≡ columnOf F ms (columnRead F ms s at old) ++ drop (at + columnSize F ms) s
 unfolding columnOf columnRead columnSize
 column-stands F [] b at old h = rw add-zero
 column-stands F (m ∷ ms) {s} b at old h =
-    let v = valueIn F s at m old in
+    let v = fieldValue F s at m old in
     let p : at + (sizeIn F m + columnSize F ms) ≡ at + sizeIn F m + columnSize F ms = omega arith in
     let rest = column-stands F ms b (at + sizeIn F m) v (omega arith) in
     rw p (one-stands F m old b at (omega arith) ∙ ap (λ (l : List ℕ). fieldIn F m v ++ l) rest ∙ sym (append-assoc (fieldIn F m v) _ _))
@@ -64,9 +64,9 @@ next-drop l i v vs e = (byte-front l i v vs e, sym (drop-drop 1 i l) ∙ ap (dro
 -- one value of a column that was read, and the others
 read-step : (F : Field) (col ms s : List ℕ) (at old i m : ℕ) → drop i col ≡ columnRead F (m ∷ ms) s at old
     → (m / F .unit % 2 ≡ 0 → old ≡ getD col i 0) × (drop (i + 1) col ≡ columnRead F ms s (at + sizeIn F m) (getD col i 0))
-unfolding columnRead valueIn
+unfolding columnRead fieldValue
 read-step F col ms s at old i m e =
-    let n = next-drop col i (valueIn F s at m old) (columnRead F ms s (at + sizeIn F m) (valueIn F s at m old)) e in
+    let n = next-drop col i (fieldValue F s at m old) (columnRead F ms s (at + sizeIn F m) (fieldValue F s at m old)) e in
     (λ z. field-carried (F .width) s at (m / F .unit % 2) old z ∙ sym (n .0), n .1 ∙ rw (n .0))
 
 -- ---- turns from columns

@@ -8,23 +8,29 @@ use Rattle.sheet.specs.Record.{widthOf, field}
 use Rattle.sheet.specs.Layout.{fieldBytes}
 use Rattle.columns.specs.declared.Field.{Field}
 
--- ---- the fields: the place in a turn's row, what the bit counts for in a map, and the bytes
+-- ---- the fields of a record, in their order: each with its place in a turn's row, its unit, which is what its bit counts for in a map, and its width in bytes
 
+-- the slope: bit 0 of the map, one byte, place 0 of the row
 abbrev pub slopes : Field
 slopes = record { place = 0; unit = 1; width = 1 }
 
+-- the groomer: bit 1 of the map, one byte, place 1 of the row
 abbrev pub groomers : Field
 groomers = record { place = 1; unit = 2; width = 1 }
 
+-- the start: bit 2 of the map, two bytes, place 2 of the row
 abbrev pub starts : Field
 starts = record { place = 2; unit = 4; width = 2 }
 
+-- the length: bit 3 of the map, two bytes, place 3 of the row
 abbrev pub lengths : Field
 lengths = record { place = 3; unit = 8; width = 2 }
 
+-- the worth: bit 4 of the map, two bytes, place 4 of the row
 abbrev pub worths : Field
 worths = record { place = 4; unit = 16; width = 2 }
 
+-- the driver: bit 5 of the map, one byte, place 5 of the row
 abbrev pub drivers : Field
 drivers = record { place = 5; unit = 32; width = 1 }
 
@@ -39,8 +45,8 @@ unfoldable pub sizeIn : Field → ℕ → ℕ
 sizeIn F m = F .width * (m / F .unit % 2)
 
 -- its value, read at a place where the bit stands, else the value before
-unfoldable pub valueIn : Field → List ℕ → ℕ → ℕ → ℕ → ℕ
-valueIn F s at m old = field (F .width) s at (m / F .unit % 2) old
+unfoldable pub fieldValue : Field → List ℕ → ℕ → ℕ → ℕ → ℕ
+fieldValue F s at m old = field (F .width) s at (m / F .unit % 2) old
 
 -- ---- a column: one field of the records with these maps
 
@@ -63,7 +69,7 @@ columnSize F (m ∷ ms) = sizeIn F m + columnSize F ms
 -- the values that a column from a place on has, one for each map, after a value
 unfoldable pub columnRead : Field → List ℕ → List ℕ → ℕ → ℕ → List ℕ
 columnRead F [] s at old = []
-columnRead F (m ∷ ms) s at old = let v = valueIn F s at m old in v ∷ columnRead F ms s (at + sizeIn F m) v
+columnRead F (m ∷ ms) s at old = let v = fieldValue F s at m old in v ∷ columnRead F ms s (at + sizeIn F m) v
 
 -- ---- all columns
 
@@ -144,7 +150,7 @@ abbrev pub tableColumns : List ℕ → List ℕ → List ℕ
 tableColumns ms table = columnsOf ms (firstTurns (length ms) table)
 
 -- a field that a row has, of one byte or two
-pub record Laid (F : Field) : Type 0 where
+pub record ColumnsLaid (F : Field) : Type 0 where
   pub within : F .place < rowNumbers
   pub unit-from : 1 ≤ F .unit
   pub width-from : 1 ≤ F .width

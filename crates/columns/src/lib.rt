@@ -4,7 +4,8 @@ ghost use Prim.Native.Nat.{_+_, _*_, _≤_, _<_};
 ghost use lib.ListN.{length};
 ghost use Rattle.wire.specs.Number.{puts};
 ghost use Rattle.turns.specs.Turn.{rowNumbers};
-ghost use Rattle.columns.specs.Column.{Laid, sizeIn, fieldIn, valueIn, columnSize, columnRead, widths, columnTurns, firstTurns, tableColumn, tableColumns, spread};
+ghost use Rattle.columns.specs.Column.{ColumnsLaid, sizeIn, fieldIn, fieldValue};
+ghost use Rattle.columns.specs.Column.{columnSize, columnRead, widths, columnTurns, firstTurns, tableColumn, tableColumns, spread};
 use turns::ROW_NUMBERS;
 
 // A field of a record: its place in a turn's row, what its bit counts for in a map, and its bytes.
@@ -52,7 +53,7 @@ const DRIVERS: Field = Field {
 
 // How many bytes a record with this map has for a field.
 fn size_in(field: Field, m: u8) -> usize
-    requires { ⌜ Laid field ⌝ }
+    requires { ⌜ ColumnsLaid field ⌝ }
     ensures { λ r. ⌜ (r ≡ sizeIn field m) × (r ≤ 2) ⌝ }
 {
     let bit = m / field.unit % 2;
@@ -65,7 +66,7 @@ fn size_in(field: Field, m: u8) -> usize
 
 // A field's value from a place on where the map names it; the place behind it.
 fn put_field(out: &mut [u8], at: usize, field: Field, m: u8, x: u16) -> usize
-    requires { ⌜ Laid field × (at + sizeIn field m ≤ length (now out)) ⌝ }
+    requires { ⌜ ColumnsLaid field × (at + sizeIn field m ≤ length (now out)) ⌝ }
     ensures { λ r. ⌜ (r ≡ at + sizeIn field m) × (now (out .exit) ≡ puts (now (out .entry)) at (fieldIn field m x)) ⌝ }
 {
     let bit = m / field.unit % 2;
@@ -78,8 +79,8 @@ fn put_field(out: &mut [u8], at: usize, field: Field, m: u8, x: u16) -> usize
 
 // A field's value at a place where the map names it, else the value before.
 fn read_field(k: &[u8], at: usize, field: Field, m: u8, old: u16) -> u16
-    requires { ⌜ Laid field × (at + sizeIn field m ≤ length (now k)) ⌝ }
-    ensures { λ r. ⌜ r ≡ valueIn field (now (k .entry)) at m old ⌝ }
+    requires { ⌜ ColumnsLaid field × (at + sizeIn field m ≤ length (now k)) ⌝ }
+    ensures { λ r. ⌜ r ≡ fieldValue field (now (k .entry)) at m old ⌝ }
 {
     let bit = m / field.unit % 2;
     if field.width == 1 {
@@ -91,7 +92,7 @@ fn read_field(k: &[u8], at: usize, field: Field, m: u8, old: u16) -> u16
 
 // A column of the turns of a table, from a place on; the place behind it.
 fn put_column(out: &mut [u8], from: usize, field: Field, maps: &[u8], table: &[u16]) -> usize
-    requires { ⌜ Laid field × (from + columnSize field (now maps) ≤ length (now out)) × (rowNumbers * length (now maps) ≤ length (now table)) ⌝ }
+    requires { ⌜ ColumnsLaid field × (from + columnSize field (now maps) ≤ length (now out)) × (rowNumbers * length (now maps) ≤ length (now table)) ⌝ }
     ensures { λ r. ⌜ r ≡ from + columnSize field (now (maps .entry)) ⌝ }
     ensures { λ _. ⌜ now (out .exit) ≡ puts (now (out .entry)) from (tableColumn field (now (maps .entry)) (now (table .entry))) ⌝ }
 {
@@ -107,7 +108,7 @@ fn put_column(out: &mut [u8], from: usize, field: Field, maps: &[u8], table: &[u
 
 // A column's values from a place on, each into its turn's row of a table; the place behind the column.
 fn read_column(k: &[u8], from: usize, field: Field, maps: &[u8], table: &mut [u16]) -> usize
-    requires { ⌜ Laid field × (from + columnSize field (now maps) ≤ length (now k)) × (rowNumbers * length (now maps) ≤ length (now table)) ⌝ }
+    requires { ⌜ ColumnsLaid field × (from + columnSize field (now maps) ≤ length (now k)) × (rowNumbers * length (now maps) ≤ length (now table)) ⌝ }
     ensures { λ r. ⌜ r ≡ from + columnSize field (now (maps .entry)) ⌝ }
     ensures { λ _. ⌜ now (table .exit) ≡ spread (now (table .entry)) (field .place) (columnRead field (now (maps .entry)) (now (k .entry)) from 0) ⌝ }
 {

@@ -3,7 +3,7 @@ use Prim.Native.Nat.{ℕ, _<_}
 use mathlib.Core.Path.{_≡_, sym, ap, _∙_}
 use mathlib.Core.List.{List}
 use native.Mathlib.Omega.{arith}
-use lib.ListN.{length, drop}
+use lib.ListN.{length, take, drop}
 use lib.Seq.{take-at, drop-at}
 use Rattle.refusal.specs.Cause.{firstOf}
 use Rattle.model.specs.Turns.{NoDrivers}
@@ -59,10 +59,17 @@ best-promised s lent e =
     let is = best-is-found s lent e in
     let places : length (mapOf (bestChoice (sheetTurns s))) ≡ mapBytes (turnCount s) =
     map-length (bestChoice (sheetTurns s)) ∙ ap mapBytes (best-length (sheetTurns s) ∙ sheet-count s z) in
+    let first : take (mapBytes (turnCount s)) (exactOf s lent .lent) ≡ mapOf (bestChoice (sheetTurns s)) =
+    rw is (take-at (mapOf (bestChoice (sheetTurns s))) _ (mapBytes (turnCount s)) places) in
     record {
+      mapped = first;
+      places = best-length (sheetTurns s);
+      apart = best .apart;
+      earns = rw is (best .earns);
+      latest = best .latest;
       attained = (bestTurns (sheetTurns s), set .feasible, rw is (set .earns));
       greatest = λ R f. rw is (best .greatest R f);
       planned-worth = rw is (best .planned-worth);
-      planned-map = rw is (take-at (mapOf (bestChoice (sheetTurns s))) _ (mapBytes (turnCount s)) places) ∙ sym (best .planned-map);
+      planned-map = first ∙ sym (best .planned-map);
       behind = rw (is, places) (drop-at (mapOf (bestChoice (sheetTurns s))) (drop (mapBytes (turnCount s)) lent) (mapBytes (turnCount s)) places);
     }

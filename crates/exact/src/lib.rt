@@ -1,5 +1,5 @@
-// Shifts with one turn a slope and no drivers: the best worth by a table over the turns of each groomer
-// in order of end, and a set that earns it.
+// Shifts with one turn a slope and no drivers: the best worth, which the table of crate besttable gives, and
+// a set that earns it.
 ghost use mathlib.Core.Path.{_≡_};
 ghost use lib.ListN.{length, replicate};
 ghost use Rattle.choicemap.specs.Choice.{mapBytes, mapOf};

@@ -82,9 +82,9 @@ module _ (s lent : List ℕ) (e : chargeOf s lent .refusal ≡ 0) where
   charge-promises = hall-promises (hallOf s) charge-in-range
 
 -- a refusal leaves the lent bytes as they were, and gives no worth
-pub charge-kept : (s lent : List ℕ) → (chargeOf s lent .refusal ≡ 0 → ⊥) → chargeOf s lent ≡ hallRefused (chargeOf s lent .refusal) lent
+pub charge-unchanged : (s lent : List ℕ) → (chargeOf s lent .refusal ≡ 0 → ⊥) → chargeOf s lent ≡ hallRefused (chargeOf s lent .refusal) lent
 unfolding chargeOf
-charge-kept s lent n = go (firstOf (chargeCauses s (length lent))) (λ q. n (charge-number s lent ∙ q))
+charge-unchanged s lent n = go (firstOf (chargeCauses s (length lent))) (λ q. n (charge-number s lent ∙ q))
   where
     go : (f : ℕ) → (f ≡ 0 → ⊥) → cond (eqb f 0) (hallFound (hallOf s) lent) (hallRefused f lent) ≡ hallRefused (cond (eqb f 0) (hallFound (hallOf s) lent) (hallRefused f lent) .refusal) lent
     go f q = rw (ne-eqb f 0 q)

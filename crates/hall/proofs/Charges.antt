@@ -32,13 +32,13 @@ use Rattle.problem.proofs.Posed.{sheet-count-for, sheet-slopes-for, sheet-groom
 use Rattle.problem.proofs.Rows.{count-is}
 use Rattle.choices.specs.Below.{chosenBelow}
 use Rattle.choices.specs.Bounds.{StepsOf}
-use Rattle.hallmodel.specs.Hall.{Hall, windowCount}
+use Rattle.hallmodel.specs.Hall.{mostUnits, mostVehicles, Hall, windowCount}
 use Rattle.hallmodel.specs.Plan.{chooseAmong, wideChoice, smallChoice, worthIn, hallChoice, hallWorth}
 use Rattle.hallmodel.proofs.Allowing.{chosen-length}
 use Rattle.hallmodel.proofs.Halls.{greater-first, greater-second, plan-length}
 use Rattle.charging.specs.declared.among.Among.{Among}
 use Rattle.charging.specs.Among.{hallBy, ofKind, stepsBy}
-use Rattle.charging.specs.Bounds.{HallHeld, mostUnits, mostVehicles}
+use Rattle.charging.specs.Bounds.{HallHeld}
 use Rattle.charging.proofs.Written.{written-few, written-read, written-inside}
 use Rattle.hall.specs.declared.ChargeAnswer.{ChargeAnswer}
 use Rattle.hall.specs.OneKind.{kindChoice, hallIn, HeldHall}
@@ -163,7 +163,7 @@ module _ (units : ℕ) (p : Size) (cols lent : List ℕ) {size : ℕ} (m : size 
   unfolding chargeIn
   hall-done l h k = rw (le-ltb (length lent) (mapBytes (turnsBy p cols .count)) (omega (arith, m, ap mapBytes (count-is p cols))), h, k, plan-places)
 
-pub ruleset hall-cases = (hall-small, hall-room, hall-done)
+pub ruleset charge-in-cases = (hall-small, hall-room, hall-done)
 
 -- ---- the sheet's kind
 

@@ -13,9 +13,8 @@ use Rattle.sheet.specs.Read.{countsIn, turnCount, turnsOf, causesFor, atFront}
 use Rattle.sheet.specs.Accepted.{AcceptedFor, LentCauseFor}
 use Rattle.choicemap.specs.Choice.{mapBytes, mapOf}
 use Rattle.problem.specs.Problem.{problemOf}
-use Rattle.hallmodel.specs.Hall.{Hall, windowCount}
+use Rattle.hallmodel.specs.Hall.{mostUnits, mostVehicles, Hall, windowCount}
 use Rattle.hallmodel.specs.Plan.{hallChoice, hallWorth}
-use Rattle.charging.specs.Bounds.{mostUnits, mostVehicles}
 
 -- a charging sheet: where the garage's has groomers and slopes, it has units and vehicles; every map is without the driver; and a draw out of range has a number of its own
 unfoldable pub chargingSheet : Kind

@@ -9,8 +9,7 @@ use lib.Dec.{leb, eqb}
 use Rattle.lists.specs.Lists.{every}
 use Rattle.turns.specs.Turn.{shiftMinutes}
 use Rattle.problem.specs.declared.ways.Row.{Row}
-use Rattle.hallmodel.specs.Hall.{Hall, windowCount, vehicle, drawnAt, vehicleFree}
-use Rattle.charging.specs.Bounds.{mostUnits, mostVehicles}
+use Rattle.hallmodel.specs.Hall.{mostUnits, mostVehicles, Hall, windowCount, vehicle, drawnAt, vehicleFree}
 
 -- the places: the minutes of a shift, then vehicles by their numbers from 0
 abbrev pub usedPlaces : ℕ

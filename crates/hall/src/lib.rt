@@ -77,7 +77,8 @@ fn plan_kind(a: Among, cols: &[u16; PLACES], map: &mut [u8]) -> u32
     choices::chosen_worth(a.size, cols, &*map)
 }
 
-// Writes the map of the plan of greater worth, the small windows' where they are equal; returns its worth.
+// Plans both kinds, each into a map of its own, and copies one of them out: the wide windows' only if it earns
+// more than the other. Returns what the copied one earns.
 fn write_plan(units: u16, p: Size, cols: &[u16; PLACES], map: &mut [u8]) -> u32
     requires { ⌜ HeldHall units p (now cols) × (length (now map) ≡ mapBytes (p .count)) ⌝ }
     ensures { λ r. ⌜ r ≡ hallWorth (hallIn units p (now (cols .entry))) ⌝ }

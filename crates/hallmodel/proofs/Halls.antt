@@ -160,6 +160,10 @@ module _ (H : Hall) where
           greater-most (wideChoice H) (smallChoice H),
         )
 
+    covered : (worthIn H (wideChoice H) ≤ hallWorth H) × (worthIn H (smallChoice H) ≤ hallWorth H)
+    unfolding hallWorth hallChoice
+    covered = greater-most (wideChoice H) (smallChoice H)
+
     tied : worthIn H (wideChoice H) ≡ worthIn H (smallChoice H) → hallChoice H ≡ smallChoice H
     unfolding hallChoice
     tied e = greater-second (wideChoice H) (smallChoice H) (omega arith)
@@ -174,5 +178,7 @@ module _ (H : Hall) where
           small-bound = small-thrice;
           small-covered = small-earns H good;
           hall-bound = five-times;
+          covers-wide = covered .0;
+          covers-small = covered .1;
           tie = tied;
         }

@@ -9,6 +9,14 @@ use Rattle.model.specs.Turns.{Turns, overlapping, PositiveLengths}
 use Rattle.model.specs.Choice.{has, chosen, members}
 use Rattle.model.specs.Feasible.{Distinct}
 
+-- the most units that a hall has, of which there is at least one
+abbrev pub mostUnits : ℕ
+mostUnits = 48
+
+-- the most vehicles, likewise
+abbrev pub mostVehicles : ℕ
+mostVehicles = 60
+
 -- a hall: the units of its supply, and its windows, which are turns whose slope is the vehicle and whose groomer is the draw; their gap and drivers play no part
 pub record Hall : Type 0 where
   pub units : ℕ

@@ -28,5 +28,8 @@ pub record HallPromises (H : Hall) : Type 0 where
   pub small-covered : tally (smallSteps H) ≤ worthIn H (smallChoice H)
   -- every allowed set is worth at most five times what the hall's plan is, and the units for each small step
   pub hall-bound : (R : List ℕ) → Allowed H R → worthOfWindows H R ≤ 5 * hallWorth H + H .units * length (smallSteps H)
+  -- neither plan is worth more
+  pub covers-wide : worthIn H (wideChoice H) ≤ hallWorth H
+  pub covers-small : worthIn H (smallChoice H) ≤ hallWorth H
   -- of two plans of one worth it is the small windows'
   pub tie : worthIn H (wideChoice H) ≡ worthIn H (smallChoice H) → hallChoice H ≡ smallChoice H

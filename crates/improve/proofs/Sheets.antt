@@ -1,28 +1,38 @@
 -- The entry keeps its promises for every sheet that it does not refuse. Assumes nothing.
-use mathlib.Core.Path.{_≡_, refl, sym, ap, _∙_}
-use mathlib.Core.List.{List, [], _∷_}
-use Prim.Native.Nat.{ℕ, _+_, _-_, _^_, _≤_, _<_}
+use mathlib.Core.Path.{_≡_, sym, ap, _∙_}
+use mathlib.Core.Logic.{_≢_}
+use mathlib.Core.Bool.{true}
+use mathlib.Core.List.{List, [], _∷_, _++_}
+use Prim.Native.Nat.{ℕ, _+_, _≤_}
 use native.Mathlib.Omega.{arith}
 use native.Mathlib.Nat.{pow-le-pow-right}
-use lib.Dec.{ltb, eqb}
-use lib.ListN.{length}
+use lib.Dec.{ltb}
+use lib.ListN.{length, take, drop}
+use lib.Seq.{take-at, drop-at}
 use borrow.Author.Tests.{eq-eqb, ltb-false}
 use Rattle.refusal.specs.Number.{bufferTooSmall, tooManyToSearch}
 use Rattle.refusal.specs.Cause.{_when_, firstOf}
 use Rattle.refusal.proofs.Order.{clear-append, clear-cons}
 use Rattle.model.specs.Pick.{steps}
+use Rattle.model.specs.Choice.{choice}
 use Rattle.model.specs.Ceiling.{ceiling}
-use Rattle.searching.specs.Sets.{wholeVisits}
-use Rattle.searching.specs.Search.{searchAll}
-use Rattle.searching.specs.Promises.{SearchPromises}
-use Rattle.searching.proofs.Promised.{visits-most, search-promises}
+use Rattle.model.proofs.Promised.{planned-length, planned-promises}
+use Rattle.searching.specs.Search.{Progress, searchAll}
+use Rattle.searching.specs.Promises.{visitsMade, SearchPromises}
+use Rattle.searching.proofs.Promised.{visits-most, visits-empty, none-allowed, search-promises}
 use Rattle.sheet.specs.Read.{turnCount, sheetCauses}
 use Rattle.sheet.proofs.Readings.{sheet-numbered}
-use Rattle.choicemap.specs.Choice.{mapBytes}
+use Rattle.sheet.proofs.Unrefused.{few-turns}
+use Rattle.choicemap.specs.Choice.{mapBytes, mapOf}
+use Rattle.choicemap.proofs.Clean.{map-length}
+use Rattle.board.proofs.Written as written
 use Rattle.problem.specs.Problem.{sheetTurns}
 use Rattle.problem.proofs.Posed.{sheet-count, sheet-lengths}
+use Rattle.planning.specs.Plan.{boardFor, plannedBoard}
+use Rattle.planning.proofs.Planned.{planned-back}
+use Rattle.improve.specs.Words.{wordBits}
 use Rattle.improve.specs.Improve.{mostSearched, improveCauses, Improvement, improvedFor, improveOf}
-use Rattle.improve.specs.Sheet.{ImprovedSheet}
+use Rattle.improve.specs.Sheet.{MapOfSet, ImprovedSheet, PlanComesBack}
 use Rattle.improve.proofs.ImproveCauses.{improve-number, afterSheet}
 
 module _ (s : List ℕ) (limit : ℕ) (lent : List ℕ) (z : improveOf s limit lent .refusal ≡ 0) where
@@ -47,11 +57,76 @@ module _ (s : List ℕ) (limit : ℕ) (lent : List ℕ) (z : improveOf s limit l
   unfolding improvedFor
   sum-is = omega (arith, promised .within-ceiling)
 
+  -- ---- the answer's fields
+
+  worth-is : improveOf s limit lent .worth ≡ searchAll (sheetTurns s) limit .worth
+  unfolding improvedFor
+  worth-is = ap (λ (x : Improvement). x .worth) answered
+
+  whole-is : improveOf s limit lent .whole ≡ searchAll (sheetTurns s) limit .whole
+  unfolding improvedFor
+  whole-is = ap (λ (x : Improvement). x .whole) answered
+
+  visits-are : improveOf s limit lent .visits ≡ visitsMade (sheetTurns s) limit
+  unfolding improvedFor
+  visits-are = ap (λ (x : Improvement). x .visits) answered
+
+  best-map : List ℕ
+  best-map = mapOf (searchAll (sheetTurns s) limit .best)
+
+  lent-is : improveOf s limit lent .lent ≡ best-map ++ drop (length best-map) lent
+  unfolding improvedFor best-map
+  lent-is = ap (λ (x : Improvement). x .lent) answered
+
+  map-size : length best-map ≡ mapBytes (turnCount s)
+  unfolding best-map
+  map-size = map-length (searchAll (sheetTurns s) limit .best) ∙ ap mapBytes (promised .places ∙ sheet-count s (split .0))
+
+  map-first : take (mapBytes (turnCount s)) (improveOf s limit lent .lent) ≡ best-map
+  map-first = rw lent-is (take-at best-map (drop (length best-map) lent) (mapBytes (turnCount s)) map-size)
+
+  bytes-behind : drop (mapBytes (turnCount s)) (improveOf s limit lent .lent) ≡ drop (mapBytes (turnCount s)) lent
+  bytes-behind = rw (lent-is, map-size) (drop-at best-map (drop (mapBytes (turnCount s)) lent) (mapBytes (turnCount s)) map-size)
+
+  sum-whole : improveOf s limit lent .worth + improveOf s limit lent .above ≡ ceiling (sheetTurns s) (steps (sheetTurns s))
+  sum-whole = ap (λ (x : Improvement). x .worth + x .above) answered ∙ sum-is
+
+  map-held : MapOfSet (sheetTurns s) (improveOf s limit lent .worth) (take (mapBytes (turnCount s)) (improveOf s limit lent .lent))
+  unfolding best-map
+  map-held = record { set = searchAll (sheetTurns s) limit .best; places = promised .places; apart = promised .apart; earns = promised .earns ∙ sym worth-is; map-is = map-first }
+
   pub improved-sheet : ImprovedSheet s limit lent
   improved-sheet =
       record {
         found = answered;
         promises = promised;
-        up-to-ceiling = ap (λ (x : Improvement). x .worth + x .above) answered ∙ sum-is;
-        countable = omega (arith, visits-most (sheetTurns s), pow-le-pow-right {n = 2} (omega arith) {i = sheetTurns s .count} {j = 64} (omega (arith, sheet-count s (split .0), few)));
+        up-to-ceiling = sum-whole;
+        bounded = λ R f. omega (arith, sum-whole, planned-promises (sheetTurns s) (sheet-lengths s (split .0)) .within-ceiling R f);
+        countable = omega (arith, visits-most (sheetTurns s), pow-le-pow-right {n = 2} (omega arith) {i = sheetTurns s .count} {j = wordBits} (omega (arith, sheet-count s (split .0), few)));
+        all-used = λ l. visits-are ∙ promised .all-used l;
+        all-made = λ l. visits-are ∙ promised .all-made l;
+        ran-whole = (λ w. promised .ran-whole .0 (sym whole-is ∙ w), λ l. whole-is ∙ promised .ran-whole .1 l);
+        greatest = λ w R f. omega (arith, worth-is, promised .greatest (sym whole-is ∙ w) R f);
+        mapped = map-held;
+        behind = bytes-behind;
+        no-less = omega (arith, worth-is, promised .no-less, planned-back s (split .0) .worth);
       }
+
+  -- ---- the ends
+
+  -- without turns every search is whole, whatever it is allowed
+  pub no-turns-whole : turnCount s ≡ 0 → improveOf s limit lent .whole ≡ true
+  no-turns-whole e = improved-sheet .ran-whole .1 (omega (arith, visits-empty (sheetTurns s) (sheet-count s (split .0) ∙ e)))
+
+-- with no visit allowed, and a turn to visit, the planned board's set comes back
+pub none-allowed-plan : (s lent : List ℕ) → improveOf s 0 lent .refusal ≡ 0 → turnCount s ≢ 0 → PlanComesBack s 0 lent
+unfolding best-map plannedBoard boardFor
+none-allowed-plan s lent z h =
+    let accepted = split s 0 lent z .0 in
+    let e = none-allowed (sheetTurns s) (λ q. h (sym (sheet-count s accepted) ∙ q)) in
+    record {
+      worth-is = worth-is s 0 lent z ∙ ap (λ (x : Progress). x .worth) e ∙ sym (planned-back s accepted .worth);
+      map-is =
+          map-first s 0 lent z ∙ ap (λ (x : Progress). mapOf (x .best)) e
+          ∙ sym (written.map-read (choice (sheetTurns s)) (steps (sheetTurns s)) _ _ (omega (arith, planned-length (sheetTurns s), sheet-count s accepted, few-turns s accepted)));
+    }

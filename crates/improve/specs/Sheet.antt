@@ -1,22 +1,62 @@
 -- What the entry promises of a sheet that it does not refuse. Assumes nothing.
 use mathlib.Core.Path.{_≡_}
+use mathlib.Core.Logic.{_↔_}
+use mathlib.Core.Bool.{Bool, true}
 use mathlib.Core.List.{List}
-use Prim.Native.Nat.{ℕ, _+_, _^_, _<_}
+use Prim.Native.Nat.{ℕ, _+_, _^_, _≤_, _<_}
+use lib.ListN.{length, take, drop}
+use Rattle.model.specs.Turns.{Turns}
 use Rattle.model.specs.Pick.{steps}
+use Rattle.model.specs.Choice.{chosen}
+use Rattle.model.specs.Rules.{Independent}
+use Rattle.model.specs.Feasible.{Feasible, worthOf}
 use Rattle.model.specs.Ceiling.{ceiling}
 use Rattle.searching.specs.Sets.{wholeVisits}
 use Rattle.searching.specs.Promises.{SearchPromises}
+use Rattle.sheet.specs.Read.{turnCount}
+use Rattle.choicemap.specs.Choice.{mapBytes, mapOf}
+use Rattle.board.specs.Board.{boardWorth, boardMap}
 use Rattle.problem.specs.Problem.{sheetTurns}
+use Rattle.planning.specs.Plan.{plannedBoard}
+use Rattle.improve.specs.Words.{wordBits}
 use Rattle.improve.specs.Improve.{improvedFor, improveOf}
 
 -- ---- as statements
+
+-- a map is that of a set of turns without conflict, which earns so much
+pub record MapOfSet (T : Turns) (worth : ℕ) (map : List ℕ) : Type 0 where
+  pub set : List Bool
+  pub places : length set ≡ T .count
+  pub apart : Independent T set
+  pub earns : chosen (T .count) set (T .worth) ≡ worth
+  pub map-is : map ≡ mapOf set
 
 pub record ImprovedSheet (s : List ℕ) (limit : ℕ) (lent : List ℕ) : Type 0 where
   -- the answer is what the search finds
   pub found : improveOf s limit lent ≡ improvedFor (sheetTurns s) limit lent
   -- which keeps the search's promises
   pub promises : SearchPromises (sheetTurns s) limit
-  -- the worth and how far the ceiling is above it make the ceiling: nothing is cut off at 0
+  -- the worth and what the ceiling exceeds it by make the ceiling: nothing is cut off at 0
   pub up-to-ceiling : improveOf s limit lent .worth + improveOf s limit lent .above ≡ ceiling (sheetTurns s) (steps (sheetTurns s))
+  -- no feasible set earns more than the two together
+  pub bounded : (R : List ℕ) → Feasible (sheetTurns s) R → worthOf (sheetTurns s) R ≤ improveOf s limit lent .worth + improveOf s limit lent .above
   -- a whole search's visits are a number of 64 bits
-  pub countable : wholeVisits (sheetTurns s) < 2 ^ 64
+  pub countable : wholeVisits (sheetTurns s) < 2 ^ wordBits
+  -- a limit no greater than the whole search needs is used up; with a greater one the visits are what the whole search needs
+  pub all-used : limit ≤ wholeVisits (sheetTurns s) → improveOf s limit lent .visits ≡ limit
+  pub all-made : wholeVisits (sheetTurns s) ≤ limit → improveOf s limit lent .visits ≡ wholeVisits (sheetTurns s)
+  -- the search ran whole just if the limit allows them all
+  pub ran-whole : (improveOf s limit lent .whole ≡ true) ↔ (wholeVisits (sheetTurns s) ≤ limit)
+  -- then no feasible set earns more than the worth
+  pub greatest : improveOf s limit lent .whole ≡ true → (R : List ℕ) → Feasible (sheetTurns s) R → worthOf (sheetTurns s) R ≤ improveOf s limit lent .worth
+  -- the lent bytes begin with the map of a set without conflict that earns the worth
+  pub mapped : MapOfSet (sheetTurns s) (improveOf s limit lent .worth) (take (mapBytes (turnCount s)) (improveOf s limit lent .lent))
+  -- the bytes behind the map stay as they were
+  pub behind : drop (mapBytes (turnCount s)) (improveOf s limit lent .lent) ≡ drop (mapBytes (turnCount s)) lent
+  -- the planned board is worth no more
+  pub no-less : boardWorth (plannedBoard s) ≤ improveOf s limit lent .worth
+
+-- the answer has the planned board's set
+pub record PlanComesBack (s : List ℕ) (limit : ℕ) (lent : List ℕ) : Type 0 where
+  pub worth-is : improveOf s limit lent .worth ≡ boardWorth (plannedBoard s)
+  pub map-is : take (mapBytes (turnCount s)) (improveOf s limit lent .lent) ≡ boardMap (plannedBoard s)

@@ -1,3 +1,4 @@
 pub mod Searches
 pub mod Promised
+pub mod Costs
 pub mod Sets

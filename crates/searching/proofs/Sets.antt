@@ -1,12 +1,12 @@
--- The list of sets: which ones it has, their order, and that a search compares the first of them, all if its visits last. Assumes nothing.
+-- The list of sets: which ones it has, their order, and that a search compares those that its limit pays for. Assumes nothing.
 use mathlib.Core.Path.{_≡_, refl, sym, ap, _∙_}
 use mathlib.Core.Logic.{_⊎_, inl, inr, _↔_}
-use mathlib.Core.Bool.{Bool, true, false, cond}
+use mathlib.Core.Bool.{Bool, true, false}
 use mathlib.Core.List.{List, [], _∷_, _++_}
 use Prim.Native.Nat.{ℕ, zero, suc, _+_, _-_, _≤_, _<_}
 use native.Mathlib.Omega.{arith}
-use native.Mathlib.Decide.{decLt, ℕ-discrete}
-use lib.ListN.{length, set, take, length-set, length-append, length-replicate}
+use native.Mathlib.Decide.{decLt}
+use lib.ListN.{length, set, take, length-set, length-replicate}
 use lib.Seq.{getD-set-same, getD-set-other, ext-getD, take-all}
 use Rattle.lists.proofs.Bools.{fails, not-both}
 use Rattle.model.specs.Turns.{Turns, PositiveLengths}
@@ -15,10 +15,11 @@ use Rattle.model.proofs.Choices.{none-chosen}
 use Rattle.model.proofs.Filled.{NoConflict, put-apart}
 use Rattle.model.proofs.Minutes
 use Rattle.model.proofs.Readings.{apart-reads}
-use Rattle.searching.specs.Search.{Progress, worthOfChoice, compared, visited, searchFrom, noneTaken, fromPlan, searchAll}
-use Rattle.searching.specs.Sets.{setsFrom, setsOf, comparedAll, wholeVisits, ListedSet, here, there, SetOf, ComesBefore, SetsInOrder, empty, leads, Compares}
+use Rattle.searching.specs.Search.{Progress, worthOfChoice, compared, visited, cutShort, searchFrom, noneTaken, fromPlan, searchAll}
+use Rattle.searching.specs.Sets.{setsFrom, setsOf, oneMore, costsFrom, paidFor, setsWithin, comparedAll, ListedSet, here, there, SetOf, ComesBefore, SetsInOrder, empty, leads, Compares}
 use Rattle.searching.proofs.Promised.{whole-visits}
-use Rattle.searching.proofs.Searches.{compared-cases, sets-with, sets-without, visitsFrom, visits-with, visits-without, visits-some, visits-none, search-visits, search-none, search-ind, Begins, begins-fits, begins-with, begins-without}
+use Rattle.searching.proofs.Costs.{total, paid-none, paid-more, paid-few, paid-past, paid-within, paid-all, costs-with, costs-without, costs-last, costs-length, costs-total}
+use Rattle.searching.proofs.Searches.{compared-cases, sets-with, sets-without, visitsFrom, visits-none, search-visits, search-none, search-ind, Begins, begins-fits, begins-with, begins-without}
 
 -- ---- lists of sets
 
@@ -226,89 +227,89 @@ module _ (T : Turns) where
   all-both [] Bs x = refl
   all-both (A ∷ As) Bs x = all-both As Bs (compared T A x)
 
-  -- y is what comparing the first of some sets makes of x, all of them where the visits last
-  record Reaches (enough : Type 0) (Ss : List (List Bool)) (x y : Progress) : Type 0 where
-    many : ℕ
-    few : many ≤ length Ss
-    all : enough → many ≡ length Ss
-    found : SameBest y (comparedAll T (take many Ss) x)
+  -- y is what comparing the first of some sets makes of x, those that its visits pay for
+  abbrev Reaches : List ℕ → List (List Bool) → Progress → Progress → Type 0
+  Reaches cs Ss x y = SameBest y (comparedAll T (take (paidFor (x .visits) cs) Ss) x)
 
-  reaches-one : (t : ℕ) (S : List Bool) (x : Progress) → Reaches (visitsFrom T 0 t S ≤ x .visits) (setsFrom T 0 t S) x (compared T S x)
+  reaches-one : (t : ℕ) (S : List Bool) (x : Progress) → Reaches (costsFrom T 0 t S) (setsFrom T 0 t S) x (compared T S x)
   unfolding setsFrom comparedAll
-  reaches-one t S x = record { many = 1; few = omega arith; all = λ l. refl; found = record { worth-is = refl; best-is = refl } }
+  reaches-one t S x =
+      let e : paidFor (x .visits) (costsFrom T 0 t S) ≡ 1 = ap (paidFor (x .visits)) (costs-last T t S) ∙ paid-all (x .visits) (0 ∷ []) (omega arith) in
+      rw e (record { worth-is = refl; best-is = refl })
 
-  reaches-none : {enough : Type 0} (Ss : List (List Bool)) (x y : Progress) → (enough → ⊥) → SameBest y x → Reaches enough Ss x y
+  -- with no visit left nothing is compared
+  reaches-none : (cs : List ℕ) (Ss : List (List Bool)) (x y : Progress) → x .visits ≡ 0 → SameBest y x → Reaches (oneMore cs) Ss x y
   unfolding comparedAll
-  reaches-none Ss x y n s = record { many = 0; few = omega arith; all = λ e. absurd (n e); found = s }
+  reaches-none cs Ss x y z s = let e : paidFor (x .visits) (oneMore cs) ≡ 0 = ap (λ (v : ℕ). paidFor v (oneMore cs)) z ∙ paid-none cs in rw e s
 
-  reaches-both : {P Q R : Type 0} (As Bs : List (List Bool)) (x y z : Progress) → P → (R → Q) → Reaches P As x y → Reaches Q Bs y z → Reaches R (As ++ Bs) x z
-  reaches-both As Bs x y z p q a b =
-      record {
-        many = length As + b .many;
-        few = omega (arith, b .few, length-append As Bs);
-        all = λ r. omega (arith, b .all (q r), length-append As Bs);
-        found = rw (take-past As Bs (b .many) (length As + b .many) refl, all-both As (take (b .many) Bs) x)
-            (same-trans (b .found) (all-alike (take (b .many) Bs) y (comparedAll T As x) (rw (whole-taken) at (a .found))));
-      }
+  -- a visit is made, and then the first sets are compared
+  reaches-visited : (cs : List ℕ) (Ss : List (List Bool)) (x y : Progress) → (x .visits ≡ 0 → ⊥) → Reaches cs Ss (visited x) y → Reaches (oneMore cs) Ss x y
+  reaches-visited cs Ss x y z r =
+      rw (paid-more (x .visits) cs z) (same-trans r (all-alike (take (paidFor (x .visits - 1) cs) Ss) (visited x) x (record { worth-is = refl; best-is = refl })))
+
+  module _ (cs ds : List ℕ) (As Bs : List (List Bool)) (size : length cs ≡ length As) (x y z : Progress) (r : Reaches cs As x y) where
+    reaches-both : total cs ≤ x .visits → y .visits ≡ x .visits - total cs → Reaches ds Bs y z → Reaches (cs ++ ds) (As ++ Bs) x z
+    reaches-both l v q =
+        let e : paidFor (x .visits) (cs ++ ds) ≡ length As + paidFor (y .visits) ds = paid-past (x .visits) cs ds l ∙ rw (size, v) in
+        let k : take (paidFor (x .visits) cs) As ≡ As = take-all (paidFor (x .visits) cs) As (omega (arith, paid-all (x .visits) cs l)) in
+        rw (e, take-past As Bs (paidFor (y .visits) ds) (length As + paidFor (y .visits) ds) refl, all-both As (take (paidFor (y .visits) ds) Bs) x)
+        (same-trans q (all-alike (take (paidFor (y .visits) ds) Bs) y (comparedAll T As x) (rw k at r)))
+
+    reaches-first : x .visits < total cs → SameBest z y → Reaches (cs ++ ds) (As ++ Bs) x z
+    reaches-first l s = rw (paid-within (x .visits) cs ds l, take-within As Bs (paidFor (x .visits) cs) (omega (arith, paid-few (x .visits) cs))) (same-trans s r)
+
+  -- with no visit left a turn ends the search
+  spent : (left t : ℕ) (S : List Bool) (y : Progress) → (left ≡ 0 → ⊥) → y .visits ≡ 0 → SameBest (searchFrom T left t S y) y
+  spent zero t S y z e = absurd (z refl)
+  spent (suc left) t S y z e = rw (search-none T left t S y e) (record { worth-is = refl; best-is = refl })
+
+  some-left : (left t : ℕ) (S : List Bool) → 1 ≤ visitsFrom T left t S → left ≡ 0 → ⊥
+  some-left left t S l q = let v : visitsFrom T left t S ≡ 0 = ap (λ (k : ℕ). visitsFrom T k t S) q ∙ visits-none T t S in omega (arith, v)
+
+  -- the sets with turn t, then those without it
+  module _ (left t : ℕ) (S : List Bool) (x : Progress)
+      (ih : (y : Progress) → Reaches (costsFrom T left (suc t) (set S t true)) (setsFrom T left (suc t) (set S t true)) y (searchFrom T left (suc t) (set S t true) y))
+      (jh : (y : Progress) → Reaches (costsFrom T left (suc t) S) (setsFrom T left (suc t) S) y (searchFrom T left (suc t) S y)) where
+    reaches-with : Dec (x .visits < visitsFrom T left (suc t) (set S t true))
+        → Reaches (costsFrom T left (suc t) (set S t true) ++ costsFrom T left (suc t) S) (setsFrom T left (suc t) (set S t true) ++ setsFrom T left (suc t) S) x
+        (searchFrom T left (suc t) S (searchFrom T left (suc t) (set S t true) x))
+    reaches-with (yes l) =
+        reaches-first (costsFrom T left (suc t) (set S t true)) (costsFrom T left (suc t) S) (setsFrom T left (suc t) (set S t true)) (setsFrom T left (suc t) S)
+        (costs-length T left (suc t) (set S t true)) x (searchFrom T left (suc t) (set S t true) x) _ (ih x) (omega (arith, costs-total T left (suc t) (set S t true)))
+        (spent left (suc t) S (searchFrom T left (suc t) (set S t true) x) (some-left left (suc t) (set S t true) (omega arith)) (omega (arith, search-visits T left (suc t) (set S t true) x)))
+    reaches-with (no l) =
+        reaches-both (costsFrom T left (suc t) (set S t true)) (costsFrom T left (suc t) S) (setsFrom T left (suc t) (set S t true)) (setsFrom T left (suc t) S)
+        (costs-length T left (suc t) (set S t true)) x (searchFrom T left (suc t) (set S t true) x) _ (ih x) (omega (arith, costs-total T left (suc t) (set S t true)))
+        (omega (arith, search-visits T left (suc t) (set S t true) x, costs-total T left (suc t) (set S t true))) (jh (searchFrom T left (suc t) (set S t true) x))
+
+  none-costs : (left t : ℕ) (S : List Bool) (x : Progress) → x .visits ≡ 0 → Reaches (costsFrom T (suc left) t S) (setsFrom T (suc left) t S) x (cutShort x)
+  none-costs left t S x z = go (fits T S t) refl
     where
-      whole-taken : take (a .many) As ≡ As
-      whole-taken = take-all (a .many) As (omega (arith, a .all p))
+      go : (b : Bool) → fits T S t ≡ b → Reaches (costsFrom T (suc left) t S) (setsFrom T (suc left) t S) x (cutShort x)
+      go true f = rw (costs-with T left t S f) (reaches-none _ (setsFrom T (suc left) t S) x (cutShort x) z (record { worth-is = refl; best-is = refl }))
+      go false f = rw (costs-without T left t S f) (reaches-none _ (setsFrom T (suc left) t S) x (cutShort x) z (record { worth-is = refl; best-is = refl }))
 
-  reaches-first : {P R : Type 0} (As Bs : List (List Bool)) (x y z : Progress) → (R → ⊥) → SameBest z y → Reaches P As x y → Reaches R (As ++ Bs) x z
-  reaches-first As Bs x y z n s a =
-      record {
-        many = a .many;
-        few = omega (arith, a .few, length-append As Bs);
-        all = λ r. absurd (n r);
-        found = rw (take-within As Bs (a .many) (a .few)) (same-trans s (a .found));
-      }
-
-  reaches-alike : {P Q : Type 0} (Ss : List (List Bool)) (x z y : Progress) → (Q → P) → SameBest z x → Reaches P Ss z y → Reaches Q Ss x y
-  reaches-alike Ss x z y q s a = record { many = a .many; few = a .few; all = λ e. a .all (q e); found = same-trans (a .found) (all-alike (take (a .many) Ss) z x s) }
-
-  same-visited : (x : Progress) → SameBest (visited x) x
-  same-visited x = record { worth-is = refl; best-is = refl }
-
-  search-reaches : (left t : ℕ) (S : List Bool) (x : Progress) → Reaches (visitsFrom T left t S ≤ x .visits) (setsFrom T left t S) x (searchFrom T left t S x)
+  search-reaches : (left t : ℕ) (S : List Bool) (x : Progress) → Reaches (costsFrom T left t S) (setsFrom T left t S) x (searchFrom T left t S x)
   search-reaches =
-      search-ind T (λ left t S x y. Reaches (visitsFrom T left t S ≤ x .visits) (setsFrom T left t S) x y)
+      search-ind T (λ left t S x y. Reaches (costsFrom T left t S) (setsFrom T left t S) x y)
       reaches-one
-      (λ left t S x z. reaches-none (setsFrom T (suc left) t S) x _ (λ l. omega (arith, visits-some T left t S)) (record { worth-is = refl; best-is = refl }))
+      none-costs
       (λ left t S x z f ih jh.
-      rw (sets-with T left t S f)
-      (both left t S x f z (reaches-alike (setsFrom T left (suc t) (set S t true)) x (visited x) (searchFrom T left (suc t) (set S t true) (visited x)) (λ e. e) (same-visited x) (ih (visited x)))
-      (jh (searchFrom T left (suc t) (set S t true) (visited x))) (decLt (x .visits - 1) (visitsFrom T left (suc t) (set S t true)))))
-      (λ left t S x z f jh.
-      rw (sets-without T left t S f)
-      (reaches-alike (setsFrom T left (suc t) S) x (visited x) (searchFrom T left (suc t) S (visited x)) (λ l. omega (arith, visits-without T left t S f)) (same-visited x) (jh (visited x))))
-    where
-      -- with no visit left, past the first part nothing is compared
-      spent : (left t : ℕ) (S : List Bool) (y : Progress) → (left ≡ 0 → ⊥) → y .visits ≡ 0 → SameBest (searchFrom T left t S y) y
-      spent zero t S y z e = absurd (z refl)
-      spent (suc left) t S y z e = rw (search-none T left t S y e) (record { worth-is = refl; best-is = refl })
-
-      both : (left t : ℕ) (S : List Bool) (x : Progress) → fits T S t ≡ true → (x .visits ≡ 0 → ⊥)
-          → Reaches (visitsFrom T left (suc t) (set S t true) ≤ x .visits - 1) (setsFrom T left (suc t) (set S t true)) x (searchFrom T left (suc t) (set S t true) (visited x))
-          → Reaches (visitsFrom T left (suc t) S ≤ searchFrom T left (suc t) (set S t true) (visited x) .visits) (setsFrom T left (suc t) S)
-          (searchFrom T left (suc t) (set S t true) (visited x)) (searchFrom T left (suc t) S (searchFrom T left (suc t) (set S t true) (visited x)))
-          → Dec (x .visits - 1 < visitsFrom T left (suc t) (set S t true))
-          → Reaches (visitsFrom T (suc left) t S ≤ x .visits) (setsFrom T left (suc t) (set S t true) ++ setsFrom T left (suc t) S) x (searchFrom T left (suc t) S (searchFrom T left (suc t) (set S t true) (visited x)))
-      both left t S x f z a b (yes l) =
-          reaches-first (setsFrom T left (suc t) (set S t true)) (setsFrom T left (suc t) S) x (searchFrom T left (suc t) (set S t true) (visited x)) _
-          (λ e. omega (arith, visits-with T left t S f))
-          (spent left (suc t) S (searchFrom T left (suc t) (set S t true) (visited x)) (λ q. nonzero q) (search-visits T left (suc t) (set S t true) (visited x) ∙ gone)) a
-        where
-          nonzero : left ≡ 0 → ⊥
-          nonzero q = let v : visitsFrom T left (suc t) (set S t true) ≡ 0 = ap (λ (k : ℕ). visitsFrom T k (suc t) (set S t true)) q ∙ visits-none T (suc t) (set S t true) in omega (arith, v)
-
-          gone : x .visits - 1 - visitsFrom T left (suc t) (set S t true) ≡ 0
-          gone = omega arith
-      both left t S x f z a b (no l) =
-          reaches-both (setsFrom T left (suc t) (set S t true)) (setsFrom T left (suc t) S) x (searchFrom T left (suc t) (set S t true) (visited x)) _
-          (omega arith) (λ e. omega (arith, visits-with T left t S f, search-visits T left (suc t) (set S t true) (visited x))) a b
+      rw (sets-with T left t S f, costs-with T left t S f)
+      (reaches-visited _ _ x _ z (reaches-with left t S (visited x) ih jh (decLt (x .visits - 1) (visitsFrom T left (suc t) (set S t true))))))
+      (λ left t S x z f jh. rw (sets-without T left t S f, costs-without T left t S f) (reaches-visited _ _ x _ z (jh (visited x))))
 
   pub search-compares : (limit : ℕ) → Compares T limit
-  unfolding searchAll setsOf
+  unfolding searchAll setsOf setsWithin
   search-compares limit =
       let r = search-reaches (T .count) 0 (noneTaken T) (fromPlan T limit) in
-      record { many = r .many; all = λ l. r .all (omega (arith, whole-visits T)); worth-is = r .found .worth-is; best-is = r .found .best-is }
+      let size = costs-length T (T .count) 0 (noneTaken T) in
+      let cost = costs-total T (T .count) 0 (noneTaken T) ∙ whole-visits T in
+      record {
+        all = λ l. take-all (paidFor limit (costsFrom T (T .count) 0 (noneTaken T))) (setsFrom T (T .count) 0 (noneTaken T))
+            (omega (arith, size, paid-all limit (costsFrom T (T .count) 0 (noneTaken T)) (omega (arith, cost))));
+        worth-is = r .worth-is;
+        best-is = r .best-is;
+        costs = size;
+        cost-all = cost;
+      }

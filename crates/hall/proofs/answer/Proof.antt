@@ -1,7 +1,7 @@
 use mathlib.Core.Path.{sym}
 use lib.Seq.{length-take-le}
 use native.Mathlib.Omega.{arith}
-use Rattle.hall.proofs.Charges.{hall-cases}
+use Rattle.hall.proofs.Charges.{charge-in-cases}
 use borrow.Author.Needs.{needs}
 use Rattle.hall.proofs.answer.Statement.{statement}
 use Rattle.hall.proofs.answer.Tie as tie
@@ -16,7 +16,7 @@ refused-requires : tie.Need-refused-requires
 refused-requires c κs = search needs
 
 returns : tie.Need-returns
-returns c = search (needs, hall-cases)
+returns c = search (needs, charge-in-cases)
 
 slice-relend-prefix-write-plan : tie.Need-slice-relend-prefix-write-plan
 slice-relend-prefix-write-plan c = search needs
@@ -25,13 +25,13 @@ slice-aggregate-write-plan : tie.Need-slice-aggregate-write-plan
 slice-aggregate-write-plan c = sym (length-take-le _ _ (omega arith))
 
 write-plan-requires : tie.Need-write-plan-requires
-write-plan-requires c κs = search (needs, hall-cases)
+write-plan-requires c κs = search (needs, charge-in-cases)
 
 same-length : tie.Need-same-length
 same-length c = search needs
 
 returns-2 : tie.Need-returns-2
-returns-2 c = search (needs, hall-cases)
+returns-2 c = search (needs, charge-in-cases)
 
 pub answer-spec : {M : Type 1} → statement M
 answer-spec =

@@ -3,20 +3,20 @@ use borrow.Author.Needs.{needs}
 use Rattle.charging.proofs.taking.share_of.Statement.{statement}
 use Rattle.charging.proofs.taking.share_of.Tie as tie
 
-wide-requires : tie.Need-wide-requires
-wide-requires c κs = search needs
+to-u32-requires : tie.Need-to-u32-requires
+to-u32-requires c κs = search needs
 
 mul-whole : tie.Need-mul-whole
 mul-whole c = search needs
 
-wide-requires-2 : tie.Need-wide-requires-2
-wide-requires-2 c κs = search needs
+to-u32-requires-2 : tie.Need-to-u32-requires-2
+to-u32-requires-2 c κs = search needs
 
 mul-whole-2 : tie.Need-mul-whole-2
 mul-whole-2 c = search (needs, share-cases)
 
-wide-requires-3 : tie.Need-wide-requires-3
-wide-requires-3 c κs = search needs
+to-u32-requires-3 : tie.Need-to-u32-requires-3
+to-u32-requires-3 c κs = search needs
 
 sub-result : tie.Need-sub-result
 sub-result c = search needs
@@ -37,11 +37,11 @@ pub share-of-spec : {M : Type 1} → statement M
 share-of-spec =
     tie.close
     (tie.spec
-    wide-requires
+    to-u32-requires
     mul-whole
-    wide-requires-2
+    to-u32-requires-2
     mul-whole-2
-    wide-requires-3
+    to-u32-requires-3
     sub-result
     add-result
     div-result
