@@ -3,21 +3,12 @@
 
 mod both;
 
-use both::{best, check, plan, read};
+use both::{best, check, in_map, plan, read, sheet_of};
 use slopeboard_reference::gen::{self, Rng, Row, Shift};
 use slopeboard_reference::naive::best::by_end;
 use slopeboard_reference::naive::best_worth;
 use slopeboard_reference::naive::turns::{conflict, turns_of, Turn};
 use slopeboard_reference::shapes;
-
-fn sheet_of(turns: &[Row]) -> Vec<u8> {
-    let shift = Shift {
-        groomers: 16,
-        slopes: 120,
-        turns: turns.to_vec(),
-    };
-    gen::encode(&mut Rng::new(0), &shift, 0).bytes
-}
 
 /// Turns of one groomer with these starts, ends and worths, on slopes 1, 2, ..
 fn turns_at(times: &[(u16, u16, u16)]) -> Vec<Row> {
@@ -28,12 +19,7 @@ fn turns_at(times: &[(u16, u16, u16)]) -> Vec<Row> {
 /// The worth and the numbers of the turns in the map.
 fn set_of(sheet: &[u8]) -> (u32, Vec<usize>) {
     let turns = gen::turns_claimed(sheet);
-    let mut map = vec![0xA5; turns.div_ceil(8) + 1];
-    let worth = best(sheet, &mut map).unwrap();
-    assert_eq!(map.pop(), Some(0xA5));
-    let stands = |turn: &usize| map[turn / 8] >> (turn % 8) & 1 == 1;
-    assert!((turns..8 * map.len()).all(|turn| !stands(&turn)));
-    (worth, (0..turns).filter(stands).collect())
+    in_map(turns, |map| best(sheet, map).unwrap())
 }
 
 fn assert_set(times: &[(u16, u16, u16)], worth: u32, set: &[usize]) {

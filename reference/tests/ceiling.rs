@@ -3,29 +3,13 @@
 
 mod both;
 
-use both::{listing, plan, sums};
+use both::{listing, planned, sheet_of, sums};
 use slopeboard_reference::boards::{self, Draft};
 use slopeboard_reference::gen::{self, Rng, Row, Shift};
 use slopeboard_reference::naive::ceiling::fewest_groups;
 use slopeboard_reference::naive::turns::turns_of;
 use slopeboard_reference::naive::{any_driver, best_worth, one_turn_a_slope, Sums};
 use slopeboard_reference::shapes;
-
-fn sheet_of(turns: &[Row]) -> Vec<u8> {
-    let shift = Shift {
-        groomers: 16,
-        slopes: 120,
-        turns: turns.to_vec(),
-    };
-    gen::encode(&mut Rng::new(0), &shift, 0).bytes
-}
-
-fn planned(sheet: &[u8]) -> Vec<u8> {
-    let mut board = vec![0; 1665];
-    let len = plan(sheet, &mut board).unwrap();
-    board.truncate(len);
-    board
-}
 
 #[test]
 fn example_has_a_ceiling() {

@@ -3,7 +3,7 @@
 
 mod both;
 
-use both::charge;
+use both::{charge, in_map};
 use slopeboard_reference::gen::{Rng, Row};
 use slopeboard_reference::halls::{self, Hall};
 use slopeboard_reference::naive::charge::{accept_hall, is_allowed, kind, planned, Kind};
@@ -28,12 +28,7 @@ fn bytes(hall: &Hall) -> Vec<u8> {
 /// The worth and the numbers of the windows in the map.
 fn set_of(sheet: &[u8]) -> (u32, Vec<usize>) {
     let windows = usize::from(u16::from_be_bytes([sheet[5], sheet[6]]));
-    let mut map = vec![KEPT; windows.div_ceil(8) + 1];
-    let worth = charge(sheet, &mut map).unwrap();
-    assert_eq!(map.pop(), Some(KEPT));
-    let stands = |window: &usize| map[window / 8] >> (window % 8) & 1 == 1;
-    assert!((windows..8 * map.len()).all(|window| !stands(&window)));
-    (worth, (0..windows).filter(stands).collect())
+    in_map(windows, |map| charge(sheet, map).unwrap())
 }
 
 fn assert_set(units: u8, windows: &[Row], worth: u32, set: &[usize]) {

@@ -3,7 +3,7 @@
 
 mod both;
 
-use both::{assign, check, listing, plan, read, write};
+use both::{assign, check, listing, planned, read, sheet_of, write};
 use slopeboard_reference::boards::{self, Draft};
 use slopeboard_reference::gen::{self, Rng, Row, Shift};
 use slopeboard_reference::naive::planning::touched;
@@ -13,22 +13,6 @@ use slopeboard_reference::shapes;
 
 /// What untouched places hold.
 const KEPT: u16 = 0xA5A5;
-
-fn sheet_of(turns: &[Row]) -> Vec<u8> {
-    let shift = Shift {
-        groomers: 16,
-        slopes: 120,
-        turns: turns.to_vec(),
-    };
-    gen::encode(&mut Rng::new(0), &shift, 0).bytes
-}
-
-fn planned(sheet: &[u8]) -> Vec<u8> {
-    let mut board = vec![0; 1665];
-    let len = plan(sheet, &mut board).unwrap();
-    board.truncate(len);
-    board
-}
 
 /// The turns' drivers as the reader has them, or its refusal.
 fn drivers_of(sheet: &[u8]) -> Result<Vec<u16>, u8> {

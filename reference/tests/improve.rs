@@ -3,8 +3,8 @@
 
 mod both;
 
-use both::{improve, plan, read, sums};
-use slopeboard_reference::gen::{self, Rng, Row, Shift};
+use both::{improve, in_map, plan, read, sheet_of, sums};
+use slopeboard_reference::gen::{self, Rng, Row};
 use slopeboard_reference::naive::turns::{conflict, turns_of, Turn};
 use slopeboard_reference::naive::{best_worth, Improved};
 use slopeboard_reference::shapes;
@@ -12,24 +12,10 @@ use slopeboard_reference::shapes;
 /// What untouched bytes hold.
 const KEPT: u8 = 0xA5;
 
-fn sheet_of(turns: &[Row]) -> Vec<u8> {
-    let shift = Shift {
-        groomers: 16,
-        slopes: 120,
-        turns: turns.to_vec(),
-    };
-    gen::encode(&mut Rng::new(0), &shift, 0).bytes
-}
-
 /// What is found, and the numbers of the turns in the map.
 fn set_of(sheet: &[u8], visits: u64) -> (Improved, Vec<usize>) {
     let turns = gen::turns_claimed(sheet);
-    let mut map = vec![KEPT; turns.div_ceil(8) + 1];
-    let found = improve(sheet, visits, &mut map).unwrap();
-    assert_eq!(map.pop(), Some(KEPT));
-    let stands = |turn: &usize| map[turn / 8] >> (turn % 8) & 1 == 1;
-    assert!((turns..8 * map.len()).all(|turn| !stands(&turn)));
-    (found, (0..turns).filter(stands).collect())
+    in_map(turns, |map| improve(sheet, visits, map).unwrap())
 }
 
 /// The planned board's worth, ceiling and turns.

@@ -3,23 +3,14 @@
 
 mod both;
 
-use both::assign;
-use slopeboard_reference::gen::{self, Rng, Row, Shift};
+use both::{assign, sheet_of};
+use slopeboard_reference::gen::{self, Rng, Row};
 use slopeboard_reference::naive::partition::{assigned, most_at_once, used};
 use slopeboard_reference::naive::turns::{too_close, turns_of, Turn};
 use slopeboard_reference::shapes;
 
 /// What untouched places hold.
 const KEPT: u16 = 0xA5A5;
-
-fn sheet_of(turns: &[Row]) -> Vec<u8> {
-    let shift = Shift {
-        groomers: 16,
-        slopes: 120,
-        turns: turns.to_vec(),
-    };
-    gen::encode(&mut Rng::new(0), &shift, 0).bytes
-}
 
 /// Turns with these starts and lengths, all on one slope with one groomer.
 fn turns_at(times: &[(u16, u16)]) -> Vec<Row> {

@@ -3,7 +3,7 @@
 
 mod both;
 
-use both::{check, plan, play, read};
+use both::{check, planned, play, read};
 use slopeboard_reference::boards;
 use slopeboard_reference::gen::{self, Rng, Row, Shift};
 use slopeboard_reference::naive::play::{spans, Span};
@@ -28,13 +28,6 @@ fn sheet_of(groomers: u8, turns: &[Row]) -> Vec<u8> {
         turns: turns.to_vec(),
     };
     gen::encode(&mut Rng::new(0), &shift, 0).bytes
-}
-
-fn planned(sheet: &[u8]) -> Vec<u8> {
-    let mut board = vec![0; 1665];
-    let len = plan(sheet, &mut board).unwrap();
-    board.truncate(len);
-    board
 }
 
 /// The standings of all groomers, with a place more than there are groomers.
@@ -100,8 +93,8 @@ fn the_example() {
 fn no_turns_stand_all_day() {
     let sheet = sheet_of(16, &[]);
     let board = planned(&sheet);
-    let idle = standing(0, 0, NO_TURN);
-    assert_eq!(standings(&sheet, &board, &[]), [idle; 16]);
+    let stood = standing(0, 0, NO_TURN);
+    assert_eq!(standings(&sheet, &board, &[]), [stood; 16]);
 }
 
 #[test]

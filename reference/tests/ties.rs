@@ -3,28 +3,12 @@
 
 mod both;
 
-use both::{check, plan};
+use both::{check, planned, sheet_of};
 use slopeboard_reference::boards::{self, Draft, Order};
-use slopeboard_reference::gen::{self, Rng, Row, Shift};
+use slopeboard_reference::gen::{self, Rng, Row};
 use slopeboard_reference::naive::planning::{pick, worths};
 use slopeboard_reference::naive::turns::turns_of;
 use slopeboard_reference::shapes;
-
-fn sheet_of(turns: &[Row]) -> Vec<u8> {
-    let shift = Shift {
-        groomers: 16,
-        slopes: 120,
-        turns: turns.to_vec(),
-    };
-    gen::encode(&mut Rng::new(0), &shift, 0).bytes
-}
-
-fn planned(sheet: &[u8]) -> Vec<u8> {
-    let mut board = vec![0; 1665];
-    let len = plan(sheet, &mut board).unwrap();
-    board.truncate(len);
-    board
-}
 
 /// The steps must be these, and the choice the one that they lead to.
 fn assert_steps(turns: &[Row], steps: &[(u16, u16)]) {

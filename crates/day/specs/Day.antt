@@ -8,12 +8,13 @@ use lib.ListN.{getD}
 use Rattle.lists.specs.Lists.{every}
 use Rattle.model.specs.Turns.{Turns}
 use Rattle.model.specs.Choice.{has}
+use Rattle.problem.specs.Problem.{shiftGap}
 use Rattle.partition.specs.Numbering.{orderByStart}
 use Rattle.day.specs.declared.Stint.{Stint}
 
--- driving over takes so many minutes
+-- driving over takes the free minutes that a groomer needs between two turns
 abbrev pub overMinutes : ℕ
-overMinutes = 10
+overMinutes = shiftGap
 
 -- no turn finishes later than so many minutes
 abbrev pub mostDelay : ℕ

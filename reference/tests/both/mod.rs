@@ -4,8 +4,41 @@
 // Each test file uses some of these.
 #![allow(dead_code)]
 
+use slopeboard_reference::gen::{self, Rng, Row, Shift};
 use slopeboard_reference::naive::{Counts, Improved, Standing, Sums};
 use slopeboard_reference::{fast, naive};
+
+/// A sheet of as many groomers and slopes as there can be, with these turns.
+pub fn sheet_of(turns: &[Row]) -> Vec<u8> {
+    let shift = Shift {
+        groomers: 16,
+        slopes: 120,
+        turns: turns.to_vec(),
+    };
+    gen::encode(&mut Rng::new(0), &shift, 0).bytes
+}
+
+/// The board that both versions plan.
+pub fn planned(sheet: &[u8]) -> Vec<u8> {
+    let mut board = vec![0; 1665];
+    let len = plan(sheet, &mut board).unwrap();
+    board.truncate(len);
+    board
+}
+
+/// What a byte holds that no call has touched.
+pub const BYTE_KEPT: u8 = 0xA5;
+
+/// The numbers that a choice map of so many bits has. The map is lent with a
+/// byte more, which must be as before, and the bits past the last are clear.
+pub fn in_map<T>(bits: usize, call: impl FnOnce(&mut [u8]) -> T) -> (T, Vec<usize>) {
+    let mut map = vec![BYTE_KEPT; bits.div_ceil(8) + 1];
+    let answer = call(&mut map);
+    assert_eq!(map.pop(), Some(BYTE_KEPT));
+    let stands = |bit: &usize| map[bit / 8] >> (bit % 8) & 1 == 1;
+    assert!((bits..8 * map.len()).all(|bit| !stands(&bit)));
+    (answer, (0..bits).filter(stands).collect())
+}
 
 pub fn read(sheet: &[u8], table: &mut [u16]) -> Result<Counts, u8> {
     both_read(sheet, table, naive::read, fast::read)
