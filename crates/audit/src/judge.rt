@@ -7,7 +7,7 @@ ghost use lib.Dec.{eqb, leb};
 ghost use Rattle.refusal.specs.Cause.{firstOf};
 ghost use Rattle.choicemap.specs.Choice.{choiceIn};
 ghost use Rattle.board.specs.Board.{boardHeader, stepSize, boardSteps, boardTally, boardWorth, stepsIn, writtenSteps};
-ghost use Rattle.problem.specs.Columns.{turnsBy, Held};
+ghost use Rattle.problem.specs.Columns.{columnPlaces, turnsBy, Held};
 ghost use Rattle.choices.specs.Bounds.{Lent};
 ghost use Rattle.model.specs.Ceiling.{ceiling};
 ghost use Rattle.audit.specs.Judged.{judged};
@@ -20,12 +20,14 @@ use problem::MOST_TURNS;
 use problem::PLACES;
 use problem::Size;
 
-fn choice_fault(p: Size, cols: &[u16; PLACES], map: &[u8]) -> u8
-    requires { ⌜ Lent p (now cols) (now map) ⌝ }
+// The first cause that the choice gives, 0 if none. Here and below, the room is for the rows of the
+// chosen turns: nothing is said of what it holds afterwards.
+fn choice_fault(p: Size, cols: &[u16; PLACES], map: &[u8], room: &mut [u16; PLACES]) -> u8
+    requires { ⌜ Lent p (now cols) (now map) × (length (now room) ≡ columnPlaces) ⌝ }
     ensures { λ r. ⌜ r ≡ firstOf (choiceCauses (turnsBy p (now (cols .entry))) (choiceIn (p .count) (now (map .entry)))) ⌝ }
 {
-    if choices::is_independent(p, cols, map) {
-        if choices::is_maximal(p, cols, map) {
+    if choices::is_independent(p, cols, map, &mut *room) {
+        if choices::is_maximal(p, cols, map, &mut *room) {
             0
         } else {
             refusal::NOT_MAXIMAL
@@ -49,12 +51,19 @@ fn are_wrong(tally: u32, worth: u32, amounts: u32, earned: u32) -> bool
 }
 
 // The first cause that the choice or the steps give, and the ceiling of the steps.
-fn rules_fault(p: Size, cols: &[u16; PLACES], map: &[u8], steps: &[u8], m: usize) -> Judgement
-    requires { ⌜ Lent p (now cols) (now map) × (stepSize * m ≤ length (now steps)) × (m ≤ p .count) ⌝ }
+fn rules_fault(
+    p: Size,
+    cols: &[u16; PLACES],
+    map: &[u8],
+    steps: &[u8],
+    m: usize,
+    room: &mut [u16; PLACES],
+) -> Judgement
+    requires { ⌜ Lent p (now cols) (now map) × (length (now room) ≡ columnPlaces) × (stepSize * m ≤ length (now steps)) × (m ≤ p .count) ⌝ }
     ensures { λ r. ⌜ r ≡ judged (firstOf (ruleCauses (turnsBy p (now (cols .entry))) (choiceIn (p .count) (now (map .entry))) (stepsIn m (now (steps .entry)))))
         (ceiling (turnsBy p (now (cols .entry))) (stepsIn m (now (steps .entry)))) ⌝ }
 {
-    let fault = choice_fault(p, cols, map);
+    let fault = choice_fault(p, cols, map, &mut *room);
     if fault != 0 {
         return fault_at(fault);
     }
@@ -81,15 +90,22 @@ fn sums_fault(b: &[u8], p: Size, cols: &[u16; PLACES], map: &[u8], steps: &[u8],
 }
 
 // The first cause that the parts of a board give, its map and its steps, and the ceiling of the steps.
-fn parts_fault(b: &[u8], map: &[u8], steps: &[u8], p: Size, cols: &[u16; PLACES]) -> Judgement
-    requires { ⌜ (boardHeader ≤ length (now b)) × Lent p (now cols) (now map)
+fn parts_fault(
+    b: &[u8],
+    map: &[u8],
+    steps: &[u8],
+    p: Size,
+    cols: &[u16; PLACES],
+    room: &mut [u16; PLACES],
+) -> Judgement
+    requires { ⌜ (boardHeader ≤ length (now b)) × Lent p (now cols) (now map) × (length (now room) ≡ columnPlaces)
         × (stepSize * boardSteps (now b) ≤ length (now steps)) × (boardSteps (now b) ≤ p .count) ⌝ }
     ensures { λ r. ⌜ r ≡ judged (firstOf (partCauses (turnsBy p (now (cols .entry))) (choiceIn (p .count) (now (map .entry)))
         (stepsIn (boardSteps (now (b .entry))) (now (steps .entry))) (boardTally (now (b .entry))) (boardWorth (now (b .entry)))))
         (ceiling (turnsBy p (now (cols .entry))) (stepsIn (boardSteps (now (b .entry))) (now (steps .entry)))) ⌝ }
 {
     let m = board::step_count(b);
-    let rules = rules_fault(p, cols, map, steps, m as usize);
+    let rules = rules_fault(p, cols, map, steps, m as usize, &mut *room);
     if rules.fault != 0 {
         return rules;
     }
@@ -101,8 +117,8 @@ fn parts_fault(b: &[u8], map: &[u8], steps: &[u8], p: Size, cols: &[u16; PLACES]
 }
 
 // The first cause to refuse a board for a problem, and the ceiling of its steps.
-pub fn board_fault(b: &[u8], p: Size, cols: &[u16; PLACES]) -> Judgement
-    requires { ⌜ Held p (now cols) ⌝ }
+pub fn board_fault(b: &[u8], p: Size, cols: &[u16; PLACES], room: &mut [u16; PLACES]) -> Judgement
+    requires { ⌜ Held p (now cols) × (length (now room) ≡ columnPlaces) ⌝ }
     ensures { λ r. ⌜ r ≡ judged (firstOf (boardCauses (turnsBy p (now (cols .entry))) (now (b .entry))))
         (ceiling (turnsBy p (now (cols .entry))) (writtenSteps (now (b .entry)))) ⌝ }
 {
@@ -114,7 +130,7 @@ pub fn board_fault(b: &[u8], p: Size, cols: &[u16; PLACES]) -> Judgement
     }
     let map = board::map(b);
     let steps = board::steps(b);
-    parts_fault(b, map, steps, p, cols)
+    parts_fault(b, map, steps, p, cols, &mut *room)
 }
 
 fn refused(k: u8) -> CheckAnswer
@@ -133,11 +149,12 @@ pub fn check(s: &[u8], b: &[u8]) -> CheckAnswer
     ensures { λ r. ⌜ r ≡ checkOf (now (s .entry)) (now (b .entry)) ⌝ }
 {
     let mut cols = [0u16; PLACES];
-    let sheet = problem::load(s, &mut cols);
+    let mut room = [0u16; PLACES];
+    let sheet = problem::load(s, &mut cols, &mut room);
     if sheet.refusal != 0 {
         return refused(sheet.refusal);
     }
-    let judgement = board_fault(b, problem::shift_size(sheet.turns), &cols);
+    let judgement = board_fault(b, problem::shift_size(sheet.turns), &cols, &mut room);
     if judgement.fault != 0 {
         return refused(judgement.fault);
     }

@@ -69,8 +69,15 @@ fn run_steps(
 }
 
 // The small windows' steps, from their worths on.
-fn plan_small(a: Among, cols: &[u16; PLACES], own: &[u16; PLACES], out: &mut [u8]) -> usize
-    requires { ⌜ (a .wide ≡ false) × (4 * a .size .count ≤ length (now out)) × HallHeld a (now cols) × Held (a .size) (now own) ⌝ }
+fn plan_small(
+    a: Among,
+    cols: &[u16; PLACES],
+    own: &[u16; PLACES],
+    out: &mut [u8],
+    spare: &mut [u16],
+) -> usize
+    requires { ⌜ (a .wide ≡ false) × (4 * a .size .count ≤ length (now out)) × (a .size .count ≤ length (now spare)) ⌝ }
+    requires { ⌜ HallHeld a (now cols) × Held (a .size) (now own) ⌝ }
     requires { ⌜ turnsBy (a .size) (now own) ≡ turnsAmong (hallBy a (now cols)) (ofKind a (now cols)) ⌝ }
     ensures { λ r. ⌜ r ≡ length (smallSteps (hallBy a (now (cols .entry)))) ⌝ }
     ensures { λ _. ⌜ now (out .exit) ≡ puts (now (out .entry)) 0 (stepBytes (smallSteps (hallBy a (now (cols .entry))))) ⌝ }
@@ -81,7 +88,7 @@ fn plan_small(a: Among, cols: &[u16; PLACES], own: &[u16; PLACES], out: &mut [u8
     let rest = &mut space[0..n];
     let list = &mut numbers[0..n];
     ratio::set_initial(&mut *rest, a.size, own);
-    remaining::set_by_end(a.size, own, &mut *list);
+    remaining::set_by_end(a.size, own, &mut *list, &mut *spare);
     run_steps(&mut *rest, a, cols, own, &mut *list, &mut *out)
 }
 
@@ -93,8 +100,9 @@ pub fn plan_among(a: Among, cols: &[u16; PLACES], out: &mut [u8]) -> usize
 {
     let mut own = [0u16; PLACES];
     put_among(a, cols, &mut own);
+    let mut spare = [0u16; MOST_TURNS];
     if a.wide {
-        return remaining::plan_steps(a.size, &own, &mut *out);
+        return remaining::plan_steps(a.size, &own, &mut *out, &mut spare);
     }
-    plan_small(a, cols, &own, &mut *out)
+    plan_small(a, cols, &own, &mut *out, &mut spare)
 }

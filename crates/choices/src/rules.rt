@@ -56,9 +56,10 @@ fn is_apart(
 }
 
 // Whether no two chosen turns conflict, with a place for the rows.
-fn are_apart(p: Size, cols: &[u16; PLACES], map: &[u8], taken: &mut [u16; PLACES]) -> bool
+pub fn is_independent(p: Size, cols: &[u16; PLACES], map: &[u8], taken: &mut [u16; PLACES]) -> bool
     requires { ⌜ Lent p (now cols) (now map) × (length (now taken) ≡ columnPlaces) ⌝ }
     ensures { λ r. ⌜ r ≡ independentBelow (turnsBy p (now (cols .entry))) (choiceIn (p .count) (now (map .entry))) (p .count) ⌝ }
+    ensures { λ _. ⌜ length (now (taken .exit)) ≡ columnPlaces ⌝ }
 {
     let n = p.count;
     let mut c = 0;
@@ -72,15 +73,6 @@ fn are_apart(p: Size, cols: &[u16; PLACES], map: &[u8], taken: &mut [u16; PLACES
         }
     }
     true
-}
-
-// Whether no two chosen turns conflict.
-pub fn is_independent(p: Size, cols: &[u16; PLACES], map: &[u8]) -> bool
-    requires { ⌜ Lent p (now cols) (now map) ⌝ }
-    ensures { λ r. ⌜ r ≡ independentBelow (turnsBy p (now (cols .entry))) (choiceIn (p .count) (now (map .entry))) (p .count) ⌝ }
-{
-    let mut taken = [0u16; PLACES];
-    are_apart(p, cols, map, &mut taken)
 }
 
 // Takes all chosen turns into rows that have none; returns how many they are.
@@ -136,14 +128,13 @@ fn are_settled(p: Size, cols: &[u16; PLACES], map: &[u8], taken: &[u16; PLACES],
     true
 }
 
-// Whether every turn is chosen or conflicts with a chosen one.
-pub fn is_maximal(p: Size, cols: &[u16; PLACES], map: &[u8]) -> bool
-    requires { ⌜ Lent p (now cols) (now map) ⌝ }
+// Whether every turn is chosen or conflicts with a chosen one, with a place for the rows.
+pub fn is_maximal(p: Size, cols: &[u16; PLACES], map: &[u8], taken: &mut [u16; PLACES]) -> bool
+    requires { ⌜ Lent p (now cols) (now map) × (length (now taken) ≡ columnPlaces) ⌝ }
     ensures { λ r. ⌜ r ≡ maximalBelow (turnsBy p (now (cols .entry))) (choiceIn (p .count) (now (map .entry))) (p .count) ⌝ }
 {
-    let mut taken = [0u16; PLACES];
-    let c = take_chosen(p, cols, map, &mut taken);
-    are_settled(p, cols, map, &taken, c)
+    let c = take_chosen(p, cols, map, &mut *taken);
+    are_settled(p, cols, map, &*taken, c)
 }
 
 // A turn's worth if it is chosen, else 0.

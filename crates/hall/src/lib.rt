@@ -145,7 +145,8 @@ pub fn charge(s: &[u8], map: &mut [u8]) -> ChargeAnswer
     ensures { λ r. ⌜ charged r (now (map .exit)) ≡ chargeOf (now (s .entry)) (now (map .entry)) ⌝ }
 {
     let mut cols = [0u16; PLACES];
-    let r = problem::load_as(charging_sheet(), s, &mut cols);
+    let mut room = [0u16; PLACES];
+    let r = problem::load_as(charging_sheet(), s, &mut cols, &mut room);
     let fault = r.refusal;
     if fault != 0 {
         return refused(fault);

@@ -1,7 +1,8 @@
 // The planned board, from which the search starts.
 ghost use mathlib.Core.Path.{_≡_};
 ghost use Prim.Native.Nat.{_≤_};
-ghost use Rattle.problem.specs.Columns.{turnsBy, Held};
+ghost use lib.ListN.{length};
+ghost use Rattle.problem.specs.Columns.{columnPlaces, turnsBy, Held};
 ghost use Rattle.planning.specs.Plan.{boardFor};
 ghost use Rattle.improve.specs.Words.{wordBits};
 ghost use Rattle.improve.specs.Start.{StartOf};
@@ -31,12 +32,12 @@ fn start_from(p: Size, cols: &[u16; PLACES], b: &[u8]) -> Start
     }
 }
 
-// The board is planned into a place of its own.
-pub fn start_of(p: Size, cols: &[u16; PLACES]) -> Start
-    requires { ⌜ Held p (now cols) × (p .count ≤ wordBits) ⌝ }
+// The board is planned into a place of its own, with room for what planning puts down.
+pub fn start_of(p: Size, cols: &[u16; PLACES], room: &mut [u16; PLACES]) -> Start
+    requires { ⌜ Held p (now cols) × (p .count ≤ wordBits) × (length (now room) ≡ columnPlaces) ⌝ }
     ensures { λ r. ⌜ StartOf (turnsBy p (now (cols .entry))) r ⌝ }
 {
     let mut space = [0u8; planner::BOARD_BYTES];
-    let bytes = planner::write_board(p, cols, &mut space);
+    let bytes = planner::write_board(p, cols, &mut space, &mut *room);
     start_from(p, cols, &space[..bytes as usize])
 }

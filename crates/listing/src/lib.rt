@@ -7,7 +7,7 @@ ghost use mathlib.Core.Path.{_≡_};
 ghost use Prim.Native.Nat.{_*_, _≤_, _<_};
 ghost use lib.ListN.{length, replicate};
 ghost use Rattle.wire.specs.Number.{puts};
-ghost use Rattle.problem.specs.Columns.{turnsBy, Held};
+ghost use Rattle.problem.specs.Columns.{columnPlaces, turnsBy, Held};
 ghost use Rattle.choicemap.specs.Choice.{choiceIn};
 ghost use Rattle.planning.specs.Plan.{boardFor};
 ghost use Rattle.listing.specs.Text.{listingOf, refusedLine};
@@ -90,13 +90,20 @@ fn list_board(p: Size, cols: &[u16; PLACES], groomers: u16, b: &[u8], out: &mut 
     list_map(p, cols, groomers, board::map(b), sums, &mut *out)
 }
 
-// The listing of a problem: its board is planned into a place of its own.
-fn list_problem(p: Size, cols: &[u16; PLACES], groomers: u16, out: &mut [u8]) -> ListAnswer
-    requires { ⌜ Held p (now cols) × (length (listingFor groomers (turnsBy p (now cols))) ≤ listingBytes) ⌝ }
+// The listing of a problem: its board is planned into a place of its own, with room for what planning
+// puts down.
+fn list_problem(
+    p: Size,
+    cols: &[u16; PLACES],
+    groomers: u16,
+    out: &mut [u8],
+    room: &mut [u16; PLACES],
+) -> ListAnswer
+    requires { ⌜ Held p (now cols) × (length (listingFor groomers (turnsBy p (now cols))) ≤ listingBytes) × (length (now room) ≡ columnPlaces) ⌝ }
     ensures { λ r. ⌜ listed r (now (out .exit)) ≡ textAnswer (listingFor groomers (turnsBy p (now (cols .entry)))) (now (out .entry)) ⌝ }
 {
     let mut space = [0u8; planner::BOARD_BYTES];
-    let bytes = planner::write_board(p, cols, &mut space);
+    let bytes = planner::write_board(p, cols, &mut space, &mut *room);
     list_board(p, cols, groomers, &space[..bytes as usize], &mut *out)
 }
 
@@ -105,12 +112,19 @@ pub fn list(s: &[u8], out: &mut [u8]) -> ListAnswer
     ensures { λ r. ⌜ listed r (now (out .exit)) ≡ listOf (now (s .entry)) (now (out .entry)) ⌝ }
 {
     let mut cols = [0u16; PLACES];
-    let r = problem::load(s, &mut cols);
+    let mut room = [0u16; PLACES];
+    let r = problem::load(s, &mut cols, &mut room);
     let fault = r.refusal;
     if fault != 0 {
         return refused(fault);
     }
-    list_problem(problem::shift_size(r.turns), &cols, r.groomers, &mut *out)
+    list_problem(
+        problem::shift_size(r.turns),
+        &cols,
+        r.groomers,
+        &mut *out,
+        &mut room,
+    )
 }
 
 // The line in place of a listing where a sheet is refused; returns its bytes, of which those that

@@ -61,7 +61,8 @@ pub fn assign(s: &[u8], places: &mut [u16]) -> PartitionAnswer
     ensures { λ r. ⌜ partitioned r (now (places .exit)) ≡ partitionOf (now (s .entry)) (now (places .entry)) ⌝ }
 {
     let mut cols = [0u16; PLACES];
-    let r = problem::load(s, &mut cols);
+    let mut room = [0u16; PLACES];
+    let r = problem::load(s, &mut cols, &mut room);
     let fault = r.refusal;
     if fault != 0 {
         return refused(fault);

@@ -191,7 +191,8 @@ fn plan_board(
         ++ lentCauses groomers (p .count) (now (delays .entry)) places) (turnsBy p (now (cols .entry))) groomers
         (boardChoice (now (board .entry))) (now (delays .entry)) places r ⌝ }
 {
-    let judgement = audit::board_fault(board, p, cols);
+    let mut room = [0u16; PLACES];
+    let judgement = audit::board_fault(board, p, cols, &mut room);
     if judgement.fault != 0 {
         return refused(judgement.fault);
     }
@@ -203,7 +204,8 @@ fn checked<'a>(sheet: &'a [u8], board: &'a [u8], delays: &'a [u16], places: usiz
     ensures { λ r. ⌜ Planned (now (sheet .entry)) (now (board .entry)) (now (delays .entry)) places r ⌝ }
 {
     let mut cols = [0u16; PLACES];
-    let head = problem::load(sheet, &mut cols);
+    let mut room = [0u16; PLACES];
+    let head = problem::load(sheet, &mut cols, &mut room);
     if head.refusal != 0 {
         return refused(head.refusal);
     }

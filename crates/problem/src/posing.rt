@@ -14,7 +14,6 @@ use super::columns::put_row;
 use super::ways::Row;
 use sheet::Kind;
 use sheet::ReadAnswer;
-use sheet::TABLE_PLACES;
 
 // The free minutes that a groomer or a driver needs between two turns of a shift.
 const SHIFT_GAP: u16 = 10;
@@ -59,24 +58,31 @@ fn put_rows(cols: &mut [u16; PLACES], table: &[u16], n: usize)
 }
 
 // Reads any bytes as a sheet of a kind into columns, the reader's answer beside them; the gap is for
-// the problem's size to say. After a refusal nothing is said of what the columns hold.
-pub fn load_as(kind: Kind, s: &[u8], cols: &mut [u16; PLACES]) -> ReadAnswer
-    requires { ⌜ Sound kind × (length (now cols) ≡ columnPlaces) ⌝ }
+// the problem's size to say. The room is for the table of turns on the way: nothing is said of what it
+// holds afterwards, nor of what the columns hold after a refusal.
+pub fn load_as(
+    kind: Kind,
+    s: &[u8],
+    cols: &mut [u16; PLACES],
+    room: &mut [u16; PLACES],
+) -> ReadAnswer
+    requires { ⌜ Sound kind × (length (now cols) ≡ columnPlaces) × (length (now room) ≡ columnPlaces) ⌝ }
     ensures { λ r. ⌜ (r ≡ answerFor kind (now (s .entry))) × (r .refusal ≡ 0 → (gap : ℕ) → PosedFor gap (now (s .entry)) (now (cols .exit))) ⌝ }
+    ensures { λ _. ⌜ length (now (room .exit)) ≡ columnPlaces ⌝ }
 {
-    let mut table = [0u16; TABLE_PLACES];
-    let r = sheet::read_table_of(kind, s, &mut table);
+    let r = sheet::read_table_of(kind, s, &mut *room);
     if r.refusal != 0 {
         return r;
     }
-    put_rows(&mut *cols, &table, r.turns as usize);
+    put_rows(&mut *cols, &*room, r.turns as usize);
     r
 }
 
 // The garage's sheet, likewise.
-pub fn load(s: &[u8], cols: &mut [u16; PLACES]) -> ReadAnswer
-    requires { ⌜ length (now cols) ≡ columnPlaces ⌝ }
+pub fn load(s: &[u8], cols: &mut [u16; PLACES], room: &mut [u16; PLACES]) -> ReadAnswer
+    requires { ⌜ (length (now cols) ≡ columnPlaces) × (length (now room) ≡ columnPlaces) ⌝ }
     ensures { λ r. ⌜ (r ≡ answerOf (now (s .entry))) × (r .refusal ≡ 0 → Posed (now (s .entry)) (now (cols .exit))) ⌝ }
+    ensures { λ _. ⌜ length (now (room .exit)) ≡ columnPlaces ⌝ }
 {
-    load_as(sheet::garage(), s, &mut *cols)
+    load_as(sheet::garage(), s, &mut *cols, &mut *room)
 }

@@ -15,8 +15,8 @@ refused-requires c κs = search needs
 returns : tie.Need-returns
 returns c = search (needs, charge-cases)
 
-cast-t10 : tie.Need-cast-t10
-cast-t10 c = search needs
+cast-t12 : tie.Need-cast-t12
+cast-t12 c = search needs
 
 answer-requires : tie.Need-answer-requires
 answer-requires c κs = search (needs, charge-cases)
@@ -35,7 +35,7 @@ charge-spec =
     load-as-requires
     refused-requires
     returns
-    cast-t10
+    cast-t12
     answer-requires
     same-length
     returns-2)

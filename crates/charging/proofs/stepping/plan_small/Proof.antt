@@ -34,6 +34,9 @@ run-steps-requires c κs = (search needs, ((search needs, search from-worths), (
 same-length : tie.Need-same-length
 same-length c = search needs
 
+same-length-2 : tie.Need-same-length-2
+same-length-2 c = search needs
+
 returns : tie.Need-returns
 returns c = search (needs, from-worths)
 
@@ -51,4 +54,5 @@ plan-small-spec =
     set-by-end-requires
     run-steps-requires
     same-length
+    same-length-2
     returns)

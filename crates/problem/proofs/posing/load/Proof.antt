@@ -10,7 +10,7 @@ load-as-requires : tie.Need-load-as-requires
 load-as-requires c κs = search (needs, garage-load-cases)
 
 returns : tie.Need-returns
-returns c = (search (needs, garage-load-cases), search (needs, garage-load-cases))
+returns c = ((search (needs, garage-load-cases), search (needs, garage-load-cases)), search needs)
 
 pub load-spec : {M : Type 1} → statement M
 load-spec = tie.close (tie.spec garage-requires load-as-requires returns)

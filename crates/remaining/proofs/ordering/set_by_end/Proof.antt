@@ -9,17 +9,20 @@ ends-requires c κs = search needs
 sub-put-order : tie.Need-sub-put-order
 sub-put-order c = search needs
 
-part-spare-start : tie.Need-part-spare-start
-part-spare-start c = search needs
+part-put-order-start : tie.Need-part-put-order-start
+part-put-order-start c = search needs
 
-part-spare-end : tie.Need-part-spare-end
-part-spare-end c = search needs
+part-put-order-end : tie.Need-part-put-order-end
+part-put-order-end c = search needs
 
 put-order-requires : tie.Need-put-order-requires
 put-order-requires c κs = (search (needs, by-end-cases), search (needs, by-end-cases), search (needs, by-end-cases))
 
 same-length : tie.Need-same-length
 same-length c = search needs
+
+same-length-2 : tie.Need-same-length-2
+same-length-2 c = search needs
 
 returns : tie.Need-returns
 returns c = search (needs, by-end-cases)
@@ -30,8 +33,9 @@ set-by-end-spec =
     (tie.spec
     ends-requires
     sub-put-order
-    part-spare-start
-    part-spare-end
+    part-put-order-start
+    part-put-order-end
     put-order-requires
     same-length
+    same-length-2
     returns)

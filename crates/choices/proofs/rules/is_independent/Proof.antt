@@ -7,8 +7,8 @@ use Rattle.problem.specs.Columns.{turnsBy}
 use mathlib.Core.Bool.{true}
 use mathlib.Core.Path.{_≡_}
 use Prim.Native.Nat.{_-_, _≤_}
-use Rattle.choices.proofs.rules.are_apart.Statement.{statement}
-use Rattle.choices.proofs.rules.are_apart.Tie as tie
+use Rattle.choices.proofs.rules.is_independent.Statement.{statement}
+use Rattle.choices.proofs.rules.is_independent.Tie as tie
 
 abbrev Inv-loop : tie.InvT-loop
 Inv-loop p cols map sel₀ n c₀ x₀ taken c x = (x ≤ p .count) × Gathered (turnsBy p cols) (choiceIn (p .count) map) x c taken × (independentBelow (turnsBy p cols) (choiceIn (p .count) map) x ≡ true)
@@ -35,13 +35,13 @@ loop-again : tie.Need-loop-again Inv-loop μ-loop
 loop-again c = (search needs, search needs, search all-cases)
 
 returns : tie.Need-returns Inv-loop μ-loop
-returns c = search all-cases
+returns c = (search all-cases, search needs)
 
 returns-2 : tie.Need-returns-2 Inv-loop μ-loop
-returns-2 c = search all-cases
+returns-2 c = (search all-cases, search needs)
 
-pub are-apart-spec : {M : Type 1} → statement M
-are-apart-spec =
+pub is-independent-spec : {M : Type 1} → statement M
+is-independent-spec =
     tie.close
     (tie.spec
     Inv-loop
