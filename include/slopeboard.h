@@ -32,9 +32,9 @@
  * In sheets and boards, a number of several bytes begins with its high byte. Turns are numbered from 0
  * in the order of the sheet, slopes and groomers from 1.
  *
- * A turn ends at its start plus its length. Two different turns exclude each other if they have the same
- * slope, or if they have the same groomer or the same driver and neither starts ten minutes or more after the
- * end of the other. Driver 0 is none, and never the same.
+ * A turn ends at its start plus its length. Two different turns exclude each other if both are on one slope;
+ * also if both are for one groomer, or both name one driver, and neither starts ten minutes or more after the
+ * other has ended. Driver 0 is none, and never the same.
  */
 #ifndef SLOPEBOARD_H
 #define SLOPEBOARD_H
@@ -97,8 +97,8 @@ enum {
 #define SLOPEBOARD_MOST_NUMBERS (SLOPEBOARD_NUMBERS_PER_TURN * SLOPEBOARD_MOST_TURNS)
 /* A header of 7 bytes and records of at most 10. The kept form of a sheet has as many. */
 #define SLOPEBOARD_MOST_SHEET_BYTES (7 + 10 * SLOPEBOARD_MOST_TURNS)
-/* A choice map of so many turns. Turn t is bit t % 8, bit 0 being the lowest, of byte t / 8; bits past the last
- * turn are clear. */
+/* A choice map of so many turns: byte t / 8 has turn t at its bit t % 8, counted from the lowest. A bit that
+ * belongs to no turn is 0. */
 #define SLOPEBOARD_MAP_BYTES(turns) (((turns) + 7) / 8)
 /* What slopeboard_plan asks for, for a sheet of so many turns. */
 #define SLOPEBOARD_BOARD_BYTES(turns) (15 + ((turns) + 7) / 8 + 4 * (turns))
@@ -188,18 +188,18 @@ typedef struct {
  * turns. */
 slopeboard_read_answer slopeboard_read(const uint8_t *sheet, size_t sheet_len, uint16_t *table, size_t table_len);
 
-/* Reads a sheet as slopeboard_read does, but none of more than SLOPEBOARD_MOST_SHORT_TURNS turns. What both
- * accept they read alike.
+/* Reads a sheet as slopeboard_read does, but none of more than SLOPEBOARD_MOST_SHORT_TURNS turns. A sheet that
+ * neither refuses gives the same answer and table in both.
  *
  * Refusals: those of slopeboard_read, in their order, with 20 for more than 96 turns in the place of 4, which
  * is never given. */
 slopeboard_read_answer slopeboard_read_short(const uint8_t *sheet, size_t sheet_len, uint16_t *table,
                                              size_t table_len);
 
-/* Writes the sheet that has these counts and the turns of the table. In the sheet the turns stand by
- * slope, then by groomer, start, length, worth and driver, each rising, whatever order the table has; each
- * comes as often as in the table. It is the shortest sheet with the turns in that order. Turns are numbered
- * as the sheet has them, so reading it back tells which turn a number means.
+/* Writes the sheet that has these counts and the turns of the table. The table's order does not matter: the
+ * sheet has the lowest slope first, of one slope the lowest groomer first, and so on by start, length, worth and
+ * driver. A turn that is in the table twice is on the sheet twice. No sheet with the turns in that order is
+ * shorter. Turns are numbered as the sheet has them, so reading it back tells which turn a number means.
  *
  * Refusals, in this order: 18, 3, 4; then, turn by turn as the table has them, 6, 7, 8, 9, 19; then 11 if
  * the sheet is longer than bytes_len. */
@@ -234,7 +234,7 @@ bool slopeboard_is_chosen(const uint8_t *board, size_t board_len, size_t turn);
 
 /* Checks a board, whoever made it, against a sheet. The answer has the board's tally and worth, and the
  * ceiling of its steps. If nothing is refused, no set of turns in which no two exclude each other is worth
- * more than the ceiling. The ceiling is at most three times the tally, and at most twice the tally if no turn
+ * more than the ceiling. Three times the tally is never below the ceiling, twice the tally is not if no turn
  * names a driver. If besides no slope has two turns, it is the tally, and no such set is worth more than the
  * board.
  *
@@ -259,11 +259,11 @@ slopeboard_check_answer slopeboard_check(const uint8_t *sheet, size_t sheet_len,
 slopeboard_list_answer slopeboard_list(const uint8_t *sheet, size_t sheet_len, uint8_t *text, size_t text_len);
 
 /* Assigns groomers to all turns of a sheet, as if any groomer could do any turn: the groomers, drivers and
- * slopes that the sheet names do not count, and the numbers, from 1, may pass 16. Turn by turn, the earliest
- * start first and of equal starts the lowest turn number, writes at the turn's place the smallest groomer
- * number that leaves ten minutes between this turn and every other that has this number. The answer has the
- * number of groomers used, 0 for no turns. It is the greatest number of turns that hold one minute together
- * when each is lengthened by ten minutes, and no assignment that leaves ten minutes between has fewer.
+ * slopes that the sheet names do not count, and the numbers, from 1, may pass 16. Turns are taken by start, of
+ * one start by turn number. Each gets the lowest number of which all turns so far leave ten minutes free to it,
+ * written at the turn's place. The answer has how many groomers that makes, 0 for no turns. Fewer cannot do it
+ * with ten minutes free: if every turn lasted ten minutes longer, as many turns would be under way in one
+ * minute, and in none more.
  *
  * Refusals: those of slopeboard_read but 11, in their order; then 11 if places_len is below the sheet's
  * turns. */
@@ -299,9 +299,9 @@ slopeboard_improve_answer slopeboard_improve(const uint8_t *sheet, size_t sheet_
  * makes of them; slopeboard_read accepts it. The same numbers give the same sheet on every box.
  *
  * From the seed on, each number is the last one times 16,807, modulo 2,147,483,647; the seed itself is not
- * used. Turn by turn, five numbers make the slope (1 plus the remainder by the slopes), the groomer (likewise),
- * the start (the remainder by 841), the length and the worth (1 plus the remainder by 60,000). The length is
- * 30, 45, 60 or 90 where the remainder by 100 is below 40, 70, 90 or 100. No turn names a driver.
+ * used. Five numbers make a turn, each by a remainder: the slope by the count of slopes, plus 1; the groomer by
+ * that of groomers, plus 1; the start by 841; the length by 100; the worth by 60,000, plus 1. A remainder below
+ * 40 means the length 30, below 70 it is 45, below 90 it is 60, else 90. No turn names a driver.
  *
  * Refusals, in this order: 23 for a seed of 0 or above SLOPEBOARD_MOST_SEED; 3; 4; then 11 if the sheet is
  * longer than bytes_len. SLOPEBOARD_MOST_SHEET_BYTES are enough for every sheet. */
@@ -326,14 +326,14 @@ slopeboard_write_answer slopeboard_keep(const uint8_t *sheet, size_t sheet_len, 
 slopeboard_write_answer slopeboard_restore(const uint8_t *kept, size_t kept_len, uint8_t *sheet, size_t sheet_len);
 
 /* Plays minutes 0 to 959 of a board that slopeboard_check passes, each turn with a delay in minutes at its
- * number's place in delays. Of a groomer's chosen turns the one that starts first comes first. It begins each
- * in the minute planned or, if that is later, ten minutes after it finished the one before, and works on it
- * for its length and its delay.
- * For ten minutes after every turn it drives over; in all other minutes it stands.
+ * number's place in delays. Of a groomer's chosen turns the one that starts first comes first. Work on a turn
+ * begins as soon as it may: not before its start, and not before ten minutes have gone since the groomer's last
+ * turn ended. It takes the turn's length and its delay. For ten minutes after every turn the groomer drives
+ * over; in all other minutes it stands.
  *
  * Writes the standing of groomer g at place g - 1 of the list, whatever that held: how many minutes it worked,
  * drove over and stood, 960 in all, and the turn that it worked on in minute 959. The answer has the number of
- * groomers. With no delays each chosen turn is worked on in just the minutes planned.
+ * groomers. If all delays are 0, work on a chosen turn begins and ends as the sheet has it.
  *
  * Refusals: those of slopeboard_check, in their order; then 24 if delays_len is not the number of turns or a
  * delay, of a chosen turn or not, is above SLOPEBOARD_MOST_DELAY; then 11 if list_len is below the groomers. */
@@ -345,22 +345,23 @@ slopeboard_play_answer slopeboard_play(const uint8_t *sheet, size_t sheet_len, c
  *
  * A charging sheet is laid out as a sheet is, with the mark GRE, the hall's units in the place of the groomers,
  * its vehicles in the place of the slopes, and in each record a window: the vehicle as the slope, the draw as
- * the groomer, and no driver. Windows go together, are allowed, where no two are of one vehicle and in each minute
- * the draws of those that hold it come to at most the units. A window holds its minutes alone, not the ten behind them.
+ * the groomer, and no driver. Windows go together, are allowed, where no two are of one vehicle and in each
+ * minute the draws of those that hold it come to at most the units. A window holds its minutes alone, not the
+ * ten behind them.
  *
  * There are two plans. One is of the windows with a draw above half of the units, as if they were turns of one
  * groomer, but with no time for driving over. The other is of the windows with smaller draws: each step is for
  * the open window that slopeboard_plan would pick and takes its amount from all open windows of that vehicle;
  * from those of other vehicles that share a minute with it, it takes 2 * draw * amount / units, rounded up, with
  * the draw of the window that it takes from. Both then choose as slopeboard_plan does, among their own windows,
- * wherever the set stays allowed. The plan that is worth more is written, of equals that of the smaller draws. No
- * allowed set is worth more than five times its worth and, besides, the units times the steps of the smaller
- * draws.
+ * each that may go together with those chosen before. The plan that is worth more is written, of equals that of
+ * the smaller draws. No allowed set is worth more than five times its worth and, besides, the units times the
+ * steps of the smaller draws.
  *
  * Refusals, in this order: 1 for fewer than 7 bytes; 2; 3 for units outside 1 to SLOPEBOARD_MOST_UNITS or
  * vehicles outside 1 to SLOPEBOARD_MOST_VEHICLES; 4; then, record by record, 1 for a missing map, 5 for a map
- * above 1F or a first map other than 1F, 1 for missing fields, 6 for the vehicle, 25 for the draw, 8, 9; then 10;
- * then 11 if map_len is below SLOPEBOARD_MAP_BYTES of the sheet's windows. */
+ * above 1F or, in the first record, below it, 1 for missing fields, 6 for the vehicle, 25 for the draw, 8, 9;
+ * then 10; then 11 if map_len is below SLOPEBOARD_MAP_BYTES of the sheet's windows. */
 slopeboard_charge_answer slopeboard_charge(const uint8_t *sheet, size_t sheet_len, uint8_t *map, size_t map_len);
 
 #ifdef __cplusplus

@@ -69,8 +69,8 @@ pub struct Counts {
 }
 
 /// The sums of a board that passed. No set of the sheet's turns without a
-/// conflict is worth more than the ceiling. The ceiling is at most three times
-/// the tally, and at most twice the tally on a sheet that names no driver. Two
+/// conflict is worth more than the ceiling. Three times the tally is never below
+/// the ceiling, and twice the tally is not on a sheet that names no driver. Two
 /// turns conflict if one slope is named by both, or one groomer or one driver
 /// (other than 0) by both with fewer than ten free minutes between.
 #[derive(Clone, Copy, Debug, PartialEq, Eq)]
@@ -247,11 +247,12 @@ pub fn restore(kept: &[u8], sheet: &mut [u8]) -> Result<usize, Refusal> {
 }
 
 /// Plays minutes 0 to 959 of a board that passes the check, each turn taking as
-/// many minutes longer as its delay says. A groomer begins a chosen turn as
-/// planned or, if later, ten minutes after it finished the one before. Writes
-/// how many minutes each groomer worked, drove over and stood, and the turn that
-/// it worked on in the last minute, [`NO_TURN`] if on none. Gives the number of
-/// groomers, and asks for a place for each, and for a delay for each turn.
+/// many minutes longer as its delay says. A chosen turn begins not before its
+/// start, and not before ten minutes have gone since the groomer's last turn
+/// ended. Writes how many minutes each groomer worked, drove over and stood, and
+/// the turn that it worked on in the last minute, [`NO_TURN`] if on none. Gives
+/// the number of groomers, and asks for a place for each, and for a delay for
+/// each turn.
 pub fn play(
     sheet: &[u8],
     board: &[u8],
