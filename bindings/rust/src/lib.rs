@@ -247,12 +247,12 @@ pub fn restore(kept: &[u8], sheet: &mut [u8]) -> Result<usize, Refusal> {
 }
 
 /// Plays minutes 0 to 959 of a board that passes the check, each turn taking as
-/// many minutes longer as its delay says. A chosen turn begins not before its
-/// start, and not before ten minutes have gone since the groomer's last turn
-/// ended. Writes how many minutes each groomer worked, drove over and stood, and
-/// the turn that it worked on in the last minute, [`NO_TURN`] if on none. Gives
-/// the number of groomers, and asks for a place for each, and for a delay for
-/// each turn.
+/// many minutes longer as its delay says. A chosen turn begins as soon as it
+/// may: not before its start, and not before ten minutes have gone since the
+/// groomer's last turn ended. Writes how many minutes each groomer worked, drove
+/// over and stood, and the turn that it worked on in the last minute,
+/// [`NO_TURN`] if on none. Gives the number of groomers, and asks for a place
+/// for each, and for a delay for each turn.
 pub fn play(
     sheet: &[u8],
     board: &[u8],
