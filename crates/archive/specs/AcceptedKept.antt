@@ -1,4 +1,4 @@
--- When a kept form is accepted, and where each cause to refuse one stands, as statements. Assumes nothing.
+-- When a kept form is accepted, and where each cause to refuse one stands, as statements (request R-12). Assumes nothing.
 use Prim.Native.Nat.{ℕ, _+_, _*_, _<_}
 use mathlib.Core.Path.{_≡_}
 use mathlib.Core.Bool.{Bool, true, false}

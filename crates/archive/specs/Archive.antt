@@ -1,4 +1,4 @@
--- Keeping a sheet by column and restoring it, refusals included. Assumes nothing.
+-- Keeping a sheet by column and restoring it, refusals included (request R-12). Assumes nothing.
 use Prim.Native.Nat.{ℕ}
 use mathlib.Core.Bool.{Bool, true, false}
 use mathlib.Core.List.{List, [], _∷_, _++_}

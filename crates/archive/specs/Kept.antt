@@ -1,4 +1,4 @@
--- The two forms of a sheet: record by record, and kept by column. Both have the same header behind the mark, the same maps and the same turns. Assumes nothing.
+-- The two forms of a sheet: record by record, and kept by column. Both have the same header behind the mark, the same maps and the same turns (request R-12). Assumes nothing.
 use Prim.Native.Nat.{ℕ, zero, suc, _+_}
 use mathlib.Core.List.{List, [], _∷_, _++_}
 use lib.ListN.{length, getD, take, drop}
@@ -36,7 +36,7 @@ keptWith s ms ts = formWith keptMark s (columnsBody ms ts)
 abbrev pub restoredWith : List ℕ → List ℕ → List Turn → List ℕ
 restoredWith k ms ts = formWith sheetMark k (recordsBody ms ts)
 
--- the bytes of either
+-- how many bytes either form has
 abbrev pub formSize : List ℕ → ℕ
 formSize ms = headerBytes + length ms + widths ms
 

@@ -1,4 +1,4 @@
--- What the check's inner functions return: the number of the first cause, beside the ceiling. Assumes nothing.
+-- What the check's inner functions return: the number of the first cause, beside the ceiling (document 01: the check; request R-7). Assumes nothing.
 use Prim.Native.Nat.{ℕ}
 use mathlib.Core.Bool.{cond}
 use lib.Dec.{eqb}

@@ -1,4 +1,4 @@
--- The board's bytes. Assumes nothing.
+-- The board's bytes (document 01: the board). Assumes nothing.
 use Prim.Native.Nat.{ℕ, _+_, _*_}
 use mathlib.Core.List.{List, [], _∷_, _++_}
 use mathlib.Core.Bool.{Bool}

@@ -1,4 +1,4 @@
--- What is asked of any bytes as a board: how many turns are chosen, and whether one is. Assumes nothing.
+-- What is asked of any bytes as a board: how many turns are chosen, and whether one is (document 01: the board). Assumes nothing.
 use Prim.Native.Nat.{ℕ}
 use mathlib.Core.List.{List}
 use mathlib.Core.Bool.{Bool, not, cond, _&&_}

@@ -1,4 +1,4 @@
--- Opening a board: what its own bytes must be, and where its steps stand. Assumes nothing.
+-- Opening a board: what its own bytes must be, and where its steps stand (document 01: the board, refusal 12). Assumes nothing.
 use Prim.Native.Nat.{ℕ, _+_, _*_, _≤_, _<_}
 use mathlib.Core.Path.{_≡_}
 use mathlib.Core.List.{List, [], _∷_}

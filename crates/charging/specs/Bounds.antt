@@ -1,4 +1,4 @@
--- What the hall's functions ask of what they are lent. Assumes nothing.
+-- What the hall's functions ask of what they are lent (request R-14). Assumes nothing.
 use mathlib.Core.Path.{_≡_}
 use mathlib.Core.Bool.{true}
 use mathlib.Core.List.{List}

@@ -1,4 +1,4 @@
--- What a step takes from a small window, said of rows. Assumes nothing.
+-- What a step takes from a small window, said of rows (request R-14). Assumes nothing.
 use mathlib.Core.Bool.{cond}
 use Prim.Native.Nat.{ℕ, _*_}
 use lib.Dec.{eqb}

@@ -1,4 +1,4 @@
--- The check: any bytes as a sheet, any bytes as a board. Assumes nothing.
+-- The check: any bytes as a sheet, any bytes as a board (document 01: the check, refusals 12 to 17; request R-7). Assumes nothing.
 use Prim.Native.Nat.{ℕ, _+_, _<_}
 use mathlib.Core.Path.{_≡_}
 use mathlib.Core.List.{List, [], _∷_, _++_}

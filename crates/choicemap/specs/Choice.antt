@@ -1,4 +1,4 @@
--- The choice map: which turns are chosen, one bit a turn. Assumes nothing.
+-- The choice map: which turns are chosen, one bit a turn (document 01: the board). Assumes nothing.
 use Prim.Native.Nat.{ℕ, zero, suc, _+_, _-_, _*_, _/_, _%_, _^_}
 use mathlib.Core.Path.{_≡_}
 use mathlib.Core.List.{List, [], _∷_}

@@ -1,4 +1,4 @@
--- The worked cases, through the definitions that the entries' contracts cite: one table. Assumes nothing.
+-- The worked cases, through the definitions that the entries' contracts cite: one table (document 01: the starred cases; requests R-1, R-2, R-5, R-7). Assumes nothing.
 use Prim.Native.Nat.{ℕ}
 use mathlib.Core.Path.{_≡_}
 use mathlib.Core.List.{List, [], _∷_, _++_}

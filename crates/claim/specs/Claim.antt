@@ -1,4 +1,4 @@
--- The one claim: whatever bytes stand for sheet and board, whatever feasible set is named, and of what the planner makes of accepted sheets. Assumes nothing.
+-- The one claim: whatever bytes stand for sheet and board, whatever feasible set is named, and of what the planner makes of accepted sheets (document 01: the third demand). Assumes nothing.
 use mathlib.Core.Path.{_≡_}
 use mathlib.Core.Logic.{_↔_}
 use mathlib.Core.Bool.{Bool}

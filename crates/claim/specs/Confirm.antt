@@ -1,4 +1,4 @@
--- Planning, then checking: the check's answer is the plan's own tally, worth and ceiling. Assumes nothing.
+-- Planning, then checking: the check's answer is the plan's own tally, worth and ceiling (document 01: the third demand). Assumes nothing.
 use Prim.Native.Nat.{ℕ}
 use mathlib.Core.Bool.{cond}
 use mathlib.Core.List.{List}

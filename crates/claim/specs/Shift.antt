@@ -1,4 +1,4 @@
--- The worked shift and the other inputs of the proved cases. Assumes nothing.
+-- The worked shift and the other inputs of the proved cases (document 01: a shift, whole; requests R-1, R-2, R-5, R-7). Assumes nothing.
 use Prim.Native.Nat.{ℕ}
 use mathlib.Core.List.{List, [], _∷_, _++_}
 

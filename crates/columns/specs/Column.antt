@@ -1,4 +1,4 @@
--- A field of many records side by side: a column, and all of them. Assumes nothing.
+-- A field of many records side by side: a column, and all of them (request R-12). Assumes nothing.
 use Prim.Native.Nat.{ℕ, zero, suc, _+_, _*_, _/_, _%_, _<_, _≤_}
 use mathlib.Core.List.{List, [], _∷_, _++_}
 use lib.ListN.{length, getD, set}
@@ -73,7 +73,7 @@ columnRead F (m ∷ ms) s at old = let v = fieldValue F s at m old in v ∷ colu
 
 -- ---- all columns
 
--- the bytes of all columns
+-- how many bytes all columns have
 unfoldable pub widths : List ℕ → ℕ
 widths [] = 0
 widths (m ∷ ms) = widthOf m + widths ms

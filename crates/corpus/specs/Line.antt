@@ -1,4 +1,4 @@
--- The lines of the test program: what a case holds, what is lent, and what the line says of the call. Assumes nothing.
+-- The lines of the test program: what a case holds, what is lent, and what the line says of the call (no rule of its own: for the tests). Assumes nothing.
 use Prim.Native.Nat.{ℕ, _+_, _*_, _%_}
 use mathlib.Core.Bool.{cond}
 use mathlib.Core.List.{List, [], _∷_}

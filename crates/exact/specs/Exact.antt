@@ -1,4 +1,4 @@
--- The best worth of a shift with one turn a slope: any bytes as a sheet, and lent bytes for the choice map. Assumes nothing.
+-- The best worth of a shift with one turn a slope: any bytes as a sheet, and lent bytes for the choice map (request R-9). Assumes nothing.
 use Prim.Native.Nat.{ℕ, _<_}
 use mathlib.Core.Path.{_≡_}
 use mathlib.Core.Logic.{_≢_}

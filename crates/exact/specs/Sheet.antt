@@ -1,4 +1,4 @@
--- What the best worth of a sheet and its set promise, beside the planned board of the same sheet. Assumes nothing.
+-- What the best worth of a sheet and its set promise, beside the planned board of the same sheet (request R-9). Assumes nothing.
 use mathlib.Core.Path.{_≡_}
 use mathlib.Core.List.{List}
 use Prim.Native.Nat.{ℕ, _≤_}

@@ -1,4 +1,4 @@
--- Two charging sheets, worked through the definition that the entry's contract cites. Assumes nothing.
+-- Two charging sheets, worked through the definition that the entry's contract cites (request R-14). Assumes nothing.
 use mathlib.Core.Path.{_≡_}
 use mathlib.Core.List.{List, [], _∷_}
 use Prim.Native.Nat.{ℕ}

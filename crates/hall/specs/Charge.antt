@@ -1,4 +1,4 @@
--- The charging hall: any bytes as a charging sheet, and lent bytes for the choice map. Assumes nothing.
+-- The charging hall: any bytes as a charging sheet, and lent bytes for the choice map (request R-14). Assumes nothing.
 use Prim.Native.Nat.{ℕ}
 use mathlib.Core.Bool.{cond}
 use mathlib.Core.List.{List, [], _∷_, _++_}

@@ -1,4 +1,4 @@
--- The plan of one kind in a hall that columns hold, for the inner functions. Assumes nothing.
+-- The plan of one kind in a hall that columns hold, for the inner functions (request R-14). Assumes nothing.
 use Prim.Native.Nat.{ℕ}
 use mathlib.Core.Bool.{Bool, false}
 use mathlib.Core.List.{List, map}

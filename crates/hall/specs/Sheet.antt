@@ -1,4 +1,4 @@
--- What an answer of the charging hall that refuses nothing promises. Assumes nothing.
+-- What an answer of the charging hall that refuses nothing promises (request R-14). Assumes nothing.
 use mathlib.Core.Path.{_≡_}
 use mathlib.Core.Logic.{_⊎_}
 use mathlib.Core.Bool.{Bool, true}

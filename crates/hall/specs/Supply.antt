@@ -1,4 +1,4 @@
--- What the chosen windows use of the supply, in places: one a minute, then one a vehicle. For the inner functions. Assumes nothing.
+-- What the chosen windows use of the supply, in places: one a minute, then one a vehicle. For the inner functions (request R-14). Assumes nothing.
 use Prim.Native.Nat.{ℕ, _+_, _-_, _≤_, _<_}
 use mathlib.Core.Path.{_≡_}
 use mathlib.Core.Logic.{_≢_}

@@ -1,4 +1,4 @@
--- Choosing windows one after another, wherever the set stays allowed: the chosen ones are allowed, and all of one kind. Assumes nothing.
+-- Choosing windows one after another, each that is allowed beside the chosen ones: all that are chosen are allowed together, and of one kind. Assumes nothing.
 use mathlib.Core.Path.{_≡_, refl, sym, ap, _∙_}
 use mathlib.Core.Logic.{_≢_, _↔_, _⊎_, inl, inr}
 use mathlib.Core.Bool.{Bool, true, false, not, _&&_}

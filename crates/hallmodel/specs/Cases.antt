@@ -1,4 +1,4 @@
--- Two halls, worked through. Assumes nothing.
+-- Two halls, worked through (request R-14). Assumes nothing.
 use mathlib.Core.Path.{_≡_}
 use mathlib.Core.Bool.{true, false}
 use mathlib.Core.List.{List, [], _∷_, map}

@@ -1,4 +1,4 @@
--- The charging hall: its windows, what they draw from the supply, and which sets of them are allowed. Assumes nothing.
+-- The charging hall: its windows, what they draw from the supply, and which sets of them are allowed (request R-14). Assumes nothing.
 use mathlib.Core.Logic.{_≢_}
 use mathlib.Core.Bool.{Bool, not, cond, _&&_}
 use mathlib.Core.List.{List}

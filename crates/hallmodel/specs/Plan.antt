@@ -1,4 +1,4 @@
--- The hall's two plans, one of the wide windows and one of the small ones, and the one that the hall gets. Assumes nothing.
+-- The hall's two plans, one of the wide windows and one of the small ones, and the one that the hall gets (request R-14). Assumes nothing.
 use mathlib.Core.Bool.{Bool, cond, _&&_}
 use mathlib.Core.List.{List, map}
 use Prim.Native.Nat.{ℕ, _+_, _-_, _*_, _/_}

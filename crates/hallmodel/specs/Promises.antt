@@ -1,4 +1,4 @@
--- What the hall's plan promises about every allowed set of windows. Assumes nothing.
+-- What the hall's plan promises about every allowed set of windows (request R-14). Assumes nothing.
 use mathlib.Core.Path.{_≡_}
 use mathlib.Core.Logic.{_⊎_}
 use mathlib.Core.Bool.{true}

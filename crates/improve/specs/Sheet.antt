@@ -1,4 +1,4 @@
--- What the entry promises of a sheet that it does not refuse. Assumes nothing.
+-- What the entry promises of a sheet that it does not refuse (request R-10). Assumes nothing.
 use mathlib.Core.Path.{_≡_}
 use mathlib.Core.Logic.{_↔_}
 use mathlib.Core.Bool.{Bool, true}

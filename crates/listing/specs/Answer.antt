@@ -1,4 +1,4 @@
--- What the listing returns, beside what the lent bytes hold then. Assumes nothing.
+-- What the listing returns, beside what the lent bytes hold then (document 01: the program slopes). Assumes nothing.
 use Prim.Native.Nat.{ℕ}
 use mathlib.Core.List.{List, [], _∷_}
 use lib.ListN.{length}

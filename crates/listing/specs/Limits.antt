@@ -1,4 +1,4 @@
--- How many bytes of a sheet decide its listing, and how many every listing fits in. Assumes nothing.
+-- How many bytes of a sheet decide its listing, and how many every listing fits in (document 01: the program slopes). Assumes nothing.
 use Prim.Native.Nat.{ℕ}
 
 -- one more than the longest sheet has, 7 bytes and 10 for each of 400 turns: whatever is longer is refused for the byte too many or for a cause before it, so what follows need not be read

@@ -1,4 +1,4 @@
--- The listing entry: any bytes as a sheet, and lent bytes for the text. Assumes nothing.
+-- The listing entry: any bytes as a sheet, and lent bytes for the text (document 01: the program slopes; request R-7). Assumes nothing.
 use Prim.Native.Nat.{ℕ}
 use mathlib.Core.List.{List, [], _∷_, _++_}
 use lib.ListN.{length}

@@ -1,4 +1,4 @@
--- What the listing's functions ask of what they are lent. Assumes nothing.
+-- What the listing's functions ask of what they are lent (document 01: the program slopes). Assumes nothing.
 use Prim.Native.Nat.{ℕ}
 use mathlib.Core.List.{List}
 use Rattle.choicemap.specs.Choice.{choiceIn, Clean}

@@ -1,4 +1,4 @@
--- A groomer's round: its chosen turns by start. Assumes nothing.
+-- A groomer's round: its chosen turns by start (document 01: the program slopes). Assumes nothing.
 use Prim.Native.Nat.{ℕ, zero, suc, _+_, _<_}
 use mathlib.Core.Path.{_≡_}
 use mathlib.Core.Logic.{_↔_}

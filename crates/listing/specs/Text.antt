@@ -1,4 +1,4 @@
--- The drivers' listing as characters. Assumes nothing.
+-- The drivers' listing as characters (document 01: the program slopes; request R-7). Assumes nothing.
 use Prim.Native.Nat.{ℕ, zero, suc, _+_}
 use mathlib.Core.Bool.{Bool}
 use mathlib.Core.List.{List, [], _∷_, _++_}

@@ -1,4 +1,4 @@
--- Algorithm IS of the source document, section 5.2.1, line by line, with the machines of 5.2.4: an interval is a turn, its activity the slope, its machine the groomer, and a driver, where the turn names one, a further machine that it needs. Two intervals of a machine intersect where the turns overlap, with the gap between turns counted to each; the source's own case is a gap of 0. Sets of intervals are lists of Bool. Assumes nothing.
+-- Algorithm IS of the source document, section 5.2.1, line by line, with the machines of 5.2.4: an interval is a turn, its activity the slope, its machine the groomer, and a driver, where the turn names one, a further machine that it needs. Two intervals of a machine intersect where the turns overlap, with the gap between turns counted to each; the source's own case is a gap of 0. Sets of intervals are lists of Bool (document 01: the method; requests R-3, R-5). Assumes nothing.
 use mathlib.Core.Path.{_≡_}
 use mathlib.Core.Logic.{_≢_}
 use mathlib.Core.Bool.{Bool, true, false, not, cond, _&&_, _||_}

@@ -1,4 +1,4 @@
--- What a board that keeps the rules promises about every feasible set. Assumes nothing.
+-- What a board that keeps the rules promises about every feasible set (document 01: the third demand; requests R-5, R-7). Assumes nothing.
 use mathlib.Core.Path.{_≡_}
 use mathlib.Core.Bool.{Bool}
 use mathlib.Core.List.{List}

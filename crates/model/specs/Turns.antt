@@ -1,4 +1,4 @@
--- Turns and when two of them conflict. Assumes nothing.
+-- Turns and when two of them conflict (document 01: turns and when they clash; requests R-2, R-5). Assumes nothing.
 use mathlib.Core.Path.{_≡_}
 use mathlib.Core.Logic.{_≢_}
 use mathlib.Core.Bool.{Bool, _&&_, _||_}

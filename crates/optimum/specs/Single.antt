@@ -1,4 +1,4 @@
--- Which shifts the table is for: no slope has two turns, and no turn names a driver. Assumes nothing.
+-- Which shifts the table is for: no slope has two turns, and no turn names a driver (request R-9). Assumes nothing.
 use mathlib.Core.Bool.{Bool, not, _&&_}
 use Prim.Native.Nat.{ℕ}
 use lib.Dec.{eqb}

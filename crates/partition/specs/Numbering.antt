@@ -1,4 +1,4 @@
--- Every turn gets a number, that of the groomer who does it, where any groomer can do any turn. Groomer fields and slopes play no part. Assumes nothing.
+-- Every turn gets a number, that of the groomer who does it, where any groomer can do any turn. Groomer fields and slopes play no part (request R-4). Assumes nothing.
 use mathlib.Core.Path.{_≡_}
 use mathlib.Core.Bool.{Bool, true, not, cond, _&&_}
 use mathlib.Core.List.{List, [], _∷_}

@@ -1,4 +1,4 @@
--- How many groomers to have out: any bytes as a sheet, and lent places for the turns' numbers. Assumes nothing.
+-- How many groomers to have out: any bytes as a sheet, and lent places for the turns' numbers (request R-4). Assumes nothing.
 use Prim.Native.Nat.{ℕ}
 use mathlib.Core.Bool.{cond}
 use mathlib.Core.List.{List, [], _∷_, _++_}

@@ -1,4 +1,4 @@
--- Turns that get their numbers one after another, as far as it has come. For inner functions only. Assumes nothing.
+-- Turns that get their numbers one after another, as far as it has come. For inner functions only (request R-4). Assumes nothing.
 use mathlib.Core.Path.{_≡_}
 use mathlib.Core.Bool.{false}
 use mathlib.Core.List.{List}

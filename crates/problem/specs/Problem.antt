@@ -1,4 +1,4 @@
--- The problem that a list of turns poses, and a sheet's. Assumes nothing.
+-- The problem that a list of turns poses, and a sheet's (document 01: turns; requests R-2, R-5). Assumes nothing.
 use mathlib.Core.List.{List}
 use Prim.Native.Nat.{ℕ, _+_}
 use lib.ListN.{length, getD}

@@ -1,4 +1,4 @@
--- An entry's order of refusal is a list of causes, and what it gives is the first cause that is there. Assumes nothing.
+-- An entry's order of refusal is a list of causes, and what it gives is the first cause that is there (document 01: what the box says). Assumes nothing.
 use mathlib.Core.Path.{_≡_}
 use mathlib.Core.Bool.{Bool, true, cond}
 use mathlib.Core.List.{List, [], _∷_}

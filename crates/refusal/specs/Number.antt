@@ -1,4 +1,4 @@
--- The refusals' numbers; what each is given for stands in src/lib.rt. Assumes nothing.
+-- The refusals' numbers; what each is given for stands in src/lib.rt (document 01: what the box says; requests R-5, R-8 to R-11, R-13, R-14). Assumes nothing.
 use Prim.Native.Nat.{ℕ}
 
 -- the bytes end too early (torn)

@@ -1,4 +1,4 @@
--- What an entry that writes a text into lent bytes gives: all of the text, or the number of the first cause and nothing. Assumes nothing.
+-- What an entry that writes a text into lent bytes gives: all of the text, or the number of the first cause and nothing (document 01: what the box says). Assumes nothing.
 use Prim.Native.Nat.{ℕ}
 use mathlib.Core.Bool.{cond}
 use mathlib.Core.List.{List, _++_}

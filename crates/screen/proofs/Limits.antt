@@ -40,7 +40,7 @@ module _ (K : Kind) (m x n y : ℕ) (s : List ℕ) where
       let clear = clear-append (causesFor (withTurns K k z) s) _ (causes-numbered (withTurns K k z) (sound .numbers) s) (sym (read-number-for (withTurns K k z) s lent) ∙ e) in
       legal-header (withTurns K k z) sound s (clear .0) .turns-to
 
-  -- what both accept they read alike
+  -- a sheet that neither refuses gives the same answer and table in both
   pub both-alike : Sound (withTurns K m x) → Sound (withTurns K n y) → (lent : List ℕ) → readFor (withTurns K m x) s lent .answer .refusal ≡ 0 → readFor (withTurns K n y) s lent .answer .refusal ≡ 0
       → readFor (withTurns K m x) s lent ≡ readFor (withTurns K n y) s lent
   both-alike a b lent e f = within-both (few-accepted m x a lent e) (few-accepted n y b lent f) lent
@@ -130,7 +130,7 @@ short-few : (s lent : List ℕ) → readShortOf s lent .answer .refusal ≡ 0 �
 unfolding readShortOf liftDesk withTurns readCausesFor
 short-few s lent e = legal-header (withTurns garage screenTurns tooManyForScreen) lift-desk-sound s (clear-append (causesFor liftDesk s) _ (causes-numbered liftDesk (lift-desk-sound .numbers) s) (sym (read-number-for liftDesk s lent) ∙ e) .0) .turns-to
 
--- what both accept they read alike; and what the screen's reader accepts the garage's accepts
+-- what the screen's reader accepts gets the same answer and table from the garage's, which accepts it too
 pub short-alike : (s lent : List ℕ) → readShortOf s lent .answer .refusal ≡ 0 → readShortOf s lent ≡ readOf s lent
 short-alike s lent e = short-within s (short-few s lent e) lent
 

@@ -1,4 +1,4 @@
-// The lift desk's reader: every rule of the garage's, with a smaller limit on turns.
+// The lift desk's reader: the garage's, with a smaller limit on turns.
 ghost use mathlib.Core.Path.{_≡_};
 ghost use Rattle.sheet.specs.Read.{outcome};
 ghost use Rattle.screen.specs.Screen.{liftDesk, readShortOf};

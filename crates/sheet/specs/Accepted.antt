@@ -1,4 +1,4 @@
--- When a sheet is accepted, and where each cause to refuse one stands, as statements. Assumes nothing.
+-- When a sheet is accepted, and where each cause to refuse one stands, as statements (document 01: the sheet, refusals 1 to 11; request R-5). Assumes nothing.
 use Prim.Native.Nat.{ℕ, zero, suc, _+_, _*_, _/_, _%_, _<_, _≤_}
 use mathlib.Core.Path.{_≡_}
 use mathlib.Core.Logic.{_≢_, _⊎_}

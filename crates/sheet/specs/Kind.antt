@@ -1,4 +1,4 @@
--- A kind of sheet: what may differ between sheets that are read alike. What is said for every kind K ends in For, as causesFor K. Assumes nothing.
+-- A kind of sheet: what may differ between sheets that are read alike. What is said for every kind K ends in For, as causesFor K (document 01: the sheet; other kinds by requests R-8, R-12, R-14). Assumes nothing.
 use Prim.Native.Nat.{ℕ, _*_, _≤_}
 use mathlib.Core.List.{List, [], _∷_}
 use Rattle.refusal.specs.Number.{badCounts, tooManyTurns, badSlope, badGroomer}

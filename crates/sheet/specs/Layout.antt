@@ -1,4 +1,4 @@
--- The bytes of a sheet's header and of a record: what a writer puts and an accepted sheet is made of. Assumes nothing.
+-- The bytes of a sheet's header and of a record: what a writer puts and an accepted sheet is made of (document 01: the sheet; request R-5). Assumes nothing.
 use Prim.Native.Nat.{ℕ, _/_, _%_}
 use mathlib.Core.List.{List, [], _∷_, _++_}
 use mathlib.Core.Bool.{cond}

@@ -1,4 +1,4 @@
--- A whole sheet, read. Assumes nothing.
+-- A whole sheet, read (document 01: the sheet, refusals 1 to 11). Assumes nothing.
 use Prim.Native.Nat.{ℕ, zero, suc, _*_}
 use mathlib.Core.List.{List, [], _∷_, _++_}
 use mathlib.Core.Bool.{not, cond}

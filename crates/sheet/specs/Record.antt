@@ -1,4 +1,4 @@
--- One record of a sheet, read after the turn before it. Assumes nothing.
+-- One record of a sheet, read after the turn before it (document 01: the sheet; request R-5). Assumes nothing.
 use Prim.Native.Nat.{ℕ, _+_, _*_, _/_, _%_}
 use mathlib.Core.List.{List, _∷_}
 use mathlib.Core.Bool.{Bool, true, false, not, _&&_, cond}

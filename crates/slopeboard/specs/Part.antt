@@ -1,4 +1,4 @@
--- Where the steps' part of a board lies. Assumes nothing.
+-- Where the steps' part of a board lies (document 01: the board). Assumes nothing.
 use Prim.Native.Nat.{ℕ, _*_}
 use mathlib.Core.List.{List}
 use mathlib.Core.Bool.{cond}

@@ -1,4 +1,4 @@
--- What the program prints for the bytes on its standard input. Assumes nothing.
+-- What the program prints for the bytes on its standard input (document 01: the program slopes). Assumes nothing.
 use Prim.Native.Nat.{ℕ}
 use mathlib.Core.List.{List}
 use mathlib.Core.Bool.{cond}

@@ -1,4 +1,4 @@
-// Plans the sheet on standard input, and prints the drivers' listing, or the line of a refusal.
+// Plans the sheet that comes on standard input; prints the drivers' listing, or the line of a refusal.
 ghost use mathlib.Core.Path.{_≡_};
 ghost use Prim.Native.Nat.{_≤_};
 ghost use lib.ListN.{length, take};

@@ -1,4 +1,4 @@
--- Numbers in decimal. Assumes nothing.
+-- Numbers in decimal (document 01: the program slopes). Assumes nothing.
 use Prim.Native.Nat.{ℕ, zero, suc, _+_, _-_, _*_, _/_, _%_, _≤_, _<_}
 use mathlib.Core.Path.{_≡_}
 use mathlib.Core.Logic.{_≢_, _⊎_}

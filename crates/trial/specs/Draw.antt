@@ -1,4 +1,4 @@
--- Numbers drawn one after another from a seed, and the turns that they make. Assumes nothing.
+-- Numbers drawn one after another from a seed, and the turns that they make (request R-11). Assumes nothing.
 use Prim.Native.Nat.{ℕ, zero, suc, _+_, _*_, _%_, _≤_}
 use mathlib.Core.Bool.{cond}
 use mathlib.Core.List.{List, [], _∷_}
@@ -13,7 +13,7 @@ use Rattle.turns.specs.Turn.{rows, mostWorth}
 abbrev pub drawFactor : ℕ
 drawFactor = 16807
 
--- and what is taken off it as often as it goes: a prime, 2 to the 31st less 1
+-- the modulus: a prime, 2 to the 31st less 1
 abbrev pub drawModulus : ℕ
 drawModulus = 2147483647
 
@@ -25,7 +25,7 @@ mostDraw = 2147483646
 unfoldable pub nextDraw : ℕ → ℕ
 nextDraw x = drawFactor * x % drawModulus
 
--- draw number k from a seed on; number 0 is the seed, which is none
+-- draw number k from a seed on; number 0 is the seed, which is no draw
 unfoldable pub drawNumber : ℕ → ℕ → ℕ
 drawNumber zero x = x
 drawNumber (suc k) x = drawNumber k (nextDraw x)

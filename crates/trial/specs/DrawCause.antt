@@ -1,4 +1,4 @@
--- Where each cause to refuse drawing a sheet stands, as statements. Assumes nothing.
+-- Where each cause to refuse drawing a sheet stands, as statements (request R-11). Assumes nothing.
 use Prim.Native.Nat.{ℕ, _<_}
 use lib.ListN.{length}
 use Rattle.refusal.specs.Number.{badSeed, badCounts, tooManyTurns, bufferTooSmall}

@@ -1,4 +1,4 @@
--- A drawn sheet: the one that is written for the drawn turns. Assumes nothing.
+-- A drawn sheet: the one that is written for the drawn turns (request R-11). Assumes nothing.
 use Prim.Native.Nat.{ℕ}
 use mathlib.Core.List.{List, [], _∷_, _++_}
 use lib.ListN.{length}

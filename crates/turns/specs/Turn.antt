@@ -1,4 +1,4 @@
--- A turn's values, what they are in memory, and what may be wrong with them. Assumes nothing.
+-- A turn's values, what they are in memory, and what may be wrong with them (document 01: turns, refusals 6 to 9; request R-5). Assumes nothing.
 use mathlib.Core.Bool.{Bool, true, cond}
 use mathlib.Core.List.{List, [], _∷_, _++_}
 use Prim.Native.Nat.{ℕ, zero, suc, _+_, _*_, _/_, _≤_}

@@ -1,4 +1,4 @@
--- Numbers of one, two or four bytes, high byte first, and lists of bytes. Assumes nothing.
+-- Numbers of one, two or four bytes, high byte first, and lists of bytes (document 01: the sheet). Assumes nothing.
 use Prim.Native.Nat.{ℕ, zero, suc, _+_, _*_, _/_, _%_, _^_, _<_}
 use mathlib.Core.List.{List, [], _∷_}
 use lib.ListN.{getD, set}

@@ -1,4 +1,4 @@
--- Writing a sheet: the shortest one that has the table's turns, in the written order. Assumes nothing.
+-- Writing a sheet: the shortest one that has the table's turns, in the written order (document 01: the sheet; requests R-1, R-5). Assumes nothing.
 use Prim.Native.Nat.{ℕ, _+_, _*_, _%_}
 use mathlib.Core.List.{List, [], _∷_, _++_}
 use mathlib.Core.Bool.{Bool, true, false, not, cond}

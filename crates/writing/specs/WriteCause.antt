@@ -1,4 +1,4 @@
--- Where each cause to refuse writing a table stands, as statements. Assumes nothing.
+-- Where each cause to refuse writing a table stands, as statements (document 01: what the box says, the writer; requests R-1, R-5). Assumes nothing.
 use Prim.Native.Nat.{ℕ, _+_, _*_, _%_, _<_}
 use mathlib.Core.Logic.{_≢_}
 use mathlib.Core.List.{List}
