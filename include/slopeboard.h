@@ -70,7 +70,7 @@ enum {
     SLOPEBOARD_NOT_MAXIMAL = 14,      /* a turn could be chosen in addition */
     SLOPEBOARD_WRONG_STEP = 15,       /* a step is not right at its place */
     SLOPEBOARD_TURN_LEFT_OPEN = 16,   /* the steps leave a turn open */
-    SLOPEBOARD_WRONG_SUMS = 17,       /* tally or worth is not its sum, or the worth is below the tally */
+    SLOPEBOARD_WRONG_SUMS = 17,       /* a sum in the board does not add up, or the tally is above the worth */
     SLOPEBOARD_PARTIAL_TURN = 18,     /* a turn table's length is no multiple of six */
     SLOPEBOARD_BAD_DRIVER = 19,       /* a turn's driver is above 40 */
     SLOPEBOARD_TOO_MANY_FOR_SCREEN = 20, /* more than 96 turns, for slopeboard_read_short */
