@@ -1,3 +1,2 @@
 pub mod Stints
-pub mod Delayed
 pub mod Rows

@@ -26,8 +26,8 @@ use Rattle.problem.proofs.Rows.{count-is, groomer-at, start-at, end-at}
 use Rattle.partition.specs.Numbering.{orderByStart}
 use Rattle.partition.proofs.Orders.{order-length, order-turn}
 use Rattle.partition.proofs.Places.{order-place, order-fits, zeros-few, few-zeros}
-use Rattle.day.specs.declared.Stint.{Stint}
-use Rattle.day.specs.Day.{overMinutes, mostDelay, delayIn, delaysFit, stintOf, stintsFrom, takes, takenOf, dayOf}
+use Rattle.playing.specs.declared.Stint.{Stint}
+use Rattle.playing.specs.Day.{overMinutes, mostDelay, delayIn, delaysFit, stintOf, stintsFrom, takes, takenOf, dayOf}
 use Rattle.day.specs.Table.{dayRows, tablePlaces, blankTable, countPlace, keptPlaces, cut, rowPlace, stintIn, withStint, noStint, cutStint, stintRow, freeAfter, DelaysFit, stintBy, withNext, keptNext, isKnown, tableWith, keptWith, RowsPut, Open, Days}
 use Rattle.day.proofs.Stints.{cut-below, cut-over, cut-most}
 

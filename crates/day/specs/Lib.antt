@@ -1,2 +1,1 @@
-pub mod Day
 pub mod Table

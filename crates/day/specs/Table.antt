@@ -9,8 +9,8 @@ use Rattle.turns.specs.Turn.{shiftMinutes}
 use Rattle.sheet.specs.Kind.{mostGroomers, mostTurns}
 use Rattle.model.specs.Turns.{Turns}
 use Rattle.problem.specs.declared.ways.Row.{Row}
-use Rattle.day.specs.declared.Stint.{Stint}
-use Rattle.day.specs.Day.{overMinutes, mostDelay, delayIn, stintOf, stintsFrom, takenOf, dayOf, Doing, works, drives, stands}
+use Rattle.playing.specs.declared.Stint.{Stint}
+use Rattle.playing.specs.Day.{overMinutes, mostDelay, delayIn, stintOf, stintsFrom, takenOf, dayOf, Doing, works, drives, stands}
 
 -- the stints that a day can have gone through: each has driven over for ten minutes
 abbrev pub dayRows : ℕ

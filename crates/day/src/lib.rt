@@ -9,21 +9,15 @@ ghost use Rattle.sheet.specs.Kind.{mostGroomers, mostTurns};
 ghost use Rattle.choicemap.specs.Choice.{chosenIn, choiceIn};
 ghost use Rattle.problem.specs.Columns.{rowIn, turnsBy, Held};
 ghost use Rattle.partition.specs.Numbering.{orderByStart};
-ghost use Rattle.day.specs.Day.{overMinutes, mostDelay, delayIn, delaysFit};
+ghost use Rattle.playing.specs.Day.{overMinutes, mostDelay, delayIn, delaysFit};
 ghost use Rattle.day.specs.Table.{dayRows, tablePlaces, cut, stintIn, withStint, stintBy, withNext, keptNext, isKnown, tableWith, keptWith};
 ghost use Rattle.day.specs.Table.{blankTable, DelaysFit, Open, Days};
+use playing::Stint;
 use problem::MOST_TURNS;
 use problem::PLACES;
 use problem::Row;
 use problem::Size;
 use problem::row_at;
-
-// A turn as it is worked: from which minute on, and until which.
-pub struct Stint {
-    pub turn: u16,
-    pub begin: u16,
-    pub end: u16,
-}
 
 // Driving over takes so many minutes.
 pub const OVER_MINUTES: u16 = 10;

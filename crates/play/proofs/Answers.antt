@@ -35,13 +35,13 @@ use Rattle.checking.specs.Check.{boardCauses, ruleCauses, choiceCauses, stepCau
 use Rattle.audit.specs.Judged.{judged}
 use Rattle.audit.proofs.Faults.{judged-number}
 use Rattle.checking.proofs.Passing.{Clear, board-clear}
-use Rattle.day.specs.Day.{delayIn, delaysFit, dayOf}
+use Rattle.playing.specs.Day.{delayIn, delaysFit, dayOf}
 use Rattle.day.specs.Table.{tablePlaces, DelaysFit, Days}
 use Rattle.day.proofs.Rows.{fit-delays}
-use Rattle.play.specs.declared.Standing.{Standing}
+use Rattle.playing.specs.declared.Standing.{Standing}
 use Rattle.play.specs.declared.PlayAnswer.{PlayAnswer}
 use Rattle.play.specs.declared.Plan.{Plan}
-use Rattle.play.specs.Standing.{standingAfter}
+use Rattle.playing.specs.Standing.{standingAfter}
 use Rattle.play.specs.Play.{servesFor, lentCauses, playCauses, dayAt, standingsOf, played, playRefused, playOf}
 use Rattle.play.specs.Minutes.{minutesFrom, PlannedBy, Planned}
 use Rattle.play.proofs.Standings.{minutes-say, none-moved}

@@ -12,12 +12,13 @@ use lib.Seq.{getD-set-same, getD-set-other}
 use borrow.Author.Tests.{eq-eqb, ne-eqb, lt-ltb, le-ltb}
 use Rattle.turns.specs.Turn.{shiftMinutes}
 use Rattle.sheet.specs.Kind.{mostGroomers}
-use Rattle.day.specs.declared.Stint.{Stint}
-use Rattle.day.specs.Day.{Doing, works, drives, stands, overMinutes}
+use Rattle.playing.specs.declared.Stint.{Stint}
+use Rattle.playing.specs.Day.{overMinutes}
 use Rattle.day.specs.Table.{dayRows, tablePlaces, stintIn, doingBy}
-use Rattle.play.specs.declared.Standing.{Standing}
-use Rattle.play.specs.Standing.{noTurnInHand, freshOf, movedBy}
-use Rattle.play.specs.Minutes.{begunOf, stepOf, totalOf, minuteOf, minutesFrom, Ready, AllReady}
+use Rattle.playing.specs.declared.Standing.{Standing}
+use Rattle.playing.specs.Standing.{noTurnInHand, freshOf, movedBy, totalOf}
+use Rattle.playing.proofs.Standings.{moved-total}
+use Rattle.play.specs.Minutes.{begunOf, stepOf, minuteOf, minutesFrom, Ready, AllReady}
 
 -- ---- the cases of a step
 
@@ -90,12 +91,6 @@ groomer-room s table g m r = r .1
 pub ruleset step-cases = (step-stands, step-works, step-drives, working-room, driving-room, standing-room, row-room, row-fits, table-room, groomer-room)
 
 -- ---- a step makes one more minute
-
-pub moved-total : (b : Standing) (d : Doing) → totalOf (movedBy b d) ≡ totalOf b + 1
-unfolding movedBy
-moved-total b (works u) = omega arith
-moved-total b drives = omega arith
-moved-total b stands = omega arith
 
 step-total : (s : Standing) (table : List ℕ) (g m : ℕ) → Ready table g m s → totalOf (stepOf s table g m) ≡ m + 1
 unfolding stepOf

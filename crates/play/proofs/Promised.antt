@@ -25,15 +25,15 @@ use Rattle.board.specs.Board.{boardChoice}
 use Rattle.checking.specs.Check.{checkCauses, checkOf, Passes}
 use Rattle.checking.proofs.Passing.{check-number, passes-parts}
 use Rattle.checking.proofs.CheckCauses.{check-refused-iff}
-use Rattle.day.specs.Day.{overMinutes, mostDelay, delayIn, delaysFit, dayOf, NoEarlier, OnTime}
+use Rattle.playing.specs.Day.{overMinutes, mostDelay, delayIn, delaysFit, dayOf, NoEarlier, OnTime}
 use Rattle.day.proofs.Rows.{fit-delays, fit-of}
-use Rattle.day.proofs.Delayed.{longer-later, on-time}
-use Rattle.play.specs.declared.Standing.{Standing}
+use Rattle.playing.proofs.Delayed.{longer-later, on-time}
+use Rattle.playing.specs.declared.Standing.{Standing}
 use Rattle.play.specs.declared.PlayAnswer.{PlayAnswer}
-use Rattle.play.specs.Standing.{freshOf, standingAfter}
+use Rattle.playing.specs.Standing.{freshOf, standingAfter, totalOf}
+use Rattle.playing.proofs.Standings.{counts-make}
 use Rattle.play.specs.Play.{DelaysServe, PlayRefusal, Play, servesFor, lentCauses, playCauses, dayAt, standingsOf, played, playRefused, playOf}
-use Rattle.play.specs.Minutes.{totalOf}
-use Rattle.play.proofs.Standings.{append-left, counts-make}
+use Rattle.play.proofs.Standings.{append-left}
 use Rattle.play.proofs.Answers.{check-numbered, check-passed, check-stops, by-delays, by-places, by-none}
 
 -- ---- the answer

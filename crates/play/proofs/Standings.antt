@@ -1,4 +1,4 @@
--- The standings after each minute: what a step of the table makes is what the day says; the closed reading; all minutes of the list. Assumes nothing.
+-- The standings after each minute: what a step of the table makes is what the day says; all minutes of the list. Assumes nothing.
 use mathlib.Core.Path.{_≡_, refl, sym, _∙_, ap}
 use mathlib.Core.Bool.{Bool, true, false, cond}
 use mathlib.Core.List.{List, [], _∷_, _++_}
@@ -12,80 +12,21 @@ use Rattle.sheet.specs.Kind.{mostGroomers}
 use Rattle.lists.specs.Lists.{tab}
 use Rattle.lists.proofs.Sums.{tab-length, tab-at}
 use Rattle.model.specs.Turns.{Turns}
-use Rattle.sorting.specs.Order.{howMany}
-use Rattle.day.specs.declared.Stint.{Stint}
-use Rattle.day.specs.Day.{overMinutes, dayOf, Doing, works, drives, stands, doingAt, isWork, isDrive, isStand}
+use Rattle.playing.specs.declared.Stint.{Stint}
+use Rattle.playing.specs.Day.{overMinutes, dayOf, doingAt}
 use Rattle.day.specs.Table.{dayRows, stintIn, stintRow, doingBy, Days}
-use Rattle.day.proofs.Stints.{driven, day-laid, row-says}
-use Rattle.play.specs.declared.Standing.{Standing}
-use Rattle.play.specs.Standing.{noTurnInHand, freshOf, movedBy, standingAfter, inHand, StandingIs}
-use Rattle.play.specs.Minutes.{begunOf, stepOf, totalOf, minuteOf, minutesFrom}
-use Rattle.play.proofs.Moves.{begun-first, begun-later, moved-total, length-minute, minute-before, minute-at}
-
--- ---- the counts
-
-moved-turn : (s : Standing) (d : Doing) → movedBy s d .turn ≡ inHand d
-unfolding movedBy inHand
-moved-turn s (works u) = refl
-moved-turn s drives = refl
-moved-turn s stands = refl
+use Rattle.day.proofs.Stints.{row-says}
+use Rattle.playing.specs.declared.Standing.{Standing}
+use Rattle.playing.specs.Standing.{freshOf, movedBy, standingAfter}
+use Rattle.playing.proofs.Stints.{driven, day-laid}
+use Rattle.playing.proofs.Standings.{driving-driven, counts-make}
+use Rattle.play.specs.Minutes.{begunOf, stepOf, minuteOf, minutesFrom}
+use Rattle.play.proofs.Moves.{begun-first, begun-later, length-minute, minute-before, minute-at}
 
 pub append-left : (xs ys : List Standing) (i : ℕ) (d : Standing) → i < length xs → getD (xs ++ ys) i d ≡ getD xs i d
 append-left [] ys i d l = absurd (omega arith)
 append-left (x ∷ xs) ys zero d l = refl
 append-left (x ∷ xs) ys (suc i) d l = append-left xs ys i d (omega arith)
-
-module _ (day : List Stint) where
-  working-count : (k : ℕ) → standingAfter day k .working ≡ howMany (λ m. isWork (doingAt day m)) k
-  unfolding standingAfter movedBy isWork
-  working-count zero = refl
-  working-count (suc k) = go (doingAt day k) (working-count k)
-    where
-      go : (d : Doing) → standingAfter day k .working ≡ howMany (λ m. isWork (doingAt day m)) k → movedBy (standingAfter day k) d .working ≡ cond (isWork d) 1 0 + howMany (λ m. isWork (doingAt day m)) k
-      go (works u) e = omega (arith, e)
-      go drives e = omega (arith, e)
-      go stands e = omega (arith, e)
-
-  pub driving-count : (k : ℕ) → standingAfter day k .driving ≡ howMany (λ m. isDrive (doingAt day m)) k
-  unfolding standingAfter movedBy isDrive
-  driving-count zero = refl
-  driving-count (suc k) = go (doingAt day k) (driving-count k)
-    where
-      go : (d : Doing) → standingAfter day k .driving ≡ howMany (λ m. isDrive (doingAt day m)) k → movedBy (standingAfter day k) d .driving ≡ cond (isDrive d) 1 0 + howMany (λ m. isDrive (doingAt day m)) k
-      go (works u) e = omega (arith, e)
-      go drives e = omega (arith, e)
-      go stands e = omega (arith, e)
-
-  standing-count : (k : ℕ) → standingAfter day k .standing ≡ howMany (λ m. isStand (doingAt day m)) k
-  unfolding standingAfter movedBy isStand
-  standing-count zero = refl
-  standing-count (suc k) = go (doingAt day k) (standing-count k)
-    where
-      go : (d : Doing) → standingAfter day k .standing ≡ howMany (λ m. isStand (doingAt day m)) k → movedBy (standingAfter day k) d .standing ≡ cond (isStand d) 1 0 + howMany (λ m. isStand (doingAt day m)) k
-      go (works u) e = omega (arith, e)
-      go drives e = omega (arith, e)
-      go stands e = omega (arith, e)
-
-  -- the three counts make all minutes played
-  pub counts-make : (k : ℕ) → totalOf (standingAfter day k) ≡ k
-  unfolding standingAfter
-  counts-make zero = refl
-  counts-make (suc k) = omega (arith, moved-total (standingAfter day k) (doingAt day k), counts-make k)
-
-  turn-count : (m : ℕ) → standingAfter day (suc m) .turn ≡ inHand (doingAt day m)
-  unfolding standingAfter
-  turn-count m = go (doingAt day m)
-    where
-      go : (d : Doing) → movedBy (standingAfter day m) d .turn ≡ inHand d
-      go d = moved-turn (standingAfter day m) d
-
-  -- after every minute the standing is what the day says
-  pub standing-is : (m : ℕ) → StandingIs day m (standingAfter day (suc m))
-  standing-is m = record { working-is = working-count (suc m); driving-is = driving-count (suc m); standing-is = standing-count (suc m); turn-is = turn-count m; minutes = counts-make (suc m) }
-
-driving-driven : (day : List Stint) (m : ℕ) → standingAfter day m .driving ≡ driven day m
-unfolding driven
-driving-driven day m = driving-count day m
 
 -- ---- a minute by the table
 

@@ -12,11 +12,11 @@ use Rattle.sheet.specs.Kind.{mostGroomers}
 use Rattle.sheet.specs.Read.{countsIn}
 use Rattle.problem.specs.Problem.{sheetTurns}
 use Rattle.board.specs.Board.{boardChoice}
-use Rattle.day.specs.Day.{overMinutes, delayIn}
+use Rattle.playing.specs.Day.{overMinutes, delayIn}
 use Rattle.day.specs.Table.{tablePlaces, stintIn, doingBy, Days}
-use Rattle.play.specs.declared.Standing.{Standing}
+use Rattle.playing.specs.declared.Standing.{Standing}
 use Rattle.play.specs.declared.Plan.{Plan}
-use Rattle.play.specs.Standing.{freshOf, movedBy}
+use Rattle.playing.specs.Standing.{freshOf, movedBy, totalOf}
 use Rattle.play.specs.Play.{playCauses}
 
 -- what minute m starts from: the first one starts anew, whatever the list held
@@ -26,10 +26,6 @@ begunOf s m = cond (eqb m 0) freshOf s
 -- minute m of the groomer at place g: the minutes driven over tell how many stints are over
 unfoldable pub stepOf : Standing → List ℕ → ℕ → ℕ → Standing
 stepOf s table g m = let b = begunOf s m in movedBy b (doingBy (stintIn table g (b .driving / overMinutes)) m)
-
--- all minutes of a standing
-abbrev pub totalOf : Standing → ℕ
-totalOf s = s .working + s .driving + s .standing
 
 -- minute m of k groomers from place g on
 unfoldable pub minuteOf : ℕ → ℕ → List Standing → List ℕ → ℕ → List Standing

@@ -13,11 +13,11 @@ use Rattle.sheet.specs.Read.{countsIn, turnCount}
 use Rattle.problem.specs.Problem.{sheetTurns}
 use Rattle.board.specs.Board.{boardChoice}
 use Rattle.checking.specs.Check.{checkCauses, Passes, FirstCheckCause}
-use Rattle.day.specs.declared.Stint.{Stint}
-use Rattle.day.specs.Day.{mostDelay, delayIn, delaysFit, dayOf}
-use Rattle.play.specs.declared.Standing.{Standing}
+use Rattle.playing.specs.declared.Stint.{Stint}
+use Rattle.playing.specs.Day.{mostDelay, delayIn, delaysFit, dayOf}
+use Rattle.playing.specs.declared.Standing.{Standing}
 use Rattle.play.specs.declared.PlayAnswer.{PlayAnswer}
-use Rattle.play.specs.Standing.{standingAfter}
+use Rattle.playing.specs.Standing.{standingAfter}
 
 -- a number for each of n turns, and none above the limit
 unfoldable pub servesFor : ℕ → List ℕ → Bool

@@ -12,24 +12,15 @@ ghost use Rattle.board.specs.Board.{boardTurns, boardChoice};
 ghost use Rattle.board.specs.Open.{malformed};
 ghost use Rattle.checking.specs.Check.{boardCauses};
 ghost use Rattle.day.specs.Table.{tablePlaces};
-ghost use Rattle.play.specs.Standing.{freshOf};
+ghost use Rattle.playing.specs.Standing.{freshOf};
 ghost use Rattle.play.specs.Play.{servesFor, lentCauses, played, playOf};
 ghost use Rattle.play.specs.Minutes.{begunOf, stepOf, minuteOf, minutesFrom, Ready, AllReady, PlannedBy, Planned};
 use day::MINUTES;
 use day::OVER_MINUTES;
 use day::TABLE_PLACES;
+use playing::Standing;
 use problem::PLACES;
 use problem::Size;
-
-// The minutes that a groomer has worked, driven over and stood, and the turn that it works in the minute
-// last played.
-#[repr(C)]
-pub struct Standing {
-    pub working: u16,
-    pub driving: u16,
-    pub standing: u16,
-    pub turn: u16,
-}
 
 // What comes back: a refusal, 0 if none, and how many groomers the sheet has, 0 on a refusal.
 #[repr(C)]

@@ -33,7 +33,7 @@ use listing::ListAnswer;
 use partition::PartitionAnswer;
 use planner::PlanAnswer;
 use play::PlayAnswer;
-use play::Standing;
+use playing::Standing;
 use sheet::ReadAnswer;
 use writer::WriteAnswer;
 

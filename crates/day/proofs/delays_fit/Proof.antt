@@ -2,7 +2,7 @@ use mathlib.Core.Path.{_≡_}
 use mathlib.Core.Bool.{true}
 use Prim.Native.Nat.{_-_, _≤_}
 use lib.ListN.{length}
-use Rattle.day.specs.Day.{delaysFit}
+use Rattle.playing.specs.Day.{delaysFit}
 use Rattle.day.proofs.Rows.{fit-cases}
 use borrow.Author.Needs.{needs}
 use Rattle.day.proofs.delays_fit.Statement.{statement}

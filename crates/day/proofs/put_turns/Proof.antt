@@ -2,7 +2,7 @@ use Prim.Native.Nat.{_-_, _≤_}
 use lib.ListN.{take}
 use Rattle.choicemap.specs.Choice.{choiceIn}
 use Rattle.problem.specs.Columns.{turnsBy}
-use Rattle.day.specs.Day.{delayIn}
+use Rattle.playing.specs.Day.{delayIn}
 use Rattle.day.specs.Table.{RowsPut}
 use Rattle.day.proofs.Rows.{loop-cases}
 use borrow.Author.Needs.{needs}

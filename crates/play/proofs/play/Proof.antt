@@ -52,13 +52,13 @@ use denote.Exit.{yes}
 use Rattle.day.specs.Table.{tablePlaces}
 use Rattle.turns.specs.Turn.{shiftMinutes}
 use Rattle.sheet.specs.Kind.{mostGroomers}
-use Rattle.play.specs.declared.Standing.{Standing}
+use Rattle.playing.specs.declared.Standing.{Standing}
 use Rattle.play.specs.declared.Plan.{Plan}
 use Rattle.play.specs.declared.PlayAnswer.{PlayAnswer}
 use Rattle.play.specs.Play.{played, playOf}
 use Rattle.play.specs.Minutes.{minutesFrom, Planned}
 use Rattle.play.proofs.Answers.{play-answer}
-use Rattle.play.proofs.Standing as T
+use Rattle.playing.proofs.Standing as T
 use Rattle.play.proofs.Plan as P
 use Rattle.play.proofs.Plan.Laws as P′
 use Rattle.play.proofs.PlayAnswer as E

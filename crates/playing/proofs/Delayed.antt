@@ -16,9 +16,9 @@ use Rattle.sorting.specs.Sorting.{AllOf, timesIn}
 use Rattle.partition.specs.Numbering.{orderByStart, Before}
 use Rattle.sorting.specs.Order.{Ascending}
 use Rattle.partition.proofs.Orders.{order-inside, order-rising, order-has}
-use Rattle.day.specs.declared.Stint.{Stint}
-use Rattle.day.specs.Day.{overMinutes, stintOf, stintsFrom, takes, takenOf, dayOf, Doing, works, drives, stands, doingAt, NoEarlier, OnTime}
-use Rattle.day.proofs.Stints.{doing-before, doing-in, doing-over, doing-after}
+use Rattle.playing.specs.declared.Stint.{Stint}
+use Rattle.playing.specs.Day.{overMinutes, stintOf, stintsFrom, takes, takenOf, dayOf, Doing, works, drives, stands, doingAt, NoEarlier, OnTime}
+use Rattle.playing.proofs.Stints.{doing-before, doing-in, doing-over, doing-after}
 
 -- ---- longer delays
 

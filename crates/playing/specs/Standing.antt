@@ -3,9 +3,9 @@ use mathlib.Core.Path.{_≡_}
 use mathlib.Core.List.{List}
 use Prim.Native.Nat.{ℕ, zero, suc, _+_}
 use Rattle.sorting.specs.Order.{howMany}
-use Rattle.day.specs.declared.Stint.{Stint}
-use Rattle.day.specs.Day.{Doing, works, drives, stands, doingAt, isWork, isDrive, isStand}
-use Rattle.play.specs.declared.Standing.{Standing}
+use Rattle.playing.specs.declared.Stint.{Stint}
+use Rattle.playing.specs.Day.{Doing, works, drives, stands, doingAt, isWork, isDrive, isStand}
+use Rattle.playing.specs.declared.Standing.{Standing}
 
 -- the number for no turn
 abbrev pub noTurnInHand : ℕ
@@ -14,6 +14,10 @@ noTurnInHand = 65535
 -- before the first minute
 abbrev pub freshOf : Standing
 freshOf = record { working = 0; driving = 0; standing = 0; turn = noTurnInHand }
+
+-- all minutes of a standing
+abbrev pub totalOf : Standing → ℕ
+totalOf s = s .working + s .driving + s .standing
 
 -- a minute later: one of the three counts is moved by 1, and a turn is in hand only where it is worked
 unfoldable pub movedBy : Standing → Doing → Standing

@@ -1,0 +1,3 @@
+pub mod Stints
+pub mod Delayed
+pub mod Standings

@@ -1,0 +1,19 @@
+// What a groomer does in each minute of a shift where turns are late, and the counts that are kept of it; no
+// code.
+
+// A turn as it is worked: from which minute on, and until which.
+pub struct Stint {
+    pub turn: u16,
+    pub begin: u16,
+    pub end: u16,
+}
+
+// The minutes that a groomer has worked, driven over and stood, and the turn that it works in the minute
+// last played.
+#[repr(C)]
+pub struct Standing {
+    pub working: u16,
+    pub driving: u16,
+    pub standing: u16,
+    pub turn: u16,
+}
