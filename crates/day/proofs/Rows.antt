@@ -28,7 +28,7 @@ use Rattle.partition.proofs.Orders.{order-length, order-turn}
 use Rattle.partition.proofs.Places.{order-place, order-fits, zeros-few, few-zeros}
 use Rattle.playing.specs.declared.Stint.{Stint}
 use Rattle.playing.specs.Day.{overMinutes, mostDelay, delayIn, delaysFit, stintOf, stintsFrom, takes, takenOf, dayOf}
-use Rattle.day.specs.Table.{dayRows, tablePlaces, blankTable, countPlace, keptPlaces, cut, rowPlace, stintIn, withStint, noStint, cutStint, stintRow, freeAfter, DelaysFit, stintBy, withNext, keptNext, isKnown, tableWith, keptWith, RowsPut, Open, Days}
+use Rattle.day.specs.Table.{dayRows, dayTablePlaces, blankTable, countPlace, keptPlaces, cut, stintPlace, stintIn, withStint, noStint, cutStint, stintRow, freeAfter, DelaysFit, stintBy, withNext, besideNext, isKnown, tableWith, besideWith, RowsPut, RoomForTurn, Days}
 use Rattle.day.proofs.Stints.{cut-below, cut-over, cut-most}
 
 -- ---- the leaves
@@ -51,19 +51,19 @@ pub stint-is : (r : Row) (t delay free : ℕ) {b e : ℕ} → b ≡ max (r .star
 unfolding stintBy
 stint-is r t delay free x y = rw (y, x)
 
-pub stint-put : (table : List ℕ) (g j : ℕ) (s : Stint) → set (set (set table (rowPlace g j) (s .turn)) (rowPlace g j + 1) (s .begin)) (rowPlace g j + 2) (s .end) ≡ withStint table g j s
+pub stint-put : (table : List ℕ) (g j : ℕ) (s : Stint) → set (set (set table (stintPlace g j) (s .turn)) (stintPlace g j + 1) (s .begin)) (stintPlace g j + 2) (s .end) ≡ withStint table g j s
 unfolding withStint
 stint-put table g j s = refl
 
-pub stint-read : (table : List ℕ) (g j : ℕ) → record { turn = getD table (rowPlace g j) 0; begin = getD table (rowPlace g j + 1) 0; end = getD table (rowPlace g j + 2) 0 } ≡ stintIn table g j
+pub stint-read : (table : List ℕ) (g j : ℕ) → record { turn = getD table (stintPlace g j) 0; begin = getD table (stintPlace g j + 1) 0; end = getD table (stintPlace g j + 2) 0 } ≡ stintIn table g j
 unfolding stintIn
 stint-read table g j = refl
 
-pub second-place : (table : List ℕ) (g j v : ℕ) → length table ≡ tablePlaces → g < mostGroomers → j < dayRows → rowPlace g j + 1 < length (set table (rowPlace g j) v)
-second-place table g j v e l k = rw (length-set table (rowPlace g j) v) (omega arith)
+pub second-place : (table : List ℕ) (g j v : ℕ) → length table ≡ dayTablePlaces → g < mostGroomers → j < dayRows → stintPlace g j + 1 < length (set table (stintPlace g j) v)
+second-place table g j v e l k = rw (length-set table (stintPlace g j) v) (omega arith)
 
-pub third-place : (table : List ℕ) (g j v x : ℕ) → length table ≡ tablePlaces → g < mostGroomers → j < dayRows → rowPlace g j + 2 < length (set (set table (rowPlace g j) v) (rowPlace g j + 1) x)
-third-place table g j v x e l k = rw (length-set (set table (rowPlace g j) v) (rowPlace g j + 1) x, length-set table (rowPlace g j) v) (omega arith)
+pub third-place : (table : List ℕ) (g j v x : ℕ) → length table ≡ dayTablePlaces → g < mostGroomers → j < dayRows → stintPlace g j + 2 < length (set (set table (stintPlace g j) v) (stintPlace g j + 1) x)
+third-place table g j v x e l k = rw (length-set (set table (stintPlace g j) v) (stintPlace g j + 1) x, length-set table (stintPlace g j) v) (omega arith)
 
 pub ruleset stint-cases = (stint-put, stint-read, second-place, third-place)
 
@@ -76,26 +76,26 @@ module _ (table kept : List ℕ) (g : ℕ) (s : Stint) where
   unfolding withNext
   next-full l = rw (le-ltb (getD kept (countPlace g) 0) dayRows l)
 
-pub kept-put : (kept : List ℕ) (g : ℕ) (s : Stint) {c : ℕ} → c ≡ cut (s .end + overMinutes) → set (set kept g c) (countPlace g) (getD kept (countPlace g) 0 + 1) ≡ keptNext kept g s
-unfolding keptNext
+pub kept-put : (kept : List ℕ) (g : ℕ) (s : Stint) {c : ℕ} → c ≡ cut (s .end + overMinutes) → set (set kept g c) (countPlace g) (getD kept (countPlace g) 0 + 1) ≡ besideNext kept g s
+unfolding besideNext
 kept-put kept g s e = rw e
 
-pub kept-fits : (kept : List ℕ) (g : ℕ) → Open kept → g < mostGroomers → getD kept (countPlace g) 0 + 1 < 65536
+pub kept-fits : (kept : List ℕ) (g : ℕ) → RoomForTurn kept → g < mostGroomers → getD kept (countPlace g) 0 + 1 < 65536
 kept-fits kept g o l = omega (arith, o .few g l)
 
-pub kept-wide : (kept : List ℕ) (g : ℕ) → Open kept → g < mostGroomers → getD kept (countPlace g) 0 < 18446744073709551616
+pub kept-wide : (kept : List ℕ) (g : ℕ) → RoomForTurn kept → g < mostGroomers → getD kept (countPlace g) 0 < 18446744073709551616
 kept-wide kept g o l = omega (arith, o .few g l)
 
-pub kept-first : (kept : List ℕ) (g : ℕ) → Open kept → g < mostGroomers → g < length kept
+pub kept-first : (kept : List ℕ) (g : ℕ) → RoomForTurn kept → g < mostGroomers → g < length kept
 kept-first kept g o l = omega (arith, o .beside)
 
-pub kept-second : (kept : List ℕ) (g : ℕ) → Open kept → g < mostGroomers → countPlace g < length kept
+pub kept-second : (kept : List ℕ) (g : ℕ) → RoomForTurn kept → g < mostGroomers → countPlace g < length kept
 kept-second kept g o l = omega (arith, o .beside)
 
-pub kept-third : (kept : List ℕ) (g c : ℕ) → Open kept → g < mostGroomers → countPlace g < length (set kept g c)
+pub kept-third : (kept : List ℕ) (g c : ℕ) → RoomForTurn kept → g < mostGroomers → countPlace g < length (set kept g c)
 kept-third kept g c o l = rw (length-set kept g c) (omega (arith, o .beside))
 
-pub kept-free : (kept : List ℕ) (g : ℕ) → Open kept → g < mostGroomers → getD kept g 0 ≤ shiftMinutes
+pub kept-free : (kept : List ℕ) (g : ℕ) → RoomForTurn kept → g < mostGroomers → getD kept g 0 ≤ shiftMinutes
 kept-free kept g o l = o .free g l
 
 pub ruleset next-cases = (next-put, next-full, kept-put, kept-fits, kept-wide, kept-first, kept-second, kept-third, kept-free)
@@ -103,8 +103,8 @@ pub ruleset next-cases = (next-put, next-full, kept-put, kept-fits, kept-wide, k
 pub turn-put : (table kept : List ℕ) (g : ℕ) {s x : Stint} {table′ : List ℕ} → s ≡ x → table′ ≡ withNext table kept g s → table′ ≡ withNext table kept g x
 turn-put table kept g e f = f ∙ ap (withNext table kept g) e
 
-pub turn-kept : (kept : List ℕ) (g : ℕ) {s x : Stint} {kept′ : List ℕ} → s ≡ x → kept′ ≡ keptNext kept g s → kept′ ≡ keptNext kept g x
-turn-kept kept g e f = f ∙ ap (keptNext kept g) e
+pub turn-kept : (kept : List ℕ) (g : ℕ) {s x : Stint} {kept′ : List ℕ} → s ≡ x → kept′ ≡ besideNext kept g s → kept′ ≡ besideNext kept g x
+turn-kept kept g e f = f ∙ ap (besideNext kept g) e
 
 pub ruleset turn-cases = (kept-first, kept-free, turn-put, turn-kept)
 
@@ -248,17 +248,17 @@ module _ (l : List ℕ) (a x y z : ℕ) (h : a + 2 < length l) where
   three-3 : getD (set (set (set l a x) (a + 1) y) (a + 2) z) (a + 2) 0 ≡ z
   three-3 = getD-set-same (set (set l a x) (a + 1) y) (a + 2) z 0 (rw (length-set (set l a x) (a + 1) y, length-set l a x) h)
 
-stint-same : (table : List ℕ) (g j : ℕ) (s : Stint) → length table ≡ tablePlaces → g < mostGroomers → j < dayRows → stintIn (withStint table g j s) g j ≡ s
+stint-same : (table : List ℕ) (g j : ℕ) (s : Stint) → length table ≡ dayTablePlaces → g < mostGroomers → j < dayRows → stintIn (withStint table g j s) g j ≡ s
 unfolding stintIn withStint
 stint-same table g j s e l k =
-    let h : rowPlace g j + 2 < length table = omega arith in
-    λ i. record { turn = three-1 table (rowPlace g j) (s .turn) (s .begin) (s .end) h i; begin = three-2 table (rowPlace g j) (s .turn) (s .begin) (s .end) h i; end = three-3 table (rowPlace g j) (s .turn) (s .begin) (s .end) h i }
+    let h : stintPlace g j + 2 < length table = omega arith in
+    λ i. record { turn = three-1 table (stintPlace g j) (s .turn) (s .begin) (s .end) h i; begin = three-2 table (stintPlace g j) (s .turn) (s .begin) (s .end) h i; end = three-3 table (stintPlace g j) (s .turn) (s .begin) (s .end) h i }
 
-stint-other : (table : List ℕ) (g j g′ j′ : ℕ) (s : Stint) → ((c d : ℕ) → c < 3 → d < 3 → rowPlace g′ j′ + c ≡ rowPlace g j + d → ⊥) → stintIn (withStint table g j s) g′ j′ ≡ stintIn table g′ j′
+stint-other : (table : List ℕ) (g j g′ j′ : ℕ) (s : Stint) → ((c d : ℕ) → c < 3 → d < 3 → stintPlace g′ j′ + c ≡ stintPlace g j + d → ⊥) → stintIn (withStint table g j s) g′ j′ ≡ stintIn table g′ j′
 unfolding stintIn withStint
 stint-other table g j g′ j′ s far =
-    let a = rowPlace g j in
-    let k = rowPlace g′ j′ in
+    let a = stintPlace g j in
+    let k = stintPlace g′ j′ in
     let one = three-other table a k (s .turn) (s .begin) (s .end) (λ e. far 0 0 (omega arith) (omega arith) (omega (arith, e))) (λ e. far 0 1 (omega arith) (omega arith) (omega (arith, e))) (λ e. far 0 2 (omega arith) (omega arith) (omega (arith, e))) in
     let two = three-other table a (k + 1) (s .turn) (s .begin) (s .end) (λ e. far 1 0 (omega arith) (omega arith) (omega (arith, e))) (λ e. far 1 1 (omega arith) (omega arith) (omega (arith, e))) (λ e. far 1 2 (omega arith) (omega arith) (omega (arith, e))) in
     let three = three-other table a (k + 2) (s .turn) (s .begin) (s .end) (λ e. far 2 0 (omega arith) (omega arith) (omega (arith, e))) (λ e. far 2 1 (omega arith) (omega arith) (omega (arith, e))) (λ e. far 2 2 (omega arith) (omega arith) (omega (arith, e))) in
@@ -290,11 +290,11 @@ module _ (T : Turns) (S : List Bool) (delay : ℕ → ℕ) (us : List ℕ) (u : 
     count : getD kept (countPlace g) 0 ≡ length old
     count = w .many g l ∙ sym (stints-length T delay 0 (takenOf T S (suc g) us))
 
-    next-places : length (withNext table kept g s) ≡ tablePlaces
+    next-places : length (withNext table kept g s) ≡ dayTablePlaces
     unfolding withNext withStint
     next-places = go (ltb (getD kept (countPlace g) 0) dayRows)
       where
-        go : (b : Bool) → length (cond b (set (set (set table (rowPlace g (getD kept (countPlace g) 0)) (s .turn)) (rowPlace g (getD kept (countPlace g) 0) + 1) (s .begin)) (rowPlace g (getD kept (countPlace g) 0) + 2) (s .end)) table) ≡ tablePlaces
+        go : (b : Bool) → length (cond b (set (set (set table (stintPlace g (getD kept (countPlace g) 0)) (s .turn)) (stintPlace g (getD kept (countPlace g) 0) + 1) (s .begin)) (stintPlace g (getD kept (countPlace g) 0) + 2) (s .end)) table) ≡ dayTablePlaces
         go true = simp length-set (w .places)
         go false = w .places
 
@@ -309,7 +309,7 @@ module _ (T : Turns) (S : List Bool) (delay : ℕ → ℕ) (us : List ℕ) (u : 
         go : (b : Bool) → ltb n dayRows ≡ b → stintIn (cond b (withStint table g n s) table) k j ≡ stintIn table k j
         go true e = stint-other table g n k j s (λ c f p q z. apart (ltb-true n dayRows e) (ℕ-discrete k g) c f p q z)
           where
-            apart : n < dayRows → Dec (k ≡ g) → (c f : ℕ) → c < 3 → f < 3 → rowPlace k j + c ≡ rowPlace g n + f → ⊥
+            apart : n < dayRows → Dec (k ≡ g) → (c f : ℕ) → c < 3 → f < 3 → stintPlace k j + c ≡ stintPlace g n + f → ⊥
             apart x (yes y) c f p q z = d y (let v : j * 3 + c ≡ n * 3 + f = omega (arith, z, y) in omega (arith, v, p, q))
             apart x (no y) c f p q z = omega (arith, x, y, p, q, z, m)
         go false e = refl
@@ -332,8 +332,8 @@ module _ (T : Turns) (S : List Bool) (delay : ℕ → ℕ) (us : List ℕ) (u : 
         go (yes e) = rw (e, here) (own (decLt j (length old)) (ℕ-discrete j (length old)))
         go (no e) = rw (taken-same T S (suc k) us u (others k a e)) (row-stays k j b (λ y _. e y) ∙ w .rows k j a b)
 
-    free-then : (k : ℕ) → k < mostGroomers → getD (keptNext kept g s) k 0 ≡ cut (freeAfter T delay 0 (takenOf T S (suc k) (us ++ u ∷ [])))
-    unfolding keptNext
+    free-then : (k : ℕ) → k < mostGroomers → getD (besideNext kept g s) k 0 ≡ cut (freeAfter T delay 0 (takenOf T S (suc k) (us ++ u ∷ [])))
+    unfolding besideNext
     free-then k a = getD-set-other (set kept g (cut (s .end + overMinutes))) (countPlace g) k (getD kept (countPlace g) 0 + 1) 0 (λ e. omega (arith, e)) ∙ go (ℕ-discrete k g)
       where
         f : ℕ
@@ -346,8 +346,8 @@ module _ (T : Turns) (S : List Bool) (delay : ℕ → ℕ) (us : List ℕ) (u : 
         go (yes e) = rw e (getD-set-same kept g (cut (s .end + overMinutes)) 0 (omega (arith, w .beside)) ∙ ended ∙ ap cut (sym (free-snoc T delay 0 (takenOf T S (suc g) us) u) ∙ ap (freeAfter T delay 0) (sym (taken-next T S (suc g) us u its))))
         go (no e) = getD-set-other kept g k (cut (s .end + overMinutes)) 0 e ∙ rw (taken-same T S (suc k) us u (others k a e)) (w .free k a)
 
-    count-then : (k : ℕ) → k < mostGroomers → (getD (keptNext kept g s) (countPlace k) 0 ≡ length (takenOf T S (suc k) (us ++ u ∷ []))) × (getD (keptNext kept g s) (countPlace k) 0 ≤ length (us ++ u ∷ []))
-    unfolding keptNext
+    count-then : (k : ℕ) → k < mostGroomers → (getD (besideNext kept g s) (countPlace k) 0 ≡ length (takenOf T S (suc k) (us ++ u ∷ []))) × (getD (besideNext kept g s) (countPlace k) 0 ≤ length (us ++ u ∷ []))
+    unfolding besideNext
     count-then k a = go (ℕ-discrete k g)
       where
         c : ℕ
@@ -366,11 +366,11 @@ module _ (T : Turns) (S : List Bool) (delay : ℕ → ℕ) (us : List ℕ) (u : 
             let n : length (takenOf T S (suc k) (us ++ u ∷ [])) ≡ length (takenOf T S (suc k) us) = ap length (taken-same T S (suc k) us u (others k a e)) in
             (omega (arith, v, n, w .many k a), omega (arith, v, w .few k a, length-append us (u ∷ [])))
 
-    kept-length : length (keptNext kept g s) ≡ keptPlaces
-    unfolding keptNext
+    kept-length : length (besideNext kept g s) ≡ keptPlaces
+    unfolding besideNext
     kept-length = simp length-set (w .beside)
 
-    rows-next : RowsPut T S delay (us ++ u ∷ []) (withNext table kept g s) (keptNext kept g s)
+    rows-next : RowsPut T S delay (us ++ u ∷ []) (withNext table kept g s) (besideNext kept g s)
     rows-next = record {
       places = next-places;
       beside = kept-length;
@@ -412,24 +412,24 @@ module _ (r′ : Row) (u delay : ℕ) (table kept : List ℕ) where
   unfolding tableWith
   skip-table b x e = let q : b ≡ false = sym x ∙ e in rw q
 
-  pub skip-kept : (b : Bool) {c : Bool} → c ≡ b → c ≡ false → kept ≡ keptWith b r′ u delay kept
-  unfolding keptWith
+  pub skip-kept : (b : Bool) {c : Bool} → c ≡ b → c ≡ false → kept ≡ besideWith b r′ u delay kept
+  unfolding besideWith
   skip-kept b x e = let q : b ≡ false = sym x ∙ e in rw q
 
   pub unknown-table : (b : Bool) {r : Row} {c k : Bool} → c ≡ b → c ≡ true → r ≡ r′ → k ≡ isKnown (r .groomer) → k ≡ false → table ≡ tableWith b r′ u delay table kept
   unfolding tableWith
   unknown-table b x e q i f = let y : b ≡ true = sym x ∙ e in rw (y, ← q, ← i, f)
 
-  pub unknown-kept : (b : Bool) {r : Row} {c k : Bool} → c ≡ b → c ≡ true → r ≡ r′ → k ≡ isKnown (r .groomer) → k ≡ false → kept ≡ keptWith b r′ u delay kept
-  unfolding keptWith
+  pub unknown-kept : (b : Bool) {r : Row} {c k : Bool} → c ≡ b → c ≡ true → r ≡ r′ → k ≡ isKnown (r .groomer) → k ≡ false → kept ≡ besideWith b r′ u delay kept
+  unfolding besideWith
   unknown-kept b x e q i f = let y : b ≡ true = sym x ∙ e in rw (y, ← q, ← i, f)
 
   pub put-table : (b : Bool) {r : Row} {c k : Bool} {table′ : List ℕ} → c ≡ b → c ≡ true → r ≡ r′ → k ≡ isKnown (r .groomer) → k ≡ true → table′ ≡ withNext table kept (r .groomer - 1) (stintBy r u delay (getD kept (r .groomer - 1) 0)) → table′ ≡ tableWith b r′ u delay table kept
   unfolding tableWith
   put-table b x e q i f g = let y : b ≡ true = sym x ∙ e in rw (y, ← q, ← i, f) g
 
-  pub put-kept : (b : Bool) {r : Row} {c k : Bool} {kept′ : List ℕ} → c ≡ b → c ≡ true → r ≡ r′ → k ≡ isKnown (r .groomer) → k ≡ true → kept′ ≡ keptNext kept (r .groomer - 1) (stintBy r u delay (getD kept (r .groomer - 1) 0)) → kept′ ≡ keptWith b r′ u delay kept
-  unfolding keptWith
+  pub put-kept : (b : Bool) {r : Row} {c k : Bool} {kept′ : List ℕ} → c ≡ b → c ≡ true → r ≡ r′ → k ≡ isKnown (r .groomer) → k ≡ true → kept′ ≡ besideNext kept (r .groomer - 1) (stintBy r u delay (getD kept (r .groomer - 1) 0)) → kept′ ≡ besideWith b r′ u delay kept
+  unfolding besideWith
   put-kept b x e q i f g = let y : b ≡ true = sym x ∙ e in rw (y, ← q, ← i, f) g
 
 pub known-least : (h : ℕ) {k : Bool} → k ≡ isKnown h → k ≡ true → 1 ≤ h
@@ -484,10 +484,10 @@ module _ (p : Size) (cols map delays order : List ℕ) (h : Held p cols) (o : or
     loop-ends = omega (arith, end-at p cols u inside refl, h .ends u inside)
 
     module _ (table kept : List ℕ) (w : RowsPut T S (delayIn delays) (take i order) table kept) where
-      pub loop-places : length table ≡ tablePlaces
+      pub loop-places : length table ≡ dayTablePlaces
       loop-places = w .places
 
-      pub loop-open : Open kept
+      pub loop-open : RoomForTurn kept
       loop-open = record {
         beside = w .beside;
         free = λ g k. rw (w .free g k) (cut-most (freeAfter T (delayIn delays) 0 (takenOf T S (suc g) (take i order))));
@@ -501,7 +501,7 @@ module _ (p : Size) (cols map delays order : List ℕ) (h : Held p cols) (o : or
       is-has = choice-has (p .count) map u inside
 
       grown : (c k : Bool) → chosenIn map u ≡ c → isKnown (rowIn cols u .groomer) ≡ k
-          → RowsPut T S (delayIn delays) (take i order ++ u ∷ []) (cond (c && k) (withNext table kept (rowIn cols u .groomer - 1) (stintBy (rowIn cols u) u (delayIn delays u) (getD kept (rowIn cols u .groomer - 1) 0))) table) (cond (c && k) (keptNext kept (rowIn cols u .groomer - 1) (stintBy (rowIn cols u) u (delayIn delays u) (getD kept (rowIn cols u .groomer - 1) 0))) kept)
+          → RowsPut T S (delayIn delays) (take i order ++ u ∷ []) (cond (c && k) (withNext table kept (rowIn cols u .groomer - 1) (stintBy (rowIn cols u) u (delayIn delays u) (getD kept (rowIn cols u .groomer - 1) 0))) table) (cond (c && k) (besideNext kept (rowIn cols u .groomer - 1) (stintBy (rowIn cols u) u (delayIn delays u) (getD kept (rowIn cols u .groomer - 1) 0))) kept)
       grown false k e q = rows-same T S (delayIn delays) (take i order) u table kept w (λ g _. not-chosen T S u (is-has ∙ e) (suc g))
       grown true false e q = rows-same T S (delayIn delays) (take i order) u table kept w (λ g x. takes-not T S u (is-has ∙ e) (suc g) (λ z. unknown-range (rowIn cols u .groomer) g q x (groomer-at p cols u inside refl ∙ z)))
       grown true true e q =
@@ -521,8 +521,8 @@ module _ (p : Size) (cols map delays order : List ℕ) (h : Held p cols) (o : or
           same z = omega (arith, z)
 
       pub loop-next : {table′ kept′ : List ℕ} → table′ ≡ tableWith (chosenIn map (getD order i 0)) (rowIn cols (getD order i 0)) (getD order i 0) (delayIn delays (getD order i 0)) table kept
-          → kept′ ≡ keptWith (chosenIn map (getD order i 0)) (rowIn cols (getD order i 0)) (getD order i 0) (delayIn delays (getD order i 0)) kept → RowsPut T S (delayIn delays) (take (i + 1) order) table′ kept′
-      unfolding tableWith keptWith
+          → kept′ ≡ besideWith (chosenIn map (getD order i 0)) (rowIn cols (getD order i 0)) (getD order i 0) (delayIn delays (getD order i 0)) kept → RowsPut T S (delayIn delays) (take (i + 1) order) table′ kept′
+      unfolding tableWith besideWith
       loop-next x y = rw (x, y, taken) (grown (chosenIn map u) (isKnown (rowIn cols u .groomer)) refl refl)
 
   pub loop-done : (i : ℕ) (table kept : List ℕ) → p .count ≤ i → RowsPut T S (delayIn delays) (take i order) table kept → Days T S (delayIn delays) table
@@ -536,10 +536,10 @@ filled-at zero x i l = absurd (omega arith)
 filled-at (suc n) x zero l = refl
 filled-at (suc n) x (suc i) l = filled-at n x i (omega arith)
 
-blank-row : (T : Turns) (S : List Bool) (delay : ℕ → ℕ) (g j : ℕ) → g < mostGroomers → j < dayRows → stintIn (replicate tablePlaces shiftMinutes) g j ≡ stintRow (stintsFrom T delay 0 (takenOf T S (suc g) [])) j
+blank-row : (T : Turns) (S : List Bool) (delay : ℕ → ℕ) (g j : ℕ) → g < mostGroomers → j < dayRows → stintIn (replicate dayTablePlaces shiftMinutes) g j ≡ stintRow (stintsFrom T delay 0 (takenOf T S (suc g) [])) j
 unfolding takenOf stintsFrom stintRow noStint stintIn
 blank-row T S delay g j l k =
-    λ i. record { turn = filled-at tablePlaces shiftMinutes (rowPlace g j) (omega arith) i; begin = filled-at tablePlaces shiftMinutes (rowPlace g j + 1) (omega arith) i; end = filled-at tablePlaces shiftMinutes (rowPlace g j + 2) (omega arith) i }
+    λ i. record { turn = filled-at dayTablePlaces shiftMinutes (stintPlace g j) (omega arith) i; begin = filled-at dayTablePlaces shiftMinutes (stintPlace g j + 1) (omega arith) i; end = filled-at dayTablePlaces shiftMinutes (stintPlace g j + 2) (omega arith) i }
 
 blank-free : (T : Turns) (S : List Bool) (delay : ℕ → ℕ) (g : ℕ) → 0 ≡ cut (freeAfter T delay 0 (takenOf T S (suc g) []))
 unfolding takenOf freeAfter cut
@@ -552,7 +552,7 @@ blank-count T S delay g = refl
 pub loop-first : (T : Turns) (S : List Bool) (delay : ℕ → ℕ) (order table : List ℕ) → table ≡ blankTable → RowsPut T S delay (take 0 order) table (replicate {A = ℕ} keptPlaces 0)
 unfolding blankTable
 loop-first T S delay order table e = rw e (record {
-  places = length-replicate {A = ℕ} tablePlaces shiftMinutes;
+  places = length-replicate {A = ℕ} dayTablePlaces shiftMinutes;
   beside = length-replicate {A = ℕ} keptPlaces 0;
   rows = λ g j l k. blank-row T S delay g j l k;
   free = λ g l. filled-at keptPlaces 0 g (omega arith) ∙ blank-free T S delay g;
@@ -562,11 +562,11 @@ loop-first T S delay order table e = rw e (record {
 
 pub loop-same : (T : Turns) (S : List Bool) (delay : ℕ → ℕ) (us table kept table₀ : List ℕ) → table₀ ≡ blankTable → RowsPut T S delay us table kept → length table ≡ length table₀
 unfolding blankTable
-loop-same T S delay us table kept table₀ e w = w .places ∙ sym (ap length e ∙ length-replicate {A = ℕ} tablePlaces shiftMinutes)
+loop-same T S delay us table kept table₀ e w = w .places ∙ sym (ap length e ∙ length-replicate {A = ℕ} dayTablePlaces shiftMinutes)
 
 pub ruleset loop-cases = (loop-first, loop-same, order-place, loop-turn, loop-bit, loop-delays, loop-delay, loop-starts, loop-ends, loop-places, loop-open, loop-next, loop-done)
 
-pub blank-made : replicate {A = ℕ} tablePlaces shiftMinutes ≡ blankTable
+pub blank-made : replicate {A = ℕ} dayTablePlaces shiftMinutes ≡ blankTable
 unfolding blankTable
 blank-made = refl
 

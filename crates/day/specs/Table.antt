@@ -2,7 +2,7 @@
 use mathlib.Core.Path.{_≡_}
 use mathlib.Core.Bool.{Bool, true, false, cond, _&&_}
 use mathlib.Core.List.{List, [], _∷_}
-use Prim.Native.Nat.{ℕ, zero, suc, _+_, _-_, _*_, _≤_, _<_, max}
+use Prim.Native.Nat.{ℕ, zero, suc, _+_, _-_, _*_, _/_, _≤_, _<_, max}
 use lib.Dec.{ltb, leb, eqb}
 use lib.ListN.{length, getD, set, replicate}
 use Rattle.turns.specs.Turn.{shiftMinutes}
@@ -12,9 +12,9 @@ use Rattle.problem.specs.declared.ways.Row.{Row}
 use Rattle.playing.specs.declared.Stint.{Stint}
 use Rattle.playing.specs.Day.{overMinutes, mostDelay, delayIn, stintOf, stintsFrom, takenOf, dayOf, Doing, works, drives, stands}
 
--- the stints that a day can have gone through: each has driven over for ten minutes
+-- the stints that a day can have gone through: each has driven over
 abbrev pub dayRows : ℕ
-dayRows = 96
+dayRows = shiftMinutes / overMinutes
 
 -- a row's numbers
 abbrev pub rowSize : ℕ
@@ -23,12 +23,12 @@ rowSize = 3
 abbrev pub dayPlaces : ℕ
 dayPlaces = dayRows * rowSize
 
-abbrev pub tablePlaces : ℕ
-tablePlaces = mostGroomers * dayPlaces
+abbrev pub dayTablePlaces : ℕ
+dayTablePlaces = mostGroomers * dayPlaces
 
 -- a table without stints
 unfoldable pub blankTable : List ℕ
-blankTable = replicate tablePlaces shiftMinutes
+blankTable = replicate dayTablePlaces shiftMinutes
 
 -- beside the table, while it is filled: from when on each groomer is free, groomers from 0, then how many stints each has
 abbrev pub countPlace : ℕ → ℕ
@@ -42,21 +42,21 @@ unfoldable pub cut : ℕ → ℕ
 cut x = cond (ltb x shiftMinutes) x shiftMinutes
 
 -- where row j of its day starts
-abbrev pub rowPlace : ℕ → ℕ → ℕ
-rowPlace g j = g * dayPlaces + j * rowSize
+abbrev pub stintPlace : ℕ → ℕ → ℕ
+stintPlace g j = g * dayPlaces + j * rowSize
 
 -- the stint in that row
 unfoldable pub stintIn : List ℕ → ℕ → ℕ → Stint
 stintIn table g j =
     record {
-      turn = getD table (rowPlace g j) 0;
-      begin = getD table (rowPlace g j + 1) 0;
-      end = getD table (rowPlace g j + 2) 0;
+      turn = getD table (stintPlace g j) 0;
+      begin = getD table (stintPlace g j + 1) 0;
+      end = getD table (stintPlace g j + 2) 0;
     }
 
 -- the table with a stint in that row
 unfoldable pub withStint : List ℕ → ℕ → ℕ → Stint → List ℕ
-withStint table g j s = set (set (set table (rowPlace g j) (s .turn)) (rowPlace g j + 1) (s .begin)) (rowPlace g j + 2) (s .end)
+withStint table g j s = set (set (set table (stintPlace g j) (s .turn)) (stintPlace g j + 1) (s .begin)) (stintPlace g j + 2) (s .end)
 
 -- a row without a stint: it begins when the shift is over
 unfoldable pub noStint : Stint
@@ -94,8 +94,8 @@ withNext table kept g s =
     cond (ltb j dayRows) (withStint table g j s) table
 
 -- what is kept beside it then
-unfoldable pub keptNext : List ℕ → ℕ → Stint → List ℕ
-keptNext kept g s = set (set kept g (cut (s .end + overMinutes))) (countPlace g) (getD kept (countPlace g) 0 + 1)
+unfoldable pub besideNext : List ℕ → ℕ → Stint → List ℕ
+besideNext kept g s = set (set kept g (cut (s .end + overMinutes))) (countPlace g) (getD kept (countPlace g) 0 + 1)
 
 -- a groomer that a sheet can have
 unfoldable pub isKnown : ℕ → Bool
@@ -107,20 +107,20 @@ tableWith chosen r u delay table kept =
     let g = r .groomer - 1 in
     cond (chosen && isKnown (r .groomer)) (withNext table kept g (stintBy r u delay (getD kept g 0))) table
 
-unfoldable pub keptWith : Bool → Row → ℕ → ℕ → List ℕ → List ℕ
-keptWith chosen r u delay kept =
+unfoldable pub besideWith : Bool → Row → ℕ → ℕ → List ℕ → List ℕ
+besideWith chosen r u delay kept =
     let g = r .groomer - 1 in
-    cond (chosen && isKnown (r .groomer)) (keptNext kept g (stintBy r u delay (getD kept g 0))) kept
+    cond (chosen && isKnown (r .groomer)) (besideNext kept g (stintBy r u delay (getD kept g 0))) kept
+
+-- ---- as statements
 
 -- the delays of the first n turns are within their limit
 abbrev pub DelaysFit : List ℕ → ℕ → Type 0
 DelaysFit delays n = (n ≤ length delays) × ((u : ℕ) → u < n → delayIn delays u ≤ mostDelay)
 
--- ---- as statements
-
 -- the table has a row for each stint of the days over some turns, taken in their order, groomer by groomer
 pub record RowsPut (T : Turns) (S : List Bool) (delay : ℕ → ℕ) (us table kept : List ℕ) : Type 0 where
-  pub places : length table ≡ tablePlaces
+  pub places : length table ≡ dayTablePlaces
   pub beside : length kept ≡ keptPlaces
   pub rows : (g j : ℕ) → g < mostGroomers → j < dayRows → stintIn table g j ≡ stintRow (stintsFrom T delay 0 (takenOf T S (suc g) us)) j
   pub free : (g : ℕ) → g < mostGroomers → getD kept g 0 ≡ cut (freeAfter T delay 0 (takenOf T S (suc g) us))
@@ -128,12 +128,12 @@ pub record RowsPut (T : Turns) (S : List Bool) (delay : ℕ → ℕ) (us table k
   pub few : (g : ℕ) → g < mostGroomers → getD kept (countPlace g) 0 ≤ length us
 
 -- what is kept beside a table is ready for a turn more: free minutes within the shift, and counts that fit
-pub record Open (kept : List ℕ) : Type 0 where
+pub record RoomForTurn (kept : List ℕ) : Type 0 where
   pub beside : length kept ≡ keptPlaces
   pub free : (g : ℕ) → g < mostGroomers → getD kept g 0 ≤ shiftMinutes
   pub few : (g : ℕ) → g < mostGroomers → getD kept (countPlace g) 0 < mostTurns
 
 -- the table holds the days
 pub record Days (T : Turns) (S : List Bool) (delay : ℕ → ℕ) (table : List ℕ) : Type 0 where
-  pub places : length table ≡ tablePlaces
+  pub places : length table ≡ dayTablePlaces
   pub rows : (g j : ℕ) → g < mostGroomers → j < dayRows → stintIn table g j ≡ stintRow (dayOf T S delay (suc g)) j

@@ -10,8 +10,8 @@ ghost use Rattle.choicemap.specs.Choice.{chosenIn, choiceIn};
 ghost use Rattle.problem.specs.Columns.{rowIn, turnsBy, Held};
 ghost use Rattle.partition.specs.Numbering.{orderByStart};
 ghost use Rattle.playing.specs.Day.{overMinutes, mostDelay, delayIn, delaysFit};
-ghost use Rattle.day.specs.Table.{dayRows, tablePlaces, cut, stintIn, withStint, stintBy, withNext, keptNext, isKnown, tableWith, keptWith};
-ghost use Rattle.day.specs.Table.{blankTable, DelaysFit, Open, Days};
+ghost use Rattle.day.specs.Table.{dayRows, dayTablePlaces, cut, stintIn, withStint, stintBy, withNext, besideNext, isKnown, tableWith, besideWith};
+ghost use Rattle.day.specs.Table.{blankTable, DelaysFit, RoomForTurn, Days};
 use playing::Stint;
 use problem::MOST_TURNS;
 use problem::PLACES;
@@ -19,20 +19,20 @@ use problem::Row;
 use problem::Size;
 use problem::row_at;
 
-// Driving over takes so many minutes.
-pub const OVER_MINUTES: u16 = 10;
+// Driving over takes the minutes that a groomer has free between two turns.
+pub const OVER_MINUTES: u16 = problem::SHIFT_GAP;
 
-// No turn finishes later than so many minutes.
+// The longest delay that a turn may have, in minutes.
 const MOST_DELAY: u16 = 120;
 
 // The minutes of a shift.
 pub const MINUTES: u16 = turns::SHIFT_MINUTES as u16;
 
 // As many groomers as a sheet can have.
-const GROOMERS: usize = 16;
+const GROOMERS: usize = sheet::MOST_GROOMERS as usize;
 
 // Each stint that is over has driven over, so that no more than these come up in a shift.
-const DAY_ROWS: usize = 96;
+const DAY_ROWS: usize = (turns::SHIFT_MINUTES / OVER_MINUTES as u32) as usize;
 
 // Turn, begin, end.
 const ROW_SIZE: usize = 3;
@@ -79,7 +79,7 @@ fn stint_by(r: Row, t: u16, delay: u16, free: u16) -> Stint
 
 // Puts a stint into row j of groomer g's day, groomers from 0.
 fn put_stint(table: &mut [u16], g: usize, j: usize, s: Stint)
-    requires { ⌜ (length (now table) ≡ tablePlaces) × (g < mostGroomers) × (j < dayRows) ⌝ }
+    requires { ⌜ (length (now table) ≡ dayTablePlaces) × (g < mostGroomers) × (j < dayRows) ⌝ }
     ensures { λ _. ⌜ now (table .exit) ≡ withStint (now (table .entry)) g j s ⌝ }
 {
     let at = g * DAY_PLACES + j * ROW_SIZE;
@@ -90,7 +90,7 @@ fn put_stint(table: &mut [u16], g: usize, j: usize, s: Stint)
 
 // The stint in row j of groomer g's day.
 pub fn stint_at(table: &[u16], g: usize, j: usize) -> Stint
-    requires { ⌜ (length (now table) ≡ tablePlaces) × (g < mostGroomers) × (j < dayRows) ⌝ }
+    requires { ⌜ (length (now table) ≡ dayTablePlaces) × (g < mostGroomers) × (j < dayRows) ⌝ }
     ensures { λ r. ⌜ r ≡ stintIn (now (table .entry)) g j ⌝ }
 {
     let at = g * DAY_PLACES + j * ROW_SIZE;
@@ -113,7 +113,7 @@ fn is_known(h: u16) -> bool
 
 // Puts a stint behind groomer g's last one.
 fn put_next(table: &mut [u16], kept: &[u16], g: usize, s: Stint)
-    requires { ⌜ (length (now table) ≡ tablePlaces) × Open (now kept) × (g < mostGroomers) ⌝ }
+    requires { ⌜ (length (now table) ≡ dayTablePlaces) × RoomForTurn (now kept) × (g < mostGroomers) ⌝ }
     ensures { λ _. ⌜ now (table .exit) ≡ withNext (now (table .entry)) (now (kept .entry)) g s ⌝ }
 {
     let j = kept[GROOMERS + g] as usize;
@@ -124,8 +124,8 @@ fn put_next(table: &mut [u16], kept: &[u16], g: usize, s: Stint)
 
 // The groomer is free when it has driven over, and has a stint more.
 fn keep_next(kept: &mut [u16], g: usize, s: Stint)
-    requires { ⌜ Open (now kept) × (g < mostGroomers) × (s .end ≤ shiftMinutes) ⌝ }
-    ensures { λ _. ⌜ now (kept .exit) ≡ keptNext (now (kept .entry)) g s ⌝ }
+    requires { ⌜ RoomForTurn (now kept) × (g < mostGroomers) × (s .end ≤ shiftMinutes) ⌝ }
+    ensures { λ _. ⌜ now (kept .exit) ≡ besideNext (now (kept .entry)) g s ⌝ }
 {
     let j = kept[GROOMERS + g];
     kept[g] = cut_off(s.end + OVER_MINUTES);
@@ -134,10 +134,10 @@ fn keep_next(kept: &mut [u16], g: usize, s: Stint)
 
 // Puts turn t of groomer g, a row with its delay, into the groomer's day.
 fn put_turn(table: &mut [u16], kept: &mut [u16], g: usize, r: Row, t: u16, delay: u16)
-    requires { ⌜ (length (now table) ≡ tablePlaces) × Open (now kept) × (g < mostGroomers) ⌝ }
+    requires { ⌜ (length (now table) ≡ dayTablePlaces) × RoomForTurn (now kept) × (g < mostGroomers) ⌝ }
     requires { ⌜ (r .start < r .end) × (r .end ≤ shiftMinutes) × (delay ≤ mostDelay) ⌝ }
     ensures { λ _. ⌜ (now (table .exit) ≡ withNext (now (table .entry)) (now (kept .entry)) g (stintBy r t delay (getD (now (kept .entry)) g 0)))
-        × (now (kept .exit) ≡ keptNext (now (kept .entry)) g (stintBy r t delay (getD (now (kept .entry)) g 0))) ⌝ }
+        × (now (kept .exit) ≡ besideNext (now (kept .entry)) g (stintBy r t delay (getD (now (kept .entry)) g 0))) ⌝ }
 {
     let s = stint_by(r, t, delay, kept[g]);
     put_next(&mut *table, &*kept, g, s);
@@ -155,10 +155,10 @@ fn put_chosen(
 )
     requires { ⌜ (u < mostTurns) × (u < 8 * length (now map)) × (u < length (now delays)) × (delayIn (now delays) u ≤ mostDelay) ⌝ }
     requires { ⌜ (rowIn (now cols) u .start < rowIn (now cols) u .end) × (rowIn (now cols) u .end ≤ shiftMinutes) ⌝ }
-    requires { ⌜ (length (now table) ≡ tablePlaces) × Open (now kept) ⌝ }
+    requires { ⌜ (length (now table) ≡ dayTablePlaces) × RoomForTurn (now kept) ⌝ }
     ensures { λ _. ⌜ (now (table .exit) ≡ tableWith (chosenIn (now (map .entry)) u) (rowIn (now (cols .entry)) u) u (delayIn (now (delays .entry)) u)
         (now (table .entry)) (now (kept .entry)))
-        × (now (kept .exit) ≡ keptWith (chosenIn (now (map .entry)) u) (rowIn (now (cols .entry)) u) u (delayIn (now (delays .entry)) u)
+        × (now (kept .exit) ≡ besideWith (chosenIn (now (map .entry)) u) (rowIn (now (cols .entry)) u) u (delayIn (now (delays .entry)) u)
         (now (kept .entry))) ⌝ }
 {
     let t = u as usize;

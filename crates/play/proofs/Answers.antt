@@ -36,14 +36,14 @@ use Rattle.audit.specs.Judged.{judged}
 use Rattle.audit.proofs.Faults.{judged-number}
 use Rattle.checking.proofs.Passing.{Clear, board-clear}
 use Rattle.playing.specs.Day.{delayIn, delaysFit, dayOf}
-use Rattle.day.specs.Table.{tablePlaces, DelaysFit, Days}
+use Rattle.day.specs.Table.{dayTablePlaces, DelaysFit, Days}
 use Rattle.day.proofs.Rows.{fit-delays}
 use Rattle.playing.specs.declared.Standing.{Standing}
 use Rattle.play.specs.declared.PlayAnswer.{PlayAnswer}
-use Rattle.play.specs.declared.Plan.{Plan}
+use Rattle.play.specs.declared.Prepared.{Prepared}
 use Rattle.playing.specs.Standing.{standingAfter}
 use Rattle.play.specs.Play.{servesFor, lentCauses, playCauses, dayAt, standingsOf, played, playRefused, playOf}
-use Rattle.play.specs.Minutes.{minutesFrom, PlannedBy, Planned}
+use Rattle.play.specs.Minutes.{minutesFrom, PreparedBy, PreparedFor}
 use Rattle.play.proofs.Standings.{minutes-say, none-moved}
 
 -- ---- the delays' test
@@ -93,12 +93,12 @@ module _ (groomers n : ℕ) (delays : List ℕ) (places : ℕ) where
   unfolding lentCauses firstOf
   by-none d l = rw (d, le-ltb places groomers l)
 
--- ---- plans
+-- ---- what is prepared
 
-abbrev Refused : Plan → ℕ → Type 0
-Refused p k = (p .refusal ≡ k) × (p .groomers ≡ 0) × (p .moved ≡ 0) × (length (p .table) ≡ tablePlaces)
+abbrev Refused : Prepared → ℕ → Type 0
+Refused p k = (p .refusal ≡ k) × (p .groomers ≡ 0) × (p .moved ≡ 0) × (length (p .table) ≡ dayTablePlaces)
 
-given : (causes : List Cause) (T : Turns) (groomers : ℕ) (S : List Bool) (delays : List ℕ) (places k : ℕ) (p : Plan) → firstOf causes ≡ k → (k ≡ 0 → ⊥) → Refused p k → PlannedBy causes T groomers S delays places p
+given : (causes : List Cause) (T : Turns) (groomers : ℕ) (S : List Bool) (delays : List ℕ) (places k : ℕ) (p : Prepared) → firstOf causes ≡ k → (k ≡ 0 → ⊥) → Refused p k → PreparedBy causes T groomers S delays places p
 given causes T groomers S delays places k p e z q = record {
   number = q .0 ∙ sym e;
   none = λ _. q .1;
@@ -110,8 +110,8 @@ given causes T groomers S delays places k p e z q = record {
   inside = omega (arith, q .2);
 }
 
--- the same plan where causes that are not there stand in front
-carried : (front causes : List Cause) (T : Turns) (groomers : ℕ) (S : List Bool) (delays : List ℕ) (places : ℕ) (p : Plan) → firstOf front ≡ firstOf causes → PlannedBy causes T groomers S delays places p → PlannedBy front T groomers S delays places p
+-- the same where causes that are not there stand in front
+carried : (front causes : List Cause) (T : Turns) (groomers : ℕ) (S : List Bool) (delays : List ℕ) (places : ℕ) (p : Prepared) → firstOf front ≡ firstOf causes → PreparedBy causes T groomers S delays places p → PreparedBy front T groomers S delays places p
 carried front causes T groomers S delays places p e w = record {
   number = w .number ∙ sym e;
   none = w .none;
@@ -126,14 +126,14 @@ carried front causes T groomers S delays places p e w = record {
 -- ---- as the code leaves it: for a board that passes
 
 module _ (p : Size) (cols : List ℕ) (groomers : ℕ) (b delays : List ℕ) (places : ℕ) where
-  pub days-delays : (x : Plan) {c : Bool} → c ≡ servesFor (p .count) delays → c ≡ false → Refused x badDelays → PlannedBy (lentCauses groomers (p .count) delays places) (turnsBy p cols) groomers (boardChoice b) delays places x
+  pub days-delays : (x : Prepared) {c : Bool} → c ≡ servesFor (p .count) delays → c ≡ false → Refused x badDelays → PreparedBy (lentCauses groomers (p .count) delays places) (turnsBy p cols) groomers (boardChoice b) delays places x
   days-delays x d f r = given (lentCauses groomers (p .count) delays places) (turnsBy p cols) groomers (boardChoice b) delays places badDelays x (by-delays groomers (p .count) delays places (sym d ∙ f)) (λ n. omega (arith, n)) r
 
-  pub days-small : (x : Plan) {c : Bool} → c ≡ servesFor (p .count) delays → c ≡ true → places < groomers → Refused x bufferTooSmall → PlannedBy (lentCauses groomers (p .count) delays places) (turnsBy p cols) groomers (boardChoice b) delays places x
+  pub days-small : (x : Prepared) {c : Bool} → c ≡ servesFor (p .count) delays → c ≡ true → places < groomers → Refused x bufferTooSmall → PreparedBy (lentCauses groomers (p .count) delays places) (turnsBy p cols) groomers (boardChoice b) delays places x
   days-small x d f l r = given (lentCauses groomers (p .count) delays places) (turnsBy p cols) groomers (boardChoice b) delays places bufferTooSmall x (by-places groomers (p .count) delays places (sym d ∙ f) l) (λ n. omega (arith, n)) r
 
   pub days-done : {c : Bool} {map table : List ℕ} → c ≡ servesFor (p .count) delays → c ≡ true → groomers ≤ places → groomers ≤ mostGroomers → boardTurns b ≡ p .count → map ≡ boardMap b → Days (turnsBy p cols) (choiceIn (p .count) map) (delayIn delays) table
-      → PlannedBy (lentCauses groomers (p .count) delays places) (turnsBy p cols) groomers (boardChoice b) delays places (record { refusal = 0; groomers = groomers; moved = groomers; table = table })
+      → PreparedBy (lentCauses groomers (p .count) delays places) (turnsBy p cols) groomers (boardChoice b) delays places (record { refusal = 0; groomers = groomers; moved = groomers; table = table })
   unfolding boardChoice
   days-done d f l few n m t = record {
     number = sym (by-none groomers (p .count) delays places (sym d ∙ f) l);
@@ -170,11 +170,11 @@ module _ (T : Turns) (b : List ℕ) (limit : ℕ) {j : Judgement} (e : j ≡ jud
   pub board-counted : j .fault ≡ 0 → boardTurns b ≡ T .count
   board-counted z = board-clear T b (fault-is ∙ z) .counted
 
-  module _ (causes : List Cause) (groomers : ℕ) (S : List Bool) (delays : List ℕ) (places : ℕ) (x : Plan) where
-    pub board-refused : (j .fault ≡ 0 → ⊥) → Refused x (j .fault) → PlannedBy (boardCauses T b ++ causes) T groomers S delays places x
+  module _ (causes : List Cause) (groomers : ℕ) (S : List Bool) (delays : List ℕ) (places : ℕ) (x : Prepared) where
+    pub board-refused : (j .fault ≡ 0 → ⊥) → Refused x (j .fault) → PreparedBy (boardCauses T b ++ causes) T groomers S delays places x
     board-refused z r = given (boardCauses T b ++ causes) T groomers S delays places (j .fault) x (first-stops (boardCauses T b) causes (j .fault) fault-is z) z r
 
-    pub board-passes : j .fault ≡ 0 → PlannedBy causes T groomers S delays places x → PlannedBy (boardCauses T b ++ causes) T groomers S delays places x
+    pub board-passes : j .fault ≡ 0 → PreparedBy causes T groomers S delays places x → PreparedBy (boardCauses T b ++ causes) T groomers S delays places x
     board-passes z w = carried (boardCauses T b ++ causes) causes T groomers S delays places x (first-goes (boardCauses T b) causes (board-numbered T b) (fault-is ∙ z)) w
 
 pub board-size : (p : Size) (cols b : List ℕ) (limit : ℕ) {j : Judgement} → j ≡ judged (firstOf (boardCauses (turnsBy p cols) b)) limit → j .fault ≡ 0 → boardTurns b ≡ p .count
@@ -185,7 +185,7 @@ pub ruleset board-cases = (board-formed, board-size, board-refused, board-passes
 -- ---- for a sheet
 
 module _ (s b delays : List ℕ) (places : ℕ) {a : ReadAnswer} (e : a ≡ answerOf s) where
-  pub sheet-refused : (x : Plan) → (a .refusal ≡ 0 → ⊥) → Refused x (a .refusal) → Planned s b delays places x
+  pub sheet-refused : (x : Prepared) → (a .refusal ≡ 0 → ⊥) → Refused x (a .refusal) → PreparedFor s b delays places x
   unfolding playCauses checkCauses
   sheet-refused x z r =
       given (playCauses s b delays places) (sheetTurns s) (countsIn s .groomers) (boardChoice b) delays places (a .refusal) x
@@ -208,14 +208,14 @@ module _ (s : List ℕ) {a : ReadAnswer} (e : a ≡ answerOf s) (y : a .refusal 
     size-is : p .count ≡ turnCount s
     size-is = ap (λ (x : Size). x .count) q ∙ whole-turns s e y
 
-    pub sheet-planned : (b delays : List ℕ) (places : ℕ) (x : Plan) → PlannedBy (boardCauses (turnsBy p cols) b ++ lentCauses (a .groomers) (p .count) delays places) (turnsBy p cols) (a .groomers) (boardChoice b) delays places x → Planned s b delays places x
+    pub sheet-prepared : (b delays : List ℕ) (places : ℕ) (x : Prepared) → PreparedBy (boardCauses (turnsBy p cols) b ++ lentCauses (a .groomers) (p .count) delays places) (turnsBy p cols) (a .groomers) (boardChoice b) delays places x → PreparedFor s b delays places x
     unfolding playCauses checkCauses
-    sheet-planned b delays places x v =
-        let v′ : PlannedBy (boardCauses (sheetTurns s) b ++ lentCauses (countsIn s .groomers) (turnCount s) delays places) (sheetTurns s) (countsIn s .groomers) (boardChoice b) delays places x = rw (turns-are, groomers-of, size-is) at v in
+    sheet-prepared b delays places x v =
+        let v′ : PreparedBy (boardCauses (sheetTurns s) b ++ lentCauses (countsIn s .groomers) (turnCount s) delays places) (sheetTurns s) (countsIn s .groomers) (boardChoice b) delays places x = rw (turns-are, groomers-of, size-is) at v in
         carried ((sheetCauses s ++ boardCauses (sheetTurns s) b) ++ lentCauses (countsIn s .groomers) (turnCount s) delays places) _ (sheetTurns s) (countsIn s .groomers) (boardChoice b) delays places x
         (ap firstOf (append-assoc (sheetCauses s) (boardCauses (sheetTurns s) b) (lentCauses (countsIn s .groomers) (turnCount s) delays places)) ∙ first-goes (sheetCauses s) _ (sheet-numbered s) (whole-accepted s e y)) v′
 
-pub ruleset plan-cases = (sheet-refused, sheet-few, sheet-held, sheet-planned)
+pub ruleset prepared-cases = (sheet-refused, sheet-few, sheet-held, sheet-prepared)
 
 -- ---- the entry
 
@@ -232,7 +232,7 @@ module _ (s b delays : List ℕ) (lent : List Standing) where
   unfolding playOf
   answered-is e = rw e
 
-  pub play-answer : (p : Plan) → Planned s b delays (length lent) p → {r : PlayAnswer} {zs : List Standing} → r ≡ record { refusal = p .refusal; groomers = p .groomers } → zs ≡ minutesFrom shiftMinutes 0 (p .moved) lent (p .table) → played r zs ≡ playOf s b delays lent
+  pub play-answer : (p : Prepared) → PreparedFor s b delays (length lent) p → {r : PlayAnswer} {zs : List Standing} → r ≡ record { refusal = p .refusal; groomers = p .groomers } → zs ≡ minutesFrom shiftMinutes 0 (p .moved) lent (p .table) → played r zs ≡ playOf s b delays lent
   unfolding standingsOf dayAt
   play-answer p w {r} {zs} x y = go (ℕ-discrete (p .refusal) 0)
     where

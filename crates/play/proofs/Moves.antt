@@ -14,11 +14,11 @@ use Rattle.turns.specs.Turn.{shiftMinutes}
 use Rattle.sheet.specs.Kind.{mostGroomers}
 use Rattle.playing.specs.declared.Stint.{Stint}
 use Rattle.playing.specs.Day.{overMinutes}
-use Rattle.day.specs.Table.{dayRows, tablePlaces, stintIn, doingBy}
+use Rattle.day.specs.Table.{dayRows, dayTablePlaces, stintIn, doingBy}
 use Rattle.playing.specs.declared.Standing.{Standing}
 use Rattle.playing.specs.Standing.{noTurnInHand, freshOf, movedBy, totalOf}
 use Rattle.playing.proofs.Standings.{moved-total}
-use Rattle.play.specs.Minutes.{begunOf, stepOf, minuteOf, minutesFrom, Ready, AllReady}
+use Rattle.play.specs.Minutes.{begunOf, stepOf, minuteOf, minutesFrom, MinuteReady, AllMinuteReady}
 
 -- ---- the cases of a step
 
@@ -63,7 +63,7 @@ module _ (b s : Standing) (table : List ℕ) (g m : ℕ) {k : Stint} (e : b ≡ 
 
 -- ---- a step has room
 
-module _ (b s : Standing) (table : List ℕ) (g m : ℕ) (e : b ≡ begunOf s m) (r : Ready table g m s) where
+module _ (b s : Standing) (table : List ℕ) (g m : ℕ) (e : b ≡ begunOf s m) (r : MinuteReady table g m s) where
   total-is : b .working + b .driving + b .standing ≡ m
   total-is = ap totalOf e ∙ r .3
 
@@ -82,17 +82,17 @@ module _ (b s : Standing) (table : List ℕ) (g m : ℕ) (e : b ≡ begunOf s m)
   pub row-fits : b .driving / overMinutes < 18446744073709551616
   row-fits = omega (arith, total-is, r .2)
 
-pub table-room : (s : Standing) (table : List ℕ) (g m : ℕ) → Ready table g m s → length table ≡ tablePlaces
+pub table-room : (s : Standing) (table : List ℕ) (g m : ℕ) → MinuteReady table g m s → length table ≡ dayTablePlaces
 table-room s table g m r = r .0
 
-pub groomer-room : (s : Standing) (table : List ℕ) (g m : ℕ) → Ready table g m s → g < mostGroomers
+pub groomer-room : (s : Standing) (table : List ℕ) (g m : ℕ) → MinuteReady table g m s → g < mostGroomers
 groomer-room s table g m r = r .1
 
 pub ruleset step-cases = (step-stands, step-works, step-drives, working-room, driving-room, standing-room, row-room, row-fits, table-room, groomer-room)
 
 -- ---- a step makes one more minute
 
-step-total : (s : Standing) (table : List ℕ) (g m : ℕ) → Ready table g m s → totalOf (stepOf s table g m) ≡ m + 1
+step-total : (s : Standing) (table : List ℕ) (g m : ℕ) → MinuteReady table g m s → totalOf (stepOf s table g m) ≡ m + 1
 unfolding stepOf
 step-total s table g m r = moved-total (begunOf s m) (doingBy (stintIn table g (begunOf s m .driving / overMinutes)) m) ∙ ap (λ (t : ℕ). t + 1) (r .3)
 
@@ -106,10 +106,10 @@ pub record Mid (n : ℕ) (ys : List Standing) (table : List ℕ) (m g : ℕ) (l 
   pub upto : g ≤ n
   pub same : length l ≡ length ys
   pub rest : minuteOf (n - g) g l table m ≡ minuteOf n 0 ys table m
-  pub ready : (j : ℕ) → g ≤ j → j < n → Ready table j m (getD l j freshOf)
+  pub ready : (j : ℕ) → g ≤ j → j < n → MinuteReady table j m (getD l j freshOf)
 
 module _ (n : ℕ) (ys : List Standing) (table : List ℕ) (m : ℕ) where
-  pub mid-start : AllReady table m n ys → Mid n ys table m 0 ys
+  pub mid-start : AllMinuteReady table m n ys → Mid n ys table m 0 ys
   mid-start h = record { upto = omega arith; same = refl; rest = rw sub-zero; ready = λ j _ l. h j l }
 
   pub mid-next : (g : ℕ) (l : List Standing) → g < n → Mid n ys table m g l → Mid n ys table m (g + 1) (set l g (stepOf (getD l g freshOf) table g m))
@@ -151,7 +151,7 @@ minute-at (suc k) g l table m j h h′ room =
       | inr more ↦ let other : j ≡ g → ⊥ = λ e. omega arith in minute-at k (g + 1) (set l g (stepOf (getD l g freshOf) table g m)) table m j more up room′ ∙ ap (λ (s : Standing). stepOf s table j m) (getD-set-other l g j (stepOf (getD l g freshOf) table g m) freshOf other)
     ]
 
-pub minute-ready : (n : ℕ) (l : List Standing) (table : List ℕ) (m : ℕ) → n ≤ length l → m + 1 < shiftMinutes → AllReady table m n l → AllReady table (m + 1) n (minuteOf n 0 l table m)
+pub minute-ready : (n : ℕ) (l : List Standing) (table : List ℕ) (m : ℕ) → n ≤ length l → m + 1 < shiftMinutes → AllMinuteReady table m n l → AllMinuteReady table (m + 1) n (minuteOf n 0 l table m)
 minute-ready n l table m room day h g less =
     let e : getD (minuteOf n 0 l table m) g freshOf ≡ stepOf (getD l g freshOf) table g m = minute-at n 0 l table m g (omega arith) (omega arith) (omega arith) in
     let later : m + 1 ≡ 0 → ⊥ = λ z. omega arith in
@@ -162,10 +162,10 @@ pub record Minutes (n : ℕ) (ys : List Standing) (table : List ℕ) (m : ℕ) (
   pub upto : m ≤ shiftMinutes
   pub same : length l ≡ length ys
   pub rest : minutesFrom (shiftMinutes - m) m n l table ≡ minutesFrom shiftMinutes 0 n ys table
-  pub ready : m < shiftMinutes → AllReady table m n l
+  pub ready : m < shiftMinutes → AllMinuteReady table m n l
 
 module _ (n : ℕ) (ys : List Standing) (table : List ℕ) where
-  pub minutes-start : n ≤ mostGroomers → length table ≡ tablePlaces → Minutes n ys table 0 ys
+  pub minutes-start : n ≤ mostGroomers → length table ≡ dayTablePlaces → Minutes n ys table 0 ys
   unfolding begunOf
   minutes-start few places = record { upto = omega arith; same = refl; rest = refl; ready = λ _ g less. (places, omega arith, omega arith, refl) }
 

@@ -13,9 +13,9 @@ use Rattle.sheet.specs.Read.{countsIn}
 use Rattle.problem.specs.Problem.{sheetTurns}
 use Rattle.board.specs.Board.{boardChoice}
 use Rattle.playing.specs.Day.{overMinutes, delayIn}
-use Rattle.day.specs.Table.{tablePlaces, stintIn, doingBy, Days}
+use Rattle.day.specs.Table.{dayTablePlaces, stintIn, doingBy, Days}
 use Rattle.playing.specs.declared.Standing.{Standing}
-use Rattle.play.specs.declared.Plan.{Plan}
+use Rattle.play.specs.declared.Prepared.{Prepared}
 use Rattle.playing.specs.Standing.{freshOf, movedBy, totalOf}
 use Rattle.play.specs.Play.{playCauses}
 
@@ -40,23 +40,23 @@ minutesFrom (suc k) m n l table = minutesFrom k (m + 1) n (minuteOf n 0 l table 
 -- ---- as statements
 
 -- what minute m of a groomer asks: a table and a groomer of it, a minute of the shift, and a standing of m minutes to start from
-abbrev pub Ready : List ℕ → ℕ → ℕ → Standing → Type 0
-Ready table g m s = (length table ≡ tablePlaces) × (g < mostGroomers) × (m < shiftMinutes) × (totalOf (begunOf s m) ≡ m)
+abbrev pub MinuteReady : List ℕ → ℕ → ℕ → Standing → Type 0
+MinuteReady table g m s = (length table ≡ dayTablePlaces) × (g < mostGroomers) × (m < shiftMinutes) × (totalOf (begunOf s m) ≡ m)
 
-abbrev pub AllReady : List ℕ → ℕ → ℕ → List Standing → Type 0
-AllReady table m n l = (g : ℕ) → g < n → Ready table g m (getD l g freshOf)
+abbrev pub AllMinuteReady : List ℕ → ℕ → ℕ → List Standing → Type 0
+AllMinuteReady table m n l = (g : ℕ) → g < n → MinuteReady table g m (getD l g freshOf)
 
 -- what is worked out before the first minute, where these are the causes to refuse: the answer, and where none is there a table that holds the days
-pub record PlannedBy (causes : List Cause) (T : Turns) (groomers : ℕ) (S : List Bool) (delays : List ℕ) (places : ℕ) (p : Plan) : Type 0 where
+pub record PreparedBy (causes : List Cause) (T : Turns) (groomers : ℕ) (S : List Bool) (delays : List ℕ) (places : ℕ) (p : Prepared) : Type 0 where
   pub number : p .refusal ≡ firstOf causes
   pub none : (p .refusal ≡ 0 → ⊥) → p .groomers ≡ 0
   pub groomers-are : p .refusal ≡ 0 → p .groomers ≡ groomers
   pub days : p .refusal ≡ 0 → Days T S (delayIn delays) (p .table)
-  pub places-are : length (p .table) ≡ tablePlaces
+  pub places-are : length (p .table) ≡ dayTablePlaces
   pub moved-are : p .moved ≡ p .groomers
   pub few : p .moved ≤ mostGroomers
   pub inside : p .moved ≤ places
 
 -- for a sheet and a board
-abbrev pub Planned : List ℕ → List ℕ → List ℕ → ℕ → Plan → Type 0
-Planned s b delays places p = PlannedBy (playCauses s b delays places) (sheetTurns s) (countsIn s .groomers) (boardChoice b) delays places p
+abbrev pub PreparedFor : List ℕ → List ℕ → List ℕ → ℕ → Prepared → Type 0
+PreparedFor s b delays places p = PreparedBy (playCauses s b delays places) (sheetTurns s) (countsIn s .groomers) (boardChoice b) delays places p

@@ -11,10 +11,10 @@ ghost use Rattle.problem.specs.Columns.{turnsBy, Held};
 ghost use Rattle.board.specs.Board.{boardTurns, boardChoice};
 ghost use Rattle.board.specs.Open.{malformed};
 ghost use Rattle.checking.specs.Check.{boardCauses};
-ghost use Rattle.day.specs.Table.{tablePlaces};
+ghost use Rattle.day.specs.Table.{dayTablePlaces};
 ghost use Rattle.playing.specs.Standing.{freshOf};
 ghost use Rattle.play.specs.Play.{servesFor, lentCauses, played, playOf};
-ghost use Rattle.play.specs.Minutes.{begunOf, stepOf, minuteOf, minutesFrom, Ready, AllReady, PlannedBy, Planned};
+ghost use Rattle.play.specs.Minutes.{begunOf, stepOf, minuteOf, minutesFrom, MinuteReady, AllMinuteReady, PreparedBy, PreparedFor};
 use day::MINUTES;
 use day::OVER_MINUTES;
 use day::TABLE_PLACES;
@@ -31,7 +31,7 @@ pub struct PlayAnswer {
 
 // What is worked out before the first minute: the answer, how many standings are moved, and the days of
 // all groomers.
-pub struct Plan {
+pub struct Prepared {
     pub refusal: u8,
     pub groomers: u16,
     pub moved: usize,
@@ -66,7 +66,7 @@ fn begun(s: Standing, m: u16) -> Standing
 // A minute of the groomer at place g. By its minutes of driving over it is known how many stints it has
 // behind it, and so which one is in hand or next.
 pub fn step(s: Standing, table: &[u16], g: usize, m: u16) -> Standing
-    requires { ⌜ Ready (now table) g m s ⌝ }
+    requires { ⌜ MinuteReady (now table) g m s ⌝ }
     ensures { λ r. ⌜ r ≡ stepOf s (now (table .entry)) g m ⌝ }
 {
     let b = begun(s, m);
@@ -97,7 +97,7 @@ pub fn step(s: Standing, table: &[u16], g: usize, m: u16) -> Standing
 
 // A minute of the first n groomers, in the caller's list.
 pub fn minute(list: &mut [Standing], table: &[u16], n: usize, m: u16)
-    requires { ⌜ (n ≤ length (now list)) × AllReady (now table) m n (now list) ⌝ }
+    requires { ⌜ (n ≤ length (now list)) × AllMinuteReady (now table) m n (now list) ⌝ }
     ensures { λ _. ⌜ now (list .exit) ≡ minuteOf n 0 (now (list .entry)) (now (table .entry)) m ⌝ }
 {
     let mut g = 0;
@@ -109,7 +109,7 @@ pub fn minute(list: &mut [Standing], table: &[u16], n: usize, m: u16)
 
 // All minutes of the shift.
 pub fn minutes(list: &mut [Standing], table: &[u16], n: usize)
-    requires { ⌜ (n ≤ length (now list)) × (n ≤ mostGroomers) × (length (now table) ≡ tablePlaces) ⌝ }
+    requires { ⌜ (n ≤ length (now list)) × (n ≤ mostGroomers) × (length (now table) ≡ dayTablePlaces) ⌝ }
     ensures { λ _. ⌜ now (list .exit) ≡ minutesFrom shiftMinutes 0 n (now (list .entry)) (now (table .entry)) ⌝ }
 {
     let mut m = 0;
@@ -119,10 +119,10 @@ pub fn minutes(list: &mut [Standing], table: &[u16], n: usize)
     }
 }
 
-fn refused(k: u8) -> Plan
-    ensures { λ r. ⌜ (r .refusal ≡ k) × (r .groomers ≡ 0) × (r .moved ≡ 0) × (length (r .table) ≡ tablePlaces) ⌝ }
+fn refused(k: u8) -> Prepared
+    ensures { λ r. ⌜ (r .refusal ≡ k) × (r .groomers ≡ 0) × (r .moved ≡ 0) × (length (r .table) ≡ dayTablePlaces) ⌝ }
 {
-    Plan {
+    Prepared {
         refusal: k,
         groomers: 0,
         moved: 0,
@@ -140,17 +140,17 @@ fn delays_serve(delays: &[u16], n: usize) -> bool
     false
 }
 
-// The plan for a board that passes, for a list of so many places.
-fn plan_days(
+// The same for a board that passes, for a list of so many places.
+fn prepare_days(
     p: Size,
     cols: &[u16; PLACES],
     groomers: u16,
     board: &[u8],
     delays: &[u16],
     places: usize,
-) -> Plan
+) -> Prepared
     requires { ⌜ Held p (now cols) × (groomers ≤ mostGroomers) × (malformed (now board) ≡ false) × (boardTurns (now board) ≡ p .count) ⌝ }
-    ensures { λ r. ⌜ PlannedBy (lentCauses groomers (p .count) (now (delays .entry)) places) (turnsBy p (now (cols .entry))) groomers
+    ensures { λ r. ⌜ PreparedBy (lentCauses groomers (p .count) (now (delays .entry)) places) (turnsBy p (now (cols .entry))) groomers
         (boardChoice (now (board .entry))) (now (delays .entry)) places r ⌝ }
 {
     if delays_serve(delays, p.count) {
@@ -158,7 +158,7 @@ fn plan_days(
             return refused(refusal::BUFFER_TOO_SMALL);
         }
         let map = board::map(board);
-        return Plan {
+        return Prepared {
             refusal: 0,
             groomers: groomers,
             moved: groomers as usize,
@@ -168,17 +168,17 @@ fn plan_days(
     refused(refusal::BAD_DELAYS)
 }
 
-// The plan for a board and a problem.
-fn plan_board(
+// What is prepared for a board and a problem.
+fn prepare_board(
     p: Size,
     cols: &[u16; PLACES],
     groomers: u16,
     board: &[u8],
     delays: &[u16],
     places: usize,
-) -> Plan
+) -> Prepared
     requires { ⌜ Held p (now cols) × (groomers ≤ mostGroomers) ⌝ }
-    ensures { λ r. ⌜ PlannedBy (boardCauses (turnsBy p (now (cols .entry))) (now (board .entry))
+    ensures { λ r. ⌜ PreparedBy (boardCauses (turnsBy p (now (cols .entry))) (now (board .entry))
         ++ lentCauses groomers (p .count) (now (delays .entry)) places) (turnsBy p (now (cols .entry))) groomers
         (boardChoice (now (board .entry))) (now (delays .entry)) places r ⌝ }
 {
@@ -187,12 +187,12 @@ fn plan_board(
     if judgement.fault != 0 {
         return refused(judgement.fault);
     }
-    plan_days(p, cols, groomers, board, delays, places)
+    prepare_days(p, cols, groomers, board, delays, places)
 }
 
 // All that is judged and worked out before the first minute.
-fn checked<'a>(sheet: &'a [u8], board: &'a [u8], delays: &'a [u16], places: usize) -> Plan
-    ensures { λ r. ⌜ Planned (now (sheet .entry)) (now (board .entry)) (now (delays .entry)) places r ⌝ }
+fn checked<'a>(sheet: &'a [u8], board: &'a [u8], delays: &'a [u16], places: usize) -> Prepared
+    ensures { λ r. ⌜ PreparedFor (now (sheet .entry)) (now (board .entry)) (now (delays .entry)) places r ⌝ }
 {
     let mut cols = [0u16; PLACES];
     let mut room = [0u16; PLACES];
@@ -201,16 +201,16 @@ fn checked<'a>(sheet: &'a [u8], board: &'a [u8], delays: &'a [u16], places: usiz
         return refused(head.refusal);
     }
     let p = problem::shift_size(head.turns);
-    plan_board(p, &cols, head.groomers, board, delays, places)
+    prepare_board(p, &cols, head.groomers, board, delays, places)
 }
 
-fn table_of(p: Plan) -> [u16; TABLE_PLACES]
+fn table_of(p: Prepared) -> [u16; TABLE_PLACES]
     ensures { λ r. ⌜ r ≡ p .table ⌝ }
 {
     p.table
 }
 
-fn answer_of(p: Plan) -> PlayAnswer
+fn answer_of(p: Prepared) -> PlayAnswer
     ensures { λ r. ⌜ r ≡ record { refusal = p .refusal; groomers = p .groomers } ⌝ }
 {
     PlayAnswer {

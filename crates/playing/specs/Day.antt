@@ -1,4 +1,4 @@
--- A groomer's day on a board: from when to when its turns are worked if some finish late, and what it does in each minute. Assumes nothing.
+-- A groomer's day on a board: from when to when its turns are worked where some have a delay, and what it does in each minute. Assumes nothing.
 use mathlib.Core.Path.{_≡_}
 use mathlib.Core.Bool.{Bool, true, false, cond, _&&_}
 use mathlib.Core.List.{List, [], _∷_, _++_}
@@ -16,7 +16,7 @@ use Rattle.playing.specs.declared.Stint.{Stint}
 abbrev pub overMinutes : ℕ
 overMinutes = shiftGap
 
--- no turn finishes later than so many minutes
+-- the longest delay that a turn may have, in minutes
 abbrev pub mostDelay : ℕ
 mostDelay = 120
 
@@ -48,7 +48,7 @@ unfoldable pub takenOf : Turns → List Bool → ℕ → List ℕ → List ℕ
 takenOf T S h [] = []
 takenOf T S h (u ∷ us) = cond (takes T S h u) (u ∷ []) [] ++ takenOf T S h us
 
--- groomer h's day: its chosen turns by start, the first from minute 0 on
+-- groomer h's day: its chosen turns by start, one after another; nothing holds up the first
 unfoldable pub dayOf : Turns → List Bool → (ℕ → ℕ) → ℕ → List Stint
 dayOf T S delay h = stintsFrom T delay 0 (takenOf T S h (orderByStart T))
 
@@ -93,7 +93,7 @@ pub data NoEarlier : List Stint → List Stint → Type 0 where
   none : NoEarlier [] []
   more : {s t : Stint} {ss ts : List Stint} → s .turn ≡ t .turn → s .begin ≤ t .begin → NoEarlier ss ts → NoEarlier (s ∷ ss) (t ∷ ts)
 
--- groomer h works turn u in just its planned minutes
+-- in a day turn u is worked in its planned minutes, and in no others
 pub record OnTime (T : Turns) (day : List Stint) (u : ℕ) : Type 0 where
   pub planned : (m : ℕ) → T .start u ≤ m → m < T .end u → doingAt day m ≡ works u
   pub only : (m : ℕ) → doingAt day m ≡ works u → (T .start u ≤ m) × (m < T .end u)

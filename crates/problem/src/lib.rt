@@ -10,6 +10,7 @@ pub use columns::ends;
 pub use columns::put_row;
 pub use columns::row_at;
 pub use columns::starts;
+pub use posing::SHIFT_GAP;
 pub use posing::load;
 pub use posing::load_as;
 pub use posing::shift_size;

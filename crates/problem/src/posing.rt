@@ -16,7 +16,7 @@ use sheet::Kind;
 use sheet::ReadAnswer;
 
 // The free minutes that a groomer or a driver needs between two turns of a shift.
-const SHIFT_GAP: u16 = 10;
+pub const SHIFT_GAP: u16 = 10;
 
 // A shift's size: as many turns as its sheet has.
 pub fn shift_size(n: u16) -> Size

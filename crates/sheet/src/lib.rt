@@ -11,6 +11,7 @@ pub use header::read_header;
 pub use kind::FIRST_MAP;
 pub use kind::FULL_MAP;
 pub use kind::Kind;
+pub use kind::MOST_GROOMERS;
 pub use kind::MOST_TURNS;
 pub use kind::Maps;
 pub use kind::Most;

@@ -46,10 +46,10 @@ use denote.Triple.Table.{entered, cited}
 use denote.Triple.Walked.{says, needs, Stays, stay-slice, stay-none-slice, stay-none, walkOf, AllGo, goes-slice, goes-none-slice, goes-none, Walks, ends-at, walked, walk-meets}
 use denote.Exit.{yes}
 use Rattle.playing.specs.declared.Standing.{Standing}
-use Rattle.play.specs.Minutes.{minuteOf, minutesFrom, AllReady}
+use Rattle.play.specs.Minutes.{minuteOf, minutesFrom, AllMinuteReady}
 use Rattle.turns.specs.Turn.{shiftMinutes}
 use Rattle.sheet.specs.Kind.{mostGroomers}
-use Rattle.day.specs.Table.{tablePlaces}
+use Rattle.day.specs.Table.{dayTablePlaces}
 use Rattle.play.proofs.Moves.{Minutes, minutes-start, minutes-next, minutes-end}
 use Rattle.play.proofs.Again.{LentAgain, lends-again, comes-back}
 use Rattle.playing.proofs.Standing as T
@@ -101,7 +101,7 @@ module _ {M : Type 1} (𝓤 : URA M) (H : Heap 𝓤) (A : Atoms 𝓤) (mem : Mem
   Minute = tripleOf 𝓤 H A minute.signature (minute.spec 𝓤 H A mem run)
 
 module _ {M : Type 1} (𝓤 : URA M) (H : Heap 𝓤) (A : Atoms 𝓤) (W : Given 𝓤 H A) (mem : Memory → SProp 𝓤) (run : Routine → Fun 𝓤) (κ κ′ : Lft) (q q′ : Share) (b o : ℕ) (γ : GName) (ys : List Standing) (p : RefT (List ℕ)) (n : ℕ) (n-fits : n < 2 ^ 64)
-    (room : Room T.the-row (length ys)) (table-room : Room u16 (length (p .now))) (enough : n ≤ length ys) (few : n ≤ mostGroomers) (places : length (p .now) ≡ tablePlaces) where
+    (room : Room T.the-row (length ys)) (table-room : Room u16 (length (p .now))) (enough : n ≤ length ys) (few : n ≤ mostGroomers) (places : length (p .now) ≡ dayTablePlaces) where
   -- the borrow, under the name δ at the list l
   abbrev x : GName → List Standing → RefT (List Standing)
   x δ l = record { ptr = (b, o); name = δ; now = l }
@@ -140,7 +140,7 @@ module _ {M : Type 1} (𝓤 : URA M) (H : Heap 𝓤) (A : Atoms 𝓤) (W : Given
   abbrev to-minute : ℕ → GName → List Standing → ℕ → Minute 𝓤 H A mem run .Ghost
   to-minute ν δ l m = (((ν ∷ [], (κ′, tt)), (fullShare, (q′, tt)), tt, (x δ l, (p, (n, (m, tt)))), (sl ∷ [], (ps ∷ [], (vint w64 n ∷ [], (vint w16 m ∷ [], tt))))), tt)
 
-  goes-minute : (ν : ℕ) (δ : GName) (l : List Standing) (m : ℕ) → (n ≤ length l) × AllReady (p .now) m n l → m < 2 ^ 16
+  goes-minute : (ν : ℕ) (δ : GName) (l : List Standing) (m : ℕ) → (n ≤ length l) × AllMinuteReady (p .now) m n l → m < 2 ^ 16
       → ent 𝓤 (⋆ 𝓤 H A ((‵ (flft (ν ∷ []) fullShare) ⊛ ‵ (flft κ′ q′)) ∷ (‵ (MutSlice (named 0) (ν ∷ []) T.the-row .own (x δ l) (sl ∷ [])) ⊛ ‵ (ShrSlice (named 1) κ′ u16 .own p (ps ∷ []))) ∷ [])) (Minute 𝓤 H A mem run .pre (to-minute ν δ l m))
   goes-minute ν δ l m asked m-fits =
       qed W ((‵ (flft (ν ∷ []) fullShare) ⊛ ‵ (flft κ′ q′)) ∷ (‵ (MutSlice (named 0) (ν ∷ []) T.the-row .own (x δ l) (sl ∷ [])) ⊛ ‵ (ShrSlice (named 1) κ′ u16 .own p (ps ∷ []))) ∷ []) ∵ says ! asked $
@@ -257,7 +257,7 @@ module _ {M : Type 1} (𝓤 : URA M) (H : Heap 𝓤) (A : Atoms 𝓤) (W : Given
   minutes-walks : (𝓣 : Tables 𝓤 H) → Triple 𝓤 (𝓣 .C #play·minute) (Minute 𝓤 H A mem run) → Walks 𝓤 H A f.ended stayed (WpFn 𝓤 H (𝓣 .C) (𝓣 .Λ) code.function) (f.clauses 𝓤 H A mem run)
   minutes-walks 𝓣 known = walked 𝓤 H A f.ended stayed (f.clauses 𝓤 H A mem run) (WpFn 𝓤 H (𝓣 .C) (𝓣 .Λ) code.function)
       (λ κs. (slice-vals, (slice-vals, (uint-vals w64, tt)))) (λ κs. (mut-slice-tells (named 0) (κs .0) T.the-row, (shr-slice-tells (named 1) (κs .1 .0) u16, (uint-tells w64, tt))))
-      (λ κs qs bounds a g are. needs 𝓤 ((a .1 .1 .0 ≤ length (a .0 .now)) × (a .1 .1 .0 ≤ mostGroomers) × (length (a .1 .0 .now) ≡ tablePlaces)) _ (λ asked.
+      (λ κs qs bounds a g are. needs 𝓤 ((a .1 .1 .0 ≤ length (a .0 .now)) × (a .1 .1 .0 ≤ mostGroomers) × (length (a .1 .0 .now) ≡ dayTablePlaces)) _ (λ asked.
       walk 𝓤 H A W mem run (κs .0) (κs .1 .0) (qs .0) (qs .1 .0) (a .0 .ptr .0) (a .0 .ptr .1) (a .0 .name) (a .0 .now) (a .1 .0) (a .1 .1 .0) (are .1 .1 .0 .1) (are .0 .0 .1) (are .1 .0 .0 .1) (asked .0) (asked .1) (asked .2) 𝓣 (fmOf 𝓤 H (W .laws) 𝓣) known))
 
   goes : AllGo 𝓤 H A W 2 (f.signature .params) (f.ended .kept) stayed

@@ -1,4 +1,4 @@
--- `play::play` meets its contract: a walk of its MIR, by hand, with no loop. The covered `checked` is called with three slices at one lifetime, and works out all that the minutes need, by value. The table of the days is put into a local, which is lent as a shared slice for a lifetime that is made for the call of `minutes`; the list is lent on for good. Then the lifetime is ended, the local has its array back, and the answer is made of the plan.
+-- `play::play` meets its contract: a walk of its MIR, by hand, with no loop. The covered `checked` is called with three slices at one lifetime, and works out all that the minutes need, by value. The table of the days is put into a local, which is lent as a shared slice for a lifetime that is made for the call of `minutes`; the list is lent on for good. Then the lifetime is ended, the local has its array back, and the answer is made of what `checked` gave.
 --     big-lit          a constant whose bound a proof shows
 --     array-shared     a local that holds an array, as its elements side by side: what is lent as a shared slice
 --     array-back       and back, once the slice is
@@ -49,18 +49,18 @@ use denote.Triple.Spec.{Meets, tripleOf}
 use denote.Triple.Table.{entered, cited}
 use denote.Triple.Walked.{says, Stays, gave-slice, stay-none-slice, walkOf, AllGo, goes-gave-slice, goes-none-slice, Walks, ends-at, walked, walk-meets}
 use denote.Exit.{yes}
-use Rattle.day.specs.Table.{tablePlaces}
+use Rattle.day.specs.Table.{dayTablePlaces}
 use Rattle.turns.specs.Turn.{shiftMinutes}
 use Rattle.sheet.specs.Kind.{mostGroomers}
 use Rattle.playing.specs.declared.Standing.{Standing}
-use Rattle.play.specs.declared.Plan.{Plan}
+use Rattle.play.specs.declared.Prepared.{Prepared}
 use Rattle.play.specs.declared.PlayAnswer.{PlayAnswer}
 use Rattle.play.specs.Play.{played, playOf}
-use Rattle.play.specs.Minutes.{minutesFrom, Planned}
+use Rattle.play.specs.Minutes.{minutesFrom, PreparedFor}
 use Rattle.play.proofs.Answers.{play-answer}
 use Rattle.playing.proofs.Standing as T
-use Rattle.play.proofs.Plan as P
-use Rattle.play.proofs.Plan.Laws as P′
+use Rattle.play.proofs.Prepared as P
+use Rattle.play.proofs.Prepared.Laws as P′
 use Rattle.play.proofs.PlayAnswer as E
 use Rattle.play.proofs.PlayAnswer.Laws as E′
 use Rattle.play.proofs.answer_of as answer
@@ -101,8 +101,8 @@ words-ty = sliceTy (tyRef (named 0) imm (tyInt w16))
 abbrev answer-ty : Ty
 answer-ty = spell pieces.table (pointee (E.the-row .written))
 
-abbrev plan-ty : Ty
-plan-ty = spell pieces.table (pointee (P.the-row .written))
+abbrev prepared-ty : Ty
+prepared-ty = spell pieces.table (pointee (P.the-row .written))
 
 abbrev array-ty : Ty
 array-ty = tyArray (tyInt w16) 4608
@@ -228,19 +228,19 @@ module _ {M : Type 1} (𝓤 : URA M) (H : Heap 𝓤) (A : Atoms 𝓤) (W : Given
       -- [the board's; the delays'; the sheet's; the token and true]
       nothing ! $ owned ! usize (Is usize) (uint-makes 𝓤 H A W w64) (length ys) _ (refl, room .0) $ fjoin ! $ move ! (2 ∷ 0 ∷ []) $ fjoin ! $ move ! (1 ∷ 0 ∷ []) $ fjoin ! $ move ! (1 ∷ 0 ∷ []) $ fjoin ! $ move ! (1 ∷ 0 ∷ []) $ join ! $ frame ! $ done !
 
-  abbrev Found : Plan → Type 0
-  Found p = Planned (c .now) (d .now) (e .now) (length ys) p
+  abbrev Found : Prepared → Type 0
+  Found p = PreparedFor (c .now) (d .now) (e .now) (length ys) p
 
-  checked-of : (p : Plan) → ent 𝓤 (ensured 𝓤 H A checked.ended (checked.clauses 𝓤 H A mem run) (κ′, tt) (c, (d, (e, (length ys, tt)))) tt p) (fact 𝓤 (Found p))
+  checked-of : (p : Prepared) → ent 𝓤 (ensured 𝓤 H A checked.ended (checked.clauses 𝓤 H A mem run) (κ′, tt) (c, (d, (e, (length ys, tt)))) tt p) (fact 𝓤 (Found p))
   checked-of p = exE 𝓤 _ (λ ws. snd∗ 𝓤 (sem 𝓤 H A (lasts checked.ended (κ′, tt) (c, (d, (e, (length ys, tt)))) ws)) (fact 𝓤 (Found p)))
 
   lawful : Lawful 𝓤 H A Tab
   lawful = array-lawful 𝓤 H A W u16 (uint-lawful 𝓤 H A W w16) 4608
 
-  -- ---- from here with the plan in hand
-  module _ (p : Plan) (p-is : Is P.the-row p (LL.vals P.the-type P′.the-laws p)) (found : Found p) where
-    abbrev plan-val : Val
-    plan-val = LL.val P.the-type P′.the-laws p
+  -- ---- from here with what is prepared in hand
+  module _ (p : Prepared) (p-is : Is P.the-row p (LL.vals P.the-type P′.the-laws p)) (found : Found p) where
+    abbrev prepared-val : Val
+    prepared-val = LL.val P.the-type P′.the-laws p
 
     abbrev size : length (p .table) ≡ 4608
     size = found .places-are
@@ -250,7 +250,7 @@ module _ {M : Type 1} (𝓤 : URA M) (H : Heap 𝓤) (A : Atoms 𝓤) (W : Given
 
     -- what `table_of` binds outside, what it asks, and what it says
     abbrev to-tabled : Tabled 𝓤 H A mem run .Ghost
-    to-tabled = ((tt, tt, tt, (p, tt), (plan-val ∷ [], tt)), tt)
+    to-tabled = ((tt, tt, tt, (p, tt), (prepared-val ∷ [], tt)), tt)
 
     goes-tabled : ent 𝓤 (sem 𝓤 H A ftrue) (Tabled 𝓤 H A mem run .pre to-tabled)
     goes-tabled = qed W (‵ ftrue ∷ []) ∵ nothing ! $ owned ! P.the-row (Is P.the-row) (LL.makes P.the-type P′.the-plain 𝓤 H A) p _ p-is $ fjoin ! $ move ! (1 ∷ 0 ∷ []) $ join ! $ frame ! $ done !
@@ -260,7 +260,7 @@ module _ {M : Type 1} (𝓤 : URA M) (H : Heap 𝓤) (A : Atoms 𝓤) (W : Given
 
     -- what `answer_of` binds outside, what it asks, and what it says
     abbrev to-answer : Answer 𝓤 H A mem run .Ghost
-    to-answer = ((tt, tt, tt, (p, tt), (plan-val ∷ [], tt)), tt)
+    to-answer = ((tt, tt, tt, (p, tt), (prepared-val ∷ [], tt)), tt)
 
     goes-answer : ent 𝓤 (sem 𝓤 H A ftrue) (Answer 𝓤 H A mem run .pre to-answer)
     goes-answer = qed W (‵ ftrue ∷ []) ∵ nothing ! $ owned ! P.the-row (Is P.the-row) (LL.makes P.the-type P′.the-plain 𝓤 H A) p _ p-is $ fjoin ! $ move ! (1 ∷ 0 ∷ []) $ join ! $ frame ! $ done !
@@ -281,7 +281,7 @@ module _ {M : Type 1} (𝓤 : URA M) (H : Heap 𝓤) (A : Atoms 𝓤) (W : Given
     abbrev to-minutes : ℕ → ℕ → GName → Minutes 𝓤 H A mem run .Ghost
     to-minutes k ν δ = (((κ, (ν ∷ [], tt)), (q, (fullShare, tt)), tt, (x, (tx k δ, (p .moved, tt))), (sl ∷ [], (ts k ∷ [], (vint w64 (p .moved) ∷ [], tt)))), tt)
 
-    goes-minutes : (k ν : ℕ) (δ : GName) → (p .moved ≤ length ys) × (p .moved ≤ mostGroomers) × (length (p .table) ≡ tablePlaces)
+    goes-minutes : (k ν : ℕ) (δ : GName) → (p .moved ≤ length ys) × (p .moved ≤ mostGroomers) × (length (p .table) ≡ dayTablePlaces)
         → ent 𝓤 (⋆ 𝓤 H A ((‵ (flft κ q) ⊛ ‵ (flft (ν ∷ []) fullShare)) ∷ (‵ (MutSlice (named 1) κ T.the-row .own x (sl ∷ [])) ⊛ ‵ (ShrSlice (named 1) (ν ∷ []) u16 .own (tx k δ) (ts k ∷ []))) ∷ [])) (Minutes 𝓤 H A mem run .pre (to-minutes k ν δ))
     goes-minutes k ν δ asked =
         qed W ((‵ (flft κ q) ⊛ ‵ (flft (ν ∷ []) fullShare)) ∷ (‵ (MutSlice (named 1) κ T.the-row .own x (sl ∷ [])) ⊛ ‵ (ShrSlice (named 1) (ν ∷ []) u16 .own (tx k δ) (ts k ∷ []))) ∷ []) ∵ says ! asked $
@@ -308,11 +308,11 @@ module _ {M : Type 1} (𝓤 : URA M) (H : Heap 𝓤) (A : Atoms 𝓤) (W : Given
         -- [the sheet's, twice; the board's, twice; the delays', twice; the list's; its token; the slices' token; _13; …]
         move ! (2 ∷ 4 ∷ []) $ join ! $ move ! (1 ∷ 0 ∷ []) $ join ! $ move ! (6 ∷ 0 ∷ []) $ use2 W (raw (Checked 𝓤 H A mem run .pre to-checked)) goes-checked $
         calls-at ! fm (Checked 𝓤 H A mem run) known-checked to-checked (and-then ! (load ! (from ! (stop !)) (look ! 30 refl)) (and-then ! (load ! (from ! (stop !)) (look ! 28 refl)) (and-then ! (load ! (from ! (stop !)) (look ! 26 refl)) (and-then ! (load ! (from ! (stop !)) (look ! 18 refl)) (no-more !))))) (λ v.
-        use1 W (later (some (λ (p : Plan). ((‵ (flft κ′ q′) ⊛ ‵ ftrue) ⊛ ‵ (P.the-row .own p (v ∷ []))) ⊛ raw (ensured 𝓤 H A checked.ended (checked.clauses 𝓤 H A mem run) (κ′, tt) (c, (d, (e, (length ys, tt)))) tt p)))) (id⊢ 𝓤 _) $ await ! tt $ pick ! (λ p.
+        use1 W (later (some (λ (p : Prepared). ((‵ (flft κ′ q′) ⊛ ‵ ftrue) ⊛ ‵ (P.the-row .own p (v ∷ []))) ⊛ raw (ensured 𝓤 H A checked.ended (checked.clauses 𝓤 H A mem run) (κ′, tt) (c, (d, (e, (length ys, tt)))) tt p)))) (id⊢ 𝓤 _) $ await ! tt $ pick ! (λ p.
         split ! $ move ! (1 ∷ []) $ use1 W (raw (fact 𝓤 (Found p))) (checked-of p) $ heard ! (Found p) (λ found. split ! $ split ! $ move ! (1 ∷ []) $ drop ! $ move ! (1 ∷ []) $
         peeks ! P.the-row (Is P.the-row) (shows 𝓤 H A P.the-row) p (v ∷ []) (λ is.
-        -- [the plan's; the slices' token; the sheet's; the board's; the delays'; the list's; its token; _13; …]
-        land ! (from ! (stop !)) (init ! 23 refl (LL.lawful P.the-type P′.the-laws 𝓤 H A W .typed p _ is .0)) $ rewrite ! 23 (λ (u : Val). ‵ (fat fullShare plan-ty l₅ 0 u)) (ap only (LL.tells P.the-type P′.the-laws p (v ∷ []) is)) refl $
+        -- [what is prepared; the slices' token; the sheet's; the board's; the delays'; the list's; its token; _13; …]
+        land ! (from ! (stop !)) (init ! 23 refl (LL.lawful P.the-type P′.the-laws 𝓤 H A W .typed p _ is .0)) $ rewrite ! 23 (λ (u : Val). ‵ (fat fullShare prepared-ty l₅ 0 u)) (ap only (LL.tells P.the-type P′.the-laws p (v ∷ []) is)) refl $
         drop ! $ move ! (4 ∷ 5 ∷ 0 ∷ 1 ∷ 2 ∷ 3 ∷ []) $
         -- the table is put into its local
         nothing ! $ use1 W (raw (Tabled 𝓤 H A mem run .pre (to-tabled p (settled p v is) found))) (goes-tabled p (settled p v is) found) $ calls-at ! fm (Tabled 𝓤 H A mem run) known-tabled (to-tabled p (settled p v is) found) (and-then ! (load ! (from ! (stop !)) (look ! 23 refl)) (no-more !)) (λ t.
@@ -357,7 +357,7 @@ module _ {M : Type 1} (𝓤 : URA M) (H : Heap 𝓤) (A : Atoms 𝓤) (W : Given
         by ! (exits r z (zs .0) (play-answer (c .now) (d .now) (e .now) ys p found r-is list-is) as-long))))))))))))))))))))))))))))))))))))
       where
         -- the relation at the machine value written out
-        settled : (p : Plan) (v : Val) → Is P.the-row p (v ∷ []) → Is P.the-row p (LL.vals P.the-type P′.the-laws p)
+        settled : (p : Prepared) (v : Val) → Is P.the-row p (v ∷ []) → Is P.the-row p (LL.vals P.the-type P′.the-laws p)
         settled p v is = subst (Is P.the-row p) (LL.tells P.the-type P′.the-laws p (v ∷ []) is) is
 
 module _ {M : Type 1} (𝓤 : URA M) (H : Heap 𝓤) (A : Atoms 𝓤) (W : Given 𝓤 H A) (mem : Memory → SProp 𝓤) (run : Routine → Fun 𝓤) where

@@ -1,9 +1,9 @@
 use Rattle.play.proofs.Answers.{days-cases}
 use borrow.Author.Needs.{needs}
-use Rattle.play.proofs.plan_days.Statement.{statement}
-use Rattle.play.proofs.plan_days.Tie as tie
-use Rattle.play.proofs.plan_days.Reads as reads
-use Rattle.play.proofs.plan_days.Lts as lts
+use Rattle.play.proofs.prepare_days.Statement.{statement}
+use Rattle.play.proofs.prepare_days.Tie as tie
+use Rattle.play.proofs.prepare_days.Reads as reads
+use Rattle.play.proofs.prepare_days.Lts as lts
 use Rattle.board.proofs.map.Reads as map-reads
 use Rattle.day.proofs.days_of.Reads as days-of-reads
 use Rattle.play.proofs.delays_serve.Reads as delays-serve-reads
@@ -41,8 +41,8 @@ refused-requires-2 c κs = search needs
 returns-3 : tie.Need-returns-3
 returns-3 c = search (needs, days-cases)
 
-pub plan-days-spec : {M : Type 1} → statement M
-plan-days-spec =
+pub prepare-days-spec : {M : Type 1} → statement M
+prepare-days-spec =
     tie.close
     (tie.spec
     delays-serve-requires
