@@ -58,7 +58,7 @@ planned-is T free (Spaced.more {u} {us} l b h) a =
     rw (q, e) (ap (λ (ss : List Stint). record { turn = u; begin = T .start u; end = T .end u } ∷ ss) (planned-is T (T .end u + overMinutes) h b))
 
 -- a worked minute is a planned one
-works-of : Doing → ℕ
+unfoldable pub works-of : Doing → ℕ
 works-of (works u) = u + 1
 works-of drives = 0
 works-of stands = 0
@@ -84,11 +84,11 @@ planned-only T (Spaced.more {u = v} {us = vs} l b h) u m e = go (decLt m (T .sta
     go (no x) (no y) (no z) ih = ih (sym (doing-after s (planned T vs) m (omega arith) (omega arith)) ∙ e)
 
 -- a planned minute is worked
-times-rest : (u v : ℕ) (vs : List ℕ) → (u ≡ v → ⊥) → 1 ≤ timesIn eqb u (v ∷ vs) → 1 ≤ timesIn eqb u vs
+pub times-rest : (u v : ℕ) (vs : List ℕ) → (u ≡ v → ⊥) → 1 ≤ timesIn eqb u (v ∷ vs) → 1 ≤ timesIn eqb u vs
 unfolding timesIn
 times-rest u v vs d o = let e : _≡_ {A = ℕ} (cond (eqb u v) 1 0) 0 = rw (ne-eqb u v d) in omega (arith, o, e)
 
-all-has : {P : ℕ → Type 0} {us : List ℕ} → AllOf P us → (u : ℕ) → 1 ≤ timesIn eqb u us → P u
+pub all-has : {P : ℕ → Type 0} {us : List ℕ} → AllOf P us → (u : ℕ) → 1 ≤ timesIn eqb u us → P u
 unfolding timesIn
 all-has AllOf.none u l = absurd (omega arith)
 all-has {P} (AllOf.more {x} {xs} p h) u l = go (ℕ-discrete u x) (all-has h u)
@@ -115,7 +115,7 @@ planned-worked T (Spaced.more {u = v} {us = vs} l c h) u m o a b = go (ℕ-discr
 -- ---- the turns that a groomer takes are spaced where no two chosen turns conflict
 
 module _ (T : Turns) (S : List Bool) (h : ℕ) where
-  taken-all : {P Q : ℕ → Type 0} → ((v : ℕ) → takes T S h v ≡ true → P v → Q v) → {us : List ℕ} → AllOf P us → AllOf Q (takenOf T S h us)
+  pub taken-all : {P Q : ℕ → Type 0} → ((v : ℕ) → takes T S h v ≡ true → P v → Q v) → {us : List ℕ} → AllOf P us → AllOf Q (takenOf T S h us)
   unfolding takenOf
   taken-all f AllOf.none = AllOf.none
   taken-all {P} {Q} f (AllOf.more {x} {xs} p g) = go (takes T S h x) refl (taken-all f g)
@@ -124,7 +124,7 @@ module _ (T : Turns) (S : List Bool) (h : ℕ) where
       go true e ih = AllOf.more (f x e p) ih
       go false e ih = ih
 
-  taken-has : (us : List ℕ) (u : ℕ) → takes T S h u ≡ true → 1 ≤ timesIn eqb u us → 1 ≤ timesIn eqb u (takenOf T S h us)
+  pub taken-has : (us : List ℕ) (u : ℕ) → takes T S h u ≡ true → 1 ≤ timesIn eqb u us → 1 ≤ timesIn eqb u (takenOf T S h us)
   unfolding takenOf timesIn
   taken-has [] u t o = o
   taken-has (v ∷ vs) u t o = go (takes T S h v) refl (ℕ-discrete u v) (taken-has vs u t)
@@ -138,11 +138,11 @@ module _ (T : Turns) (S : List Bool) (h : ℕ) where
           differ z = let w : _≡_ {A = ℕ} 0 1 = ap {B = ℕ} (λ b. cond b 1 0) z in omega (arith, w)
       go false e (no q) ih = ih (times-rest u v vs q o)
 
-  taken-chosen : (u : ℕ) → takes T S h u ≡ true → has S u ≡ true
+  pub taken-chosen : (u : ℕ) → takes T S h u ≡ true → has S u ≡ true
   unfolding takes
   taken-chosen u e = and-1 (has S u) (eqb (T .groomer u) h) e
 
-  taken-groomer : (u : ℕ) → takes T S h u ≡ true → T .groomer u ≡ h
+  pub taken-groomer : (u : ℕ) → takes T S h u ≡ true → T .groomer u ≡ h
   unfolding takes
   taken-groomer u e = eqb-true (T .groomer u) h (and-2 (has S u) (eqb (T .groomer u) h) e)
 

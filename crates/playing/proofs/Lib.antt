@@ -1,3 +1,4 @@
 pub mod Stints
 pub mod Delayed
+pub mod Days
 pub mod Standings

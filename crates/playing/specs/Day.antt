@@ -1,15 +1,16 @@
 -- A groomer's day on a board: from when to when its turns are worked where some have a delay, and what it does in each minute. Assumes nothing.
 use mathlib.Core.Path.{_≡_}
+use mathlib.Core.Logic.{_↔_}
 use mathlib.Core.Bool.{Bool, true, false, cond, _&&_}
 use mathlib.Core.List.{List, [], _∷_, _++_}
 use Prim.Native.Nat.{ℕ, suc, _+_, _-_, _≤_, _<_, max}
 use lib.Dec.{eqb, ltb}
-use lib.ListN.{getD}
+use lib.ListN.{length, getD}
 use Rattle.lists.specs.Lists.{every}
 use Rattle.model.specs.Turns.{Turns}
 use Rattle.model.specs.Choice.{has}
 use Rattle.problem.specs.Problem.{shiftGap}
-use Rattle.partition.specs.Numbering.{orderByStart}
+use Rattle.partition.specs.Numbering.{orderByStart, Before}
 use Rattle.playing.specs.declared.Stint.{Stint}
 
 -- driving over takes the free minutes that a groomer needs between two turns
@@ -82,6 +83,48 @@ isStand drives = false
 isStand stands = true
 
 -- ---- as statements
+
+-- the stint at place i of a day
+abbrev pub stintAt : List Stint → ℕ → Stint
+stintAt day i = getD day i (record { turn = 0; begin = 0; end = 0 })
+
+-- turn u is chosen, and groomer h's
+pub record Takes (T : Turns) (S : List Bool) (h u : ℕ) : Type 0 where
+  pub inside : u < T .count
+  pub chosen : has S u ≡ true
+  pub groomer-is : T .groomer u ≡ h
+
+-- a day of groomer h, whoever made it
+pub record DayIs (T : Turns) (S : List Bool) (delay : ℕ → ℕ) (h : ℕ) (day : List Stint) : Type 0 where
+  -- its stints are of turns that the groomer takes
+  pub its-own : (i : ℕ) → i < length day → Takes T S h (stintAt day i .turn)
+  -- each of those turns has one
+  pub all-taken : (u : ℕ) → Takes T S h u → (i : ℕ) × (i < length day) × (stintAt day i .turn ≡ u)
+  -- they come by start, then turn number, so that none comes twice
+  pub rising : (i j : ℕ) → i < j → j < length day → Before T (stintAt day i .turn) (stintAt day j .turn)
+  -- the first begins at its start
+  pub first : 0 < length day → stintAt day 0 .begin ≡ T .start (stintAt day 0 .turn)
+  -- each other at its start, or when the groomer has driven over from the one before it, whichever is later
+  pub others : (i : ℕ) → suc i < length day → stintAt day (suc i) .begin ≡ max (T .start (stintAt day (suc i) .turn)) (stintAt day i .end + overMinutes)
+  -- each lasts its length and its delay
+  pub lasts : (i : ℕ) → i < length day → stintAt day i .end ≡ stintAt day i .begin + (T .end (stintAt day i .turn) - T .start (stintAt day i .turn)) + delay (stintAt day i .turn)
+
+-- minute m is one of a stint's
+abbrev pub InStint : Stint → ℕ → Type 0
+InStint k m = (k .begin ≤ m) × (m < k .end)
+
+-- minute m is one of driving over after it
+abbrev pub OverFrom : Stint → ℕ → Type 0
+OverFrom k m = (k .end ≤ m) × (m < k .end + overMinutes)
+
+-- in minute m of a day d is done
+pub record DoingIs (day : List Stint) (m : ℕ) (d : Doing) : Type 0 where
+  -- a turn is worked just in the minutes of its stint
+  pub works-iff : (u : ℕ) → (d ≡ works u) ↔ ((i : ℕ) × (i < length day) × (stintAt day i .turn ≡ u) × InStint (stintAt day i) m)
+  -- the groomer drives over just in the minutes that follow one
+  pub drives-iff : (d ≡ drives) ↔ ((i : ℕ) × (i < length day) × OverFrom (stintAt day i) m)
+  -- and stands in all other minutes
+  pub stands-iff : (d ≡ stands) ↔ ((i : ℕ) → i < length day → (InStint (stintAt day i) m → ⊥) × (OverFrom (stintAt day i) m → ⊥))
 
 -- in a day, each stint begins no earlier than the groomer is free, and does not end before it begins
 pub data Laid : ℕ → List Stint → Type 0 where
