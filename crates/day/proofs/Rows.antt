@@ -6,13 +6,13 @@ use mathlib.Core.List.{List, [], _∷_, _++_}
 use Prim.Native.Nat.{ℕ, zero, suc, _+_, _-_, _*_, _≤_, _<_, max}
 use native.Mathlib.Omega.{arith}
 use native.Mathlib.Decide.{decLt, ℕ-discrete}
-use native.Mathlib.Nat.{le-max-left, le-max-right, max-le, max-eq-right}
+use native.Mathlib.Nat.{le-max-right, max-le, max-eq-right}
 use lib.Dec.{ltb, leb, eqb}
 use lib.ListN.{length, getD, set, take, replicate, length-set, length-append, length-replicate}
 use lib.Seq.{take-suc, take-all, take-at, length-take-le, getD-set-same, getD-set-other}
-use borrow.Author.Tests.{eq-eqb, ne-eqb, eqb-true, lt-ltb, le-ltb, ltb-true, leb-true, le-leb}
+use borrow.Author.Tests.{eq-eqb, ne-eqb, lt-ltb, le-ltb, ltb-true, leb-true, le-leb}
 use Rattle.lists.specs.Lists.{every}
-use Rattle.lists.proofs.Bools.{and-1, and-2, and-of, every-at, every-of, every-more, every-done, every-fails, not-both}
+use Rattle.lists.proofs.Bools.{and-of, every-at, every-of, every-more, every-done, every-fails, not-both}
 use Rattle.turns.specs.Turn.{shiftMinutes}
 use Rattle.sheet.specs.Kind.{mostGroomers, mostTurns}
 use Rattle.model.specs.Turns.{Turns}
@@ -25,7 +25,7 @@ use Rattle.problem.specs.Columns.{rowIn, turnsBy, Held}
 use Rattle.problem.proofs.Rows.{count-is, groomer-at, start-at, end-at}
 use Rattle.partition.specs.Numbering.{orderByStart}
 use Rattle.partition.proofs.Orders.{order-length, order-turn}
-use Rattle.partition.proofs.Places.{order-place, order-fits, zeros-few, few-zeros}
+use Rattle.partition.proofs.Places.{order-place, zeros-few, few-zeros}
 use Rattle.playing.specs.declared.Stint.{Stint}
 use Rattle.playing.specs.Day.{overMinutes, mostDelay, delayIn, delaysFit, stintOf, stintsFrom, takes, takenOf, dayOf}
 use Rattle.day.specs.Table.{dayRows, dayTablePlaces, blankTable, countPlace, keptPlaces, cut, stintPlace, stintIn, withStint, noStint, cutStint, stintRow, freeAfter, DelaysFit, stintBy, withNext, besideNext, isKnown, tableWith, besideWith, RowsPut, RoomForTurn, Days}

@@ -1,6 +1,6 @@
 -- The days of all groomers as one table of numbers: for each groomer rows of three numbers, a stint each, cut off at the shift's end. For inner functions only. Assumes nothing.
 use mathlib.Core.Path.{_≡_}
-use mathlib.Core.Bool.{Bool, true, false, cond, _&&_}
+use mathlib.Core.Bool.{Bool, false, cond, _&&_}
 use mathlib.Core.List.{List, [], _∷_}
 use Prim.Native.Nat.{ℕ, zero, suc, _+_, _-_, _*_, _/_, _≤_, _<_, max}
 use lib.Dec.{ltb, leb, eqb}

@@ -3,13 +3,13 @@
 ghost use mathlib.Core.Path.{_≡_};
 ghost use mathlib.Core.Bool.{true};
 ghost use Prim.Native.Nat.{_+_, _-_, _*_, _≤_, _<_, max};
-ghost use lib.ListN.{length, getD, replicate};
+ghost use lib.ListN.{length, getD};
 ghost use Rattle.turns.specs.Turn.{shiftMinutes};
 ghost use Rattle.sheet.specs.Kind.{mostGroomers, mostTurns};
 ghost use Rattle.choicemap.specs.Choice.{chosenIn, choiceIn};
 ghost use Rattle.problem.specs.Columns.{rowIn, turnsBy, Held};
 ghost use Rattle.partition.specs.Numbering.{orderByStart};
-ghost use Rattle.playing.specs.Day.{overMinutes, mostDelay, delayIn, delaysFit};
+ghost use Rattle.playing.specs.Day.{mostDelay, delayIn, delaysFit};
 ghost use Rattle.day.specs.Table.{dayRows, dayTablePlaces, cut, stintIn, withStint, stintBy, withNext, besideNext, isKnown, tableWith, besideWith};
 ghost use Rattle.day.specs.Table.{blankTable, DelaysFit, RoomForTurn, Days};
 use playing::Stint;

@@ -1,29 +1,28 @@
 -- What is judged before the first minute, and the entry's answer, by cases; each premise in the form in which the code's calls and tests leave it. Assumes nothing.
 use Prim.Native.Nat.{ℕ, suc, _*_, _≤_, _<_}
 use mathlib.Core.Path.{_≡_, refl, sym, _∙_, ap}
-use mathlib.Core.Bool.{Bool, true, false, not, _&&_}
+use mathlib.Core.Bool.{Bool, true, false, _&&_}
 use mathlib.Core.List.{List, [], _∷_, _++_}
 use native.Mathlib.Omega.{arith}
 use native.Mathlib.Decide.{ℕ-discrete}
-use lib.Dec.{eqb, ltb}
+use lib.Dec.{eqb}
 use lib.ListN.{length, drop}
 use borrow.Author.Tests.{eq-eqb, ne-eqb, eqb-true, lt-ltb, le-ltb}
 use Rattle.lists.specs.Lists.{tab}
 use Rattle.lists.proofs.Bools.{and-1, and-2}
 use Rattle.refusal.specs.Number.{bufferTooSmall, badDelays}
-use Rattle.refusal.specs.Cause.{Cause, _when_, firstOf}
+use Rattle.refusal.specs.Cause.{Cause, firstOf}
 use Rattle.refusal.proofs.Order.{numbered, numbered-append, first-stops, first-goes}
 use Rattle.turns.specs.Turn.{shiftMinutes}
 use Rattle.sheet.specs.Kind.{mostGroomers}
 use Rattle.sheet.specs.declared.reader.ReadAnswer.{ReadAnswer}
-use Rattle.sheet.specs.Read.{countsIn, turnCount, sheetCauses, answerOf, readAnswer}
+use Rattle.sheet.specs.Read.{countsIn, turnCount, sheetCauses, answerOf}
 use Rattle.sheet.proofs.Readings.{sheet-numbered}
 use Rattle.sheet.proofs.Unrefused.{few-groomers}
 use Rattle.sheet.proofs.Whole.{whole-refusal, whole-accepted, whole-answer, whole-turns}
 use Rattle.model.specs.Turns.{Turns}
-use Rattle.model.specs.Ceiling.{ceiling}
 use Rattle.choicemap.specs.Choice.{mapBytes, choiceIn}
-use Rattle.board.specs.Board.{boardTurns, boardMap, boardChoice, writtenSteps}
+use Rattle.board.specs.Board.{boardTurns, boardMap, boardChoice}
 use Rattle.board.specs.Open.{malformed}
 use Rattle.problem.specs.declared.columns.Size.{Size}
 use Rattle.problem.specs.Columns.{turnsBy, Held}
@@ -34,7 +33,7 @@ use Rattle.audit.specs.declared.replay.Judgement.{Judgement}
 use Rattle.checking.specs.Check.{boardCauses, ruleCauses, choiceCauses, stepCauses, sumCauses, checkCauses}
 use Rattle.audit.specs.Judged.{judged}
 use Rattle.audit.proofs.Faults.{judged-number}
-use Rattle.checking.proofs.Passing.{Clear, board-clear}
+use Rattle.checking.proofs.Passing.{board-clear}
 use Rattle.playing.specs.Day.{delayIn, delaysFit, dayOf}
 use Rattle.day.specs.Table.{dayTablePlaces, DelaysFit, Days}
 use Rattle.day.proofs.Rows.{fit-delays}
@@ -64,7 +63,7 @@ append-assoc : (xs ys zs : List Cause) → (xs ++ ys) ++ zs ≡ xs ++ (ys ++ zs)
 append-assoc [] ys zs = refl
 append-assoc (x ∷ xs) ys zs = ap (λ (ws : List Cause). x ∷ ws) (append-assoc xs ys zs)
 
-board-numbered : (T : Turns) (b : List ℕ) → numbered (boardCauses T b) ≡ true
+pub board-numbered : (T : Turns) (b : List ℕ) → numbered (boardCauses T b) ≡ true
 unfolding boardCauses ruleCauses choiceCauses stepCauses sumCauses
 board-numbered T b = refl
 

@@ -1,11 +1,11 @@
 -- The standings after each minute: what a step of the table makes is what the day says; all minutes of the list. Assumes nothing.
 use mathlib.Core.Path.{_≡_, refl, sym, _∙_, ap}
-use mathlib.Core.Bool.{Bool, true, false, cond}
+use mathlib.Core.Bool.{Bool}
 use mathlib.Core.List.{List, [], _∷_, _++_}
 use Prim.Native.Nat.{ℕ, zero, suc, _+_, _-_, _≤_, _<_, _/_}
 use native.Mathlib.Omega.{arith}
 use native.Mathlib.Decide.{decLt}
-use lib.ListN.{length, getD, set, drop, length-set, length-append, length-drop}
+use lib.ListN.{length, getD, set, drop, length-append, length-drop}
 use lib.Seq.{getD-set-other, getD-append-add, getD-drop, ext-getD}
 use Rattle.turns.specs.Turn.{shiftMinutes}
 use Rattle.sheet.specs.Kind.{mostGroomers}
@@ -14,14 +14,14 @@ use Rattle.lists.proofs.Sums.{tab-length, tab-at}
 use Rattle.model.specs.Turns.{Turns}
 use Rattle.playing.specs.declared.Stint.{Stint}
 use Rattle.playing.specs.Day.{overMinutes, dayOf, doingAt}
-use Rattle.day.specs.Table.{dayRows, stintIn, stintRow, doingBy, Days}
+use Rattle.day.specs.Table.{stintIn, stintRow, doingBy, Days}
 use Rattle.day.proofs.Stints.{row-says}
 use Rattle.playing.specs.declared.Standing.{Standing}
 use Rattle.playing.specs.Standing.{freshOf, movedBy, standingAfter}
 use Rattle.playing.proofs.Stints.{driven, day-laid}
 use Rattle.playing.proofs.Standings.{driving-driven, counts-make}
 use Rattle.play.specs.Minutes.{begunOf, stepOf, minuteOf, minutesFrom}
-use Rattle.play.proofs.Moves.{begun-first, begun-later, length-minute, minute-before, minute-at}
+use Rattle.play.proofs.Moves.{begun-first, begun-later, length-minute, minute-at}
 
 pub append-left : (xs ys : List Standing) (i : ℕ) (d : Standing) → i < length xs → getD (xs ++ ys) i d ≡ getD xs i d
 append-left [] ys i d l = absurd (omega arith)

@@ -19,7 +19,7 @@ use Rattle.play.specs.declared.Prepared.{Prepared}
 use Rattle.playing.specs.Standing.{freshOf, movedBy, totalOf}
 use Rattle.play.specs.Play.{playCauses}
 
--- what minute m starts from: the first one starts anew, whatever the list held
+-- what minute m starts from. What the caller left in the list does not count: the first minute starts anew
 unfoldable pub begunOf : Standing → ℕ → Standing
 begunOf s m = cond (eqb m 0) freshOf s
 

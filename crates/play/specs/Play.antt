@@ -1,5 +1,6 @@
 -- A shift played through: any bytes as a sheet, any as a board, any table of delays, and a lent list of standings. Assumes nothing.
 use mathlib.Core.Path.{_≡_}
+use mathlib.Core.Logic.{_≢_}
 use Prim.Native.Nat.{ℕ, suc, _≤_, _<_}
 use mathlib.Core.Bool.{Bool, not, cond, _&&_}
 use mathlib.Core.List.{List, [], _∷_, _++_}
@@ -12,7 +13,8 @@ use Rattle.turns.specs.Turn.{shiftMinutes}
 use Rattle.sheet.specs.Read.{countsIn, turnCount}
 use Rattle.problem.specs.Problem.{sheetTurns}
 use Rattle.board.specs.Board.{boardChoice}
-use Rattle.checking.specs.Check.{checkCauses, Passes, FirstCheckCause}
+use Rattle.sheet.specs.Accepted.{placeOf, FirstAmong}
+use Rattle.checking.specs.Check.{checkCauses, CheckCause}
 use Rattle.playing.specs.declared.Stint.{Stint}
 use Rattle.playing.specs.Day.{mostDelay, delayIn, delaysFit, dayOf}
 use Rattle.playing.specs.declared.Standing.{Standing}
@@ -65,8 +67,15 @@ pub record DelaysServe (s delays : List ℕ) : Type 0 where
   pub each : length delays ≡ turnCount s
   pub within : (u : ℕ) → u < turnCount s → delayIn delays u ≤ mostDelay
 
--- what is refused with number k: what the check refuses, by its number; then delays that do not serve; then a list that is shorter than the sheet's groomers
-pub data PlayRefusal (s b delays : List ℕ) (places : ℕ) : ℕ → Type 0 where
-  by-check : {k : ℕ} → FirstCheckCause s b k → PlayRefusal s b delays places k
-  by-delays : Passes s b → (DelaysServe s delays → ⊥) → PlayRefusal s b delays places badDelays
-  by-places : Passes s b → DelaysServe s delays → places < countsIn s .groomers → PlayRefusal s b delays places bufferTooSmall
+-- a cause to refuse is there: its number, and its place in the order; the check's six for a board end at the place before the first of these
+pub data PlayCause (s b delays : List ℕ) (places : ℕ) : ℕ → ℕ → Type 0 where
+  of-check : {k r : ℕ} → CheckCause s b k r → PlayCause s b delays places k r
+  -- 24: there is not one delay for each turn, or one is too long
+  other-count : length delays ≢ turnCount s → PlayCause s b delays places badDelays (placeOf (turnCount s) 7)
+  long-delay : (u : ℕ) → u < length delays → mostDelay < delayIn delays u → PlayCause s b delays places badDelays (placeOf (turnCount s) 7)
+  -- 11: there is not a place for each groomer
+  few-places : places < countsIn s .groomers → PlayCause s b delays places bufferTooSmall (placeOf (turnCount s) 8)
+
+-- the first of them has number k
+abbrev pub FirstPlayCause : List ℕ → List ℕ → List ℕ → ℕ → ℕ → Type 0
+FirstPlayCause s b delays places k = FirstAmong (PlayCause s b delays places) k

@@ -1,5 +1,5 @@
-// A shift played through: what late machines do to a board, minute by minute. Each groomer's standing is
-// kept in a list that the caller lends.
+// A shift in which turns are late, gone through by minutes. The caller lends a list; it holds a standing for
+// each groomer, which every minute moves on.
 ghost use mathlib.Core.Path.{_≡_};
 ghost use mathlib.Core.Bool.{false};
 ghost use mathlib.Core.List.{_++_};
@@ -53,7 +53,7 @@ fn fresh() -> Standing
     }
 }
 
-// What minute m starts from: the first one starts anew, whatever the list held.
+// What minute m starts from. What the caller left in the list does not count: the first minute starts anew.
 fn begun(s: Standing, m: u16) -> Standing
     ensures { λ r. ⌜ r ≡ begunOf s m ⌝ }
 {

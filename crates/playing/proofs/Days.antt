@@ -1,7 +1,7 @@
 -- A groomer's day is the one in words and the only one, and what is done in each minute is what the words say. Assumes nothing.
 use mathlib.Core.Path.{_≡_, refl, sym, _∙_, ap}
-use mathlib.Core.Logic.{_↔_, _⊎_, inl, inr}
-use mathlib.Core.Bool.{Bool, true, false, cond, _&&_}
+use mathlib.Core.Logic.{_⊎_, inl, inr}
+use mathlib.Core.Bool.{Bool, true, false, cond}
 use mathlib.Core.List.{List, [], _∷_, _++_, map}
 use Prim.Native.Nat.{ℕ, zero, suc, _+_, _-_, _≤_, _<_, max}
 use native.Mathlib.Omega.{arith}
@@ -19,7 +19,7 @@ use Rattle.sorting.proofs.Order.{ascending-of}
 use Rattle.partition.specs.Numbering.{orderByStart}
 use Rattle.partition.proofs.Orders.{order-inside, order-rising, order-has}
 use Rattle.playing.specs.declared.Stint.{Stint}
-use Rattle.playing.specs.Day.{overMinutes, stintOf, stintsFrom, takes, takenOf, dayOf, Doing, works, drives, stands, doingAt, Laid, stintAt, Takes, DayIs, InStint, OverFrom, DoingIs}
+use Rattle.playing.specs.Day.{overMinutes, stintOf, stintsFrom, takes, takenOf, dayOf, works, drives, stands, doingAt, Laid, stintAt, Takes, DayIs, InStint, OverFrom, DoingIs}
 use Rattle.playing.proofs.Stints.{doing-before, doing-in, doing-over, doing-after}
 use Rattle.playing.proofs.Delayed.{works-of, times-rest, all-has, taken-all, taken-has, taken-chosen, taken-groomer}
 

@@ -1,12 +1,11 @@
 -- A day's stints come one after another; what a groomer does before, in and after one, and how many minutes it has driven over by then. Assumes nothing.
 use mathlib.Core.Path.{_≡_, refl, sym, _∙_, ap}
-use mathlib.Core.Bool.{Bool, true, false, cond}
+use mathlib.Core.Bool.{Bool, true, false}
 use mathlib.Core.List.{List, [], _∷_}
-use Prim.Native.Nat.{ℕ, zero, suc, _+_, _-_, _≤_, _<_, _/_, max}
+use Prim.Native.Nat.{ℕ, zero, suc, _+_, _-_, _≤_, _<_, max}
 use native.Mathlib.Omega.{arith}
 use native.Mathlib.Decide.{decLt}
-use native.Mathlib.Nat.{le-max-left, le-max-right}
-use lib.Dec.{ltb}
+use native.Mathlib.Nat.{le-max-right}
 use borrow.Author.Tests.{lt-ltb, le-ltb}
 use Rattle.model.specs.Turns.{Turns}
 use Rattle.partition.specs.Numbering.{orderByStart}

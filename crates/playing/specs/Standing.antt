@@ -1,7 +1,8 @@
 -- A groomer's standing: how many minutes it has worked, driven over and stood, and the turn in hand. Assumes nothing.
 use mathlib.Core.Path.{_≡_}
 use mathlib.Core.List.{List}
-use Prim.Native.Nat.{ℕ, zero, suc, _+_}
+use Prim.Native.Nat.{ℕ, zero, suc, _+_, _-_}
+use Rattle.turns.specs.Turn.{shiftMinutes}
 use Rattle.sorting.specs.Order.{howMany}
 use Rattle.playing.specs.declared.Stint.{Stint}
 use Rattle.playing.specs.Day.{Doing, works, drives, stands, doingAt, isWork, isDrive, isStand}
@@ -10,6 +11,10 @@ use Rattle.playing.specs.declared.Standing.{Standing}
 -- the number for no turn
 abbrev pub noTurnInHand : ℕ
 noTurnInHand = 65535
+
+-- the shift's last minute
+abbrev pub lastMinute : ℕ
+lastMinute = shiftMinutes - 1
 
 -- before the first minute
 abbrev pub freshOf : Standing

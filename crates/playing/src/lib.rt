@@ -8,8 +8,7 @@ pub struct Stint {
     pub end: u16,
 }
 
-// The minutes that a groomer has worked, driven over and stood, and the turn that it works in the minute
-// last played.
+// How many minutes a groomer has worked, driven over and stood so far, and the turn that it has in hand.
 #[repr(C)]
 pub struct Standing {
     pub working: u16,

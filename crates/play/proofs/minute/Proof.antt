@@ -1,7 +1,6 @@
--- `play::minute` meets its contract: a walk of its MIR, by hand, with a loop. The borrow of the list is opened once, before the loop, and closed once, after it. A turn takes element g out of the row, reads it, passes it to the covered `step`, of which only its contract is known, and stores what that returns in its place.
+-- `play::minute` meets its contract: a walk of its MIR, by hand, with a loop. The borrow of the list is opened once, before the loop, and closed once, after it. A round takes element g out of the row, reads it, passes it to the covered `step`, of which only its contract is known, and stores what that returns in its place. Assumes nothing.
 --     At           what the loop keeps: the whole row of the list l, the open borrow, the table's token and what the table's slice owns, and the locals. What is plain of it is `Moves.antt`'s `Mid`
---     turns        one turn: it ends in `At` nearer to n, or leaves the loop and runs the rest of the body
--- Assumes nothing.
+--     rounds       one round: it ends in `At` nearer to n, or leaves the loop and runs the rest of the body
 use mathlib.Core.Path.{_≡_, refl, sym, ap, subst}
 use Prim.Native.Nat.{ℕ, _<_, _≤_, _^_, _*_, _+_, _-_}
 use native.Mathlib.Omega.{arith}
@@ -153,7 +152,7 @@ module _ {M : Type 1} (𝓤 : URA M) (H : Heap 𝓤) (A : Atoms 𝓤) (W : Given
   step-of : (s : Standing) (g : ℕ) (r : Standing) → ent 𝓤 (ensured 𝓤 H A step.ended (step.clauses 𝓤 H A mem run) (κ′, tt) (s, (p, (g, (m, tt)))) tt r) (fact 𝓤 (r ≡ stepOf s (p .now) g m))
   step-of s g r = exE 𝓤 _ (λ ws. snd∗ 𝓤 (sem 𝓤 H A (lasts step.ended (κ′, tt) (s, (p, (g, (m, tt)))) ws)) (fact 𝓤 (r ≡ stepOf s (p .now) g m)))
 
-  -- ---- the loop's state: the groomer, the list, and what is kept of them. A turn goes nearer to n
+  -- ---- the loop's state: the groomer, the list, and what is kept of them. A round goes nearer to n
   abbrev State : Type 0
   State = (g : ℕ) × ((l : List Standing) × Mid n ys (p .now) m g l)
 
@@ -178,11 +177,11 @@ module _ {M : Type 1} (𝓤 : URA M) (H : Heap 𝓤) (A : Atoms 𝓤) (W : Given
     At i = ‵ (row T.the-row fullShare (i .1 .0) b o) ∷ ‵ (fobor κ q (Held T.the-row (length ys) b o γ)) ∷ ‵ (fobs γ (codedHoleys T.the-row .code (heres T.the-row ys))) ∷ ‵ (fauth γ (codedHoleys T.the-row .code (heres T.the-row ys))) ∷ ‵ (flft κ′ q′) ∷ ‵ (ShrSlice (named 1) κ′ u16 .own p (ps ∷ []))
         ∷ ‵ (froom tyPtr l₁₂ 0) ∷ ‵ (fdies tyPtr l₁₂) ∷ ‵ (froom word l₁₁ 0) ∷ ‵ (fdies word l₁₁) ∷ ‵ (froom T′.mir l₁₀ 0) ∷ ‵ (fdies T′.mir l₁₀) ∷ ‵ (froom tyPtr l₉ 0) ∷ ‵ (fdies tyPtr l₉) ∷ ‵ (froom word l₈ 0) ∷ ‵ (fdies word l₈) ∷ ‵ (froom T′.mir l₇ 0) ∷ ‵ (fdies T′.mir l₇) ∷ ‵ (froom tyBool l₆ 0) ∷ ‵ (fdies tyBool l₆) ∷ ‵ (fat fullShare word l₅ 0 (vint w64 (i .0))) ∷ ‵ (fdies word l₅) ∷ ‵ (fat fullShare half l₄ 0 (vint w16 m)) ∷ ‵ (fdies half l₄) ∷ ‵ (fat fullShare word l₃ 0 (vint w64 n)) ∷ ‵ (fdies word l₃) ∷ ‵ (fat fullShare table-ty l₂ 0 (ps)) ∷ ‵ (fdies table-ty l₂) ∷ ‵ (fat fullShare list-ty l₁ 0 (sl)) ∷ ‵ (fdies list-ty l₁) ∷ ‵ (froom tyUnit l₀ 0) ∷ ‵ (fdies tyUnit l₀) ∷ []
 
-    -- a turn's postcondition: it ends nearer to n, or the loop is left and the rest of the body runs
+    -- a round's postcondition: it ends nearer to n, or the loop is left and the rest of the body runs
     abbrev Turned : State → Out → SProp 𝓤
     Turned i = afterTurn 𝓤 H (Below 𝓤 H A Nearer At i) (afterBlock 𝓤 H (afterSeq 𝓤 H (Wp 𝓤 H C Λ En pieces.t-3 (atReturn 𝓤 H En Post)) (atReturn 𝓤 H En Post)))
 
-    -- a turn that moves groomer g
+    -- a round that moves groomer g
     more : (i : State) → i .0 < n → ltb (i .0) n ≡ true → Sq W (At i) (runs C Λ En pieces.turn-1 (anyQ (Turned i)))
     unfolding afterTurn
     more i less e =
@@ -209,7 +208,7 @@ module _ {M : Type 1} (𝓤 : URA M) (H : Heap 𝓤) (A : Atoms 𝓤) (W : Given
         assigns ! (of-opd ! (load ! (from ! (stop !)) (look ! 19 refl))) (from ! (hop ! (look ! 9 refl) (stop !))) (store-raw ! 3 refl (LL.lawful T.the-type T′.the-laws 𝓤 H A W .typed r _ is′ .0)) $
         assigns-last ! (bin ! (load ! (from ! (stop !)) (look ! 23 refl)) (lit ! tt) (record { fits = up })) (from ! (stop !)) (store ! 23 refl (tt, record { fits = up })) $
         forget ! 9 refl $ forget ! 11 refl $ forget ! 13 refl $ forget ! 15 refl $ forget ! 17 refl $ forget ! 19 refl $ forget ! 21 refl $
-        -- r is put in the element's place, and the turn ends in the invariant
+        -- r is put in the element's place, and the round ends in the invariant
         move ! (4 ∷ []) $ drop ! $ move ! (3 ∷ 0 ∷ 4 ∷ 5 ∷ 6 ∷ 7 ∷ []) $ elem-put ! T.the-row fullShare l g r (v ∷ []) b o within $
         rewrite ! 0 (λ (t : Standing). ‵ (row T.the-row fullShare (set l g t) b o)) r-is refl $
         again ! Nearer At i (g + 1, (set l g (stepOf s (p .now) g m), mid-next n ys (p .now) m g l less (i .1 .1))) (nearer less))))))
@@ -238,7 +237,7 @@ module _ {M : Type 1} (𝓤 : URA M) (H : Heap 𝓤) (A : Atoms 𝓤) (W : Given
         here : g ≤ g
         here = omega arith
 
-    -- the turn that leaves the loop, and the rest of the body: the borrow is closed at the list
+    -- the round that leaves the loop, and the rest of the body: the borrow is closed at the list
     ends : (i : State) → n ≤ i .0 → ltb (i .0) n ≡ false → Sq W (At i) (runs C Λ En pieces.turn-1 (anyQ (Turned i)))
     unfolding afterTurn
     ends i over e =
@@ -252,8 +251,8 @@ module _ {M : Type 1} (𝓤 : URA M) (H : Heap 𝓤) (A : Atoms 𝓤) (W : Given
         move ! (29 ∷ 30 ∷ []) $ free1 ! $ move ! (27 ∷ 28 ∷ []) $ free1 ! $ move ! (25 ∷ 26 ∷ []) $ free1 ! $ move ! (23 ∷ 24 ∷ []) $ free1 ! $ move ! (21 ∷ 22 ∷ []) $ free1 ! $ move ! (19 ∷ 20 ∷ []) $ free1 ! $ move ! (17 ∷ 18 ∷ []) $ free1 ! $ move ! (15 ∷ 16 ∷ []) $ free1 ! $ move ! (13 ∷ 14 ∷ []) $ free1 ! $ move ! (11 ∷ 12 ∷ []) $ free1 ! $ move ! (9 ∷ 10 ∷ []) $ free1 ! $ move ! (7 ∷ 8 ∷ []) $ free1 ! $ move ! (5 ∷ 6 ∷ []) $ free1 ! $ free0 ! $
         by ! (exits (i .1 .0) (mid-end n ys (p .now) m (i .0) (i .1 .0) over (i .1 .1)) (i .1 .1 .same))
 
-    turns : (i : State) → Sq W (At i) (runs C Λ En pieces.turn-1 (anyQ (Turned i)))
-    turns i = go (ltb (i .0) n) refl
+    rounds : (i : State) → Sq W (At i) (runs C Λ En pieces.turn-1 (anyQ (Turned i)))
+    rounds i = go (ltb (i .0) n) refl
       where
         go : (t : Bool) → ltb (i .0) n ≡ t → Sq W (At i) (runs C Λ En pieces.turn-1 (anyQ (Turned i)))
         go true e = more i (ltb→lt (i .0) n (subst T (sym e) tt)) e
@@ -269,7 +268,7 @@ module _ {M : Type 1} (𝓤 : URA M) (H : Heap 𝓤) (A : Atoms 𝓤) (W : Given
       -- the borrow is opened, and what the loop keeps is put in its order
       move ! (27 ∷ []) $ fsplit ! $ fsplit ! $ move ! (1 ∷ []) $ fsplit ! $ move ! (30 ∷ []) $ split ! $ move ! (2 ∷ 3 ∷ 0 ∷ []) $ opens-slice ! tt T.the-row ys b o $
       move ! (4 ∷ []) $ split ! $ move ! (7 ∷ []) $ fsplit ! $ keep ! (4 ∷ 5 ∷ 6 ∷ 7 ∷ 2 ∷ 0 ∷ 9 ∷ 10 ∷ 11 ∷ 12 ∷ 13 ∷ 14 ∷ 15 ∷ 16 ∷ 17 ∷ 18 ∷ 19 ∷ 20 ∷ 21 ∷ 22 ∷ 23 ∷ 24 ∷ 25 ∷ 26 ∷ 27 ∷ 28 ∷ 29 ∷ 30 ∷ 31 ∷ 32 ∷ 33 ∷ 34 ∷ []) $
-      first ! $ blocks ! $ loops ! 𝓣 Nearer Nearer-wf (At 𝓣 fm known l₀ l₁ l₂ l₃ l₄ l₅ l₆ l₇ l₈ l₉ l₁₀ l₁₁ l₁₂) (turns 𝓣 fm known l₀ l₁ l₂ l₃ l₄ l₅ l₆ l₇ l₈ l₉ l₁₀ l₁₁ l₁₂) (0, (ys, mid-start n ys (p .now) m ready)))))))))))))))
+      first ! $ blocks ! $ loops ! 𝓣 Nearer Nearer-wf (At 𝓣 fm known l₀ l₁ l₂ l₃ l₄ l₅ l₆ l₇ l₈ l₉ l₁₀ l₁₁ l₁₂) (rounds 𝓣 fm known l₀ l₁ l₂ l₃ l₄ l₅ l₆ l₇ l₈ l₉ l₁₀ l₁₁ l₁₂) (0, (ys, mid-start n ys (p .now) m ready)))))))))))))))
 
 module _ {M : Type 1} (𝓤 : URA M) (H : Heap 𝓤) (A : Atoms 𝓤) (W : Given 𝓤 H A) (mem : Memory → SProp 𝓤) (run : Routine → Fun 𝓤) where
   minute-walks : (𝓣 : Tables 𝓤 H) → Triple 𝓤 (𝓣 .C #play·step) (Step 𝓤 H A mem run) → Walks 𝓤 H A f.ended stayed (WpFn 𝓤 H (𝓣 .C) (𝓣 .Λ) code.function) (f.clauses 𝓤 H A mem run)

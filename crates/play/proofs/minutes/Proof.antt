@@ -1,8 +1,7 @@
--- `play::minutes` meets its contract: a walk of its MIR, by hand, with a loop. A turn lends the list again to `minute`, of which only its contract is known, for a lifetime that is made for the call, and has it back at the list that the contract says.
+-- `play::minutes` meets its contract: a walk of its MIR, by hand, with a loop. A round lends the list again to `minute`, of which only its contract is known, for a lifetime that is made for the call, and has it back at the list that the contract says. Assumes nothing.
 --     At           what the loop keeps: the list, owned; the two tokens; what the table's slice owns; and the locals. What is plain of it is `Moves.antt`'s `Minutes`
---     turns        one turn: it ends in `At` nearer to 960, or leaves the loop and runs the rest of the body
--- Assumes nothing.
-use mathlib.Core.Path.{_≡_, refl, sym, _∙_, subst}
+--     rounds       one round: it ends in `At` nearer to 960, or leaves the loop and runs the rest of the body
+use mathlib.Core.Path.{_≡_, refl, sym, subst}
 use Prim.Native.Nat.{ℕ, _<_, _≤_, _^_, _+_, _-_}
 use native.Mathlib.Omega.{arith}
 use mathlib.Core.Bool.{Bool, true, false}
@@ -149,7 +148,7 @@ module _ {M : Type 1} (𝓤 : URA M) (H : Heap 𝓤) (A : Atoms 𝓤) (W : Given
       nothing ! $ owned ! u16 (Is u16) (uint-makes 𝓤 H A W w16) m _ (refl, m-fits) $ fjoin ! $ owned ! usize (Is usize) (uint-makes 𝓤 H A W w64) n _ (refl, n-fits) $ fjoin ! $
       move ! (2 ∷ 0 ∷ []) $ fjoin ! $ move ! (1 ∷ 0 ∷ []) $ fjoin ! $ done !
 
-  -- ---- the loop's state: the minute, the list, and what is kept of them. A turn goes nearer to 960
+  -- ---- the loop's state: the minute, the list, and what is kept of them. A round goes nearer to 960
   abbrev State : Type 0
   State = (m : ℕ) × ((l : List Standing) × Minutes n ys (p .now) m l)
 
@@ -174,11 +173,11 @@ module _ {M : Type 1} (𝓤 : URA M) (H : Heap 𝓤) (A : Atoms 𝓤) (W : Given
     At i = ‵ (MutSlice (named 0) κ T.the-row .own (x γ (i .1 .0)) (sl ∷ [])) ∷ ‵ (flft κ q) ∷ ‵ (flft κ′ q′) ∷ ‵ (ShrSlice (named 1) κ′ u16 .own p (ps ∷ []))
         ∷ ‵ (froom again-ty l₈ 0) ∷ ‵ (fdies again-ty l₈) ∷ ‵ (froom again-ref l₇ 0) ∷ ‵ (fdies again-ref l₇) ∷ ‵ (froom tyUnit l₆ 0) ∷ ‵ (fdies tyUnit l₆) ∷ ‵ (froom tyBool l₅ 0) ∷ ‵ (fdies tyBool l₅) ∷ ‵ (fat fullShare half l₄ 0 (vint w16 (i .0))) ∷ ‵ (fdies half l₄) ∷ ‵ (fat fullShare word l₃ 0 (vint w64 n)) ∷ ‵ (fdies word l₃) ∷ ‵ (fat fullShare table-ty l₂ 0 (ps)) ∷ ‵ (fdies table-ty l₂) ∷ ‵ (fat fullShare list-ty l₁ 0 (sl)) ∷ ‵ (fdies list-ty l₁) ∷ ‵ (froom tyUnit l₀ 0) ∷ ‵ (fdies tyUnit l₀) ∷ []
 
-    -- a turn's postcondition: it ends nearer to 960, or the loop is left and the rest of the body runs
+    -- a round's postcondition: it ends nearer to 960, or the loop is left and the rest of the body runs
     abbrev Turned : State → Out → SProp 𝓤
     Turned i = afterTurn 𝓤 H (Below 𝓤 H A Nearer At i) (afterBlock 𝓤 H (afterSeq 𝓤 H (Wp 𝓤 H C Λ En pieces.t-3 (atReturn 𝓤 H En Post)) (atReturn 𝓤 H En Post)))
 
-    -- a turn that plays minute m
+    -- a round that plays minute m
     more : (i : State) → i .0 < 960 → ltb (i .0) 960 ≡ true → Sq W (At i) (runs C Λ En pieces.turn-1 (anyQ (Turned i)))
     unfolding afterTurn
     more i less e =
@@ -223,7 +222,7 @@ module _ {M : Type 1} (𝓤 : URA M) (H : Heap 𝓤) (A : Atoms 𝓤) (W : Given
         within : n ≤ length l
         within = omega (arith, same, enough)
 
-    -- the turn that leaves the loop, and the rest of the body
+    -- the round that leaves the loop, and the rest of the body
     ends : (i : State) → 960 ≤ i .0 → ltb (i .0) 960 ≡ false → Sq W (At i) (runs C Λ En pieces.turn-1 (anyQ (Turned i)))
     unfolding afterTurn
     ends i over e =
@@ -235,8 +234,8 @@ module _ {M : Type 1} (𝓤 : URA M) (H : Heap 𝓤) (A : Atoms 𝓤) (W : Given
         move ! (20 ∷ 21 ∷ []) $ free1 ! $ move ! (18 ∷ 19 ∷ []) $ free1 ! $ move ! (16 ∷ 17 ∷ []) $ free1 ! $ move ! (14 ∷ 15 ∷ []) $ free1 ! $ move ! (12 ∷ 13 ∷ []) $ free1 ! $ move ! (10 ∷ 11 ∷ []) $ free1 ! $ move ! (8 ∷ 9 ∷ []) $ free1 ! $ move ! (6 ∷ 7 ∷ []) $ free1 ! $ move ! (4 ∷ 5 ∷ []) $ free1 ! $ free0 ! $
         by ! (exits (i .1 .0) (minutes-end n ys (p .now) (i .0) (i .1 .0) over (i .1 .1)) (i .1 .1 .same))
 
-    turns : (i : State) → Sq W (At i) (runs C Λ En pieces.turn-1 (anyQ (Turned i)))
-    turns i = go (ltb (i .0) 960) refl
+    rounds : (i : State) → Sq W (At i) (runs C Λ En pieces.turn-1 (anyQ (Turned i)))
+    rounds i = go (ltb (i .0) 960) refl
       where
         go : (t : Bool) → ltb (i .0) 960 ≡ t → Sq W (At i) (runs C Λ En pieces.turn-1 (anyQ (Turned i)))
         go true e = more i (ltb→lt (i .0) 960 (subst T (sym e) tt)) e
@@ -251,7 +250,7 @@ module _ {M : Type 1} (𝓤 : URA M) (H : Heap 𝓤) (A : Atoms 𝓤) (W : Given
       assigns ! (of-opd ! (lit ! tt)) (from ! (stop !)) (init ! 8 refl (tt, record { fits = lit< tt })) $
       -- what the loop keeps is put in its order
       move ! (19 ∷ []) $ fsplit ! $ move ! (20 ∷ []) $ split ! $ move ! (1 ∷ []) $ split ! $ move ! (4 ∷ []) $ fsplit ! $ keep ! (5 ∷ 4 ∷ 2 ∷ 0 ∷ 6 ∷ 7 ∷ 8 ∷ 9 ∷ 10 ∷ 11 ∷ 12 ∷ 13 ∷ 14 ∷ 15 ∷ 16 ∷ 17 ∷ 18 ∷ 19 ∷ 20 ∷ 21 ∷ 22 ∷ 23 ∷ []) $
-      first ! $ blocks ! $ loops ! 𝓣 Nearer Nearer-wf (At 𝓣 fm known l₀ l₁ l₂ l₃ l₄ l₅ l₆ l₇ l₈) (turns 𝓣 fm known l₀ l₁ l₂ l₃ l₄ l₅ l₆ l₇ l₈) (0, (ys, minutes-start n ys (p .now) few places)))))))))))
+      first ! $ blocks ! $ loops ! 𝓣 Nearer Nearer-wf (At 𝓣 fm known l₀ l₁ l₂ l₃ l₄ l₅ l₆ l₇ l₈) (rounds 𝓣 fm known l₀ l₁ l₂ l₃ l₄ l₅ l₆ l₇ l₈) (0, (ys, minutes-start n ys (p .now) few places)))))))))))
 
 module _ {M : Type 1} (𝓤 : URA M) (H : Heap 𝓤) (A : Atoms 𝓤) (W : Given 𝓤 H A) (mem : Memory → SProp 𝓤) (run : Routine → Fun 𝓤) where
   minutes-walks : (𝓣 : Tables 𝓤 H) → Triple 𝓤 (𝓣 .C #play·minute) (Minute 𝓤 H A mem run) → Walks 𝓤 H A f.ended stayed (WpFn 𝓤 H (𝓣 .C) (𝓣 .Λ) code.function) (f.clauses 𝓤 H A mem run)
