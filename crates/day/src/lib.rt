@@ -39,7 +39,7 @@ const ROW_SIZE: usize = 3;
 
 const DAY_PLACES: usize = DAY_ROWS * ROW_SIZE;
 
-pub const TABLE_PLACES: usize = GROOMERS * DAY_PLACES;
+pub const DAY_TABLE_PLACES: usize = GROOMERS * DAY_PLACES;
 
 // Beside the table, while it is filled: from when on each groomer is free, then how many stints it has.
 const KEPT: usize = GROOMERS + GROOMERS;
@@ -193,14 +193,14 @@ fn put_turns(
 }
 
 // The days of a board's groomers, of chosen turns with a delay each, in a table of their own.
-pub fn days_of(p: Size, cols: &[u16; PLACES], map: &[u8], delays: &[u16]) -> [u16; TABLE_PLACES]
+pub fn days_of(p: Size, cols: &[u16; PLACES], map: &[u8], delays: &[u16]) -> [u16; DAY_TABLE_PLACES]
     requires { ⌜ Held p (now cols) × (p .count ≤ 8 * length (now map)) × DelaysFit (now delays) (p .count) ⌝ }
     ensures { λ r. ⌜ Days (turnsBy p (now (cols .entry))) (choiceIn (p .count) (now (map .entry))) (delayIn (now (delays .entry))) r ⌝ }
 {
     let n = p.count;
     let mut places = [0u16; MOST_TURNS];
     partition::put_order(p, cols, &mut places[..n]);
-    let mut table = [MINUTES; TABLE_PLACES];
+    let mut table = [MINUTES; DAY_TABLE_PLACES];
     put_turns(p, cols, map, delays, &places[..n], &mut table);
     table
 }

@@ -18,7 +18,7 @@ use Rattle.day.specs.Table.{dayRows, dayTablePlaces, stintIn, doingBy}
 use Rattle.playing.specs.declared.Standing.{Standing}
 use Rattle.playing.specs.Standing.{noTurnInHand, freshOf, movedBy, totalOf}
 use Rattle.playing.proofs.Standings.{moved-total}
-use Rattle.play.specs.Minutes.{begunOf, stepOf, minuteOf, minutesFrom, MinuteReady, AllMinuteReady}
+use Rattle.play.specs.Minutes.{begunOf, stepOf, minuteOf, minutesFrom, MinuteReady, AllReady}
 
 -- ---- the cases of a step
 
@@ -109,7 +109,7 @@ pub record Mid (n : ℕ) (ys : List Standing) (table : List ℕ) (m g : ℕ) (l 
   pub ready : (j : ℕ) → g ≤ j → j < n → MinuteReady table j m (getD l j freshOf)
 
 module _ (n : ℕ) (ys : List Standing) (table : List ℕ) (m : ℕ) where
-  pub mid-start : AllMinuteReady table m n ys → Mid n ys table m 0 ys
+  pub mid-start : AllReady table m n ys → Mid n ys table m 0 ys
   mid-start h = record { upto = omega arith; same = refl; rest = rw sub-zero; ready = λ j _ l. h j l }
 
   pub mid-next : (g : ℕ) (l : List Standing) → g < n → Mid n ys table m g l → Mid n ys table m (g + 1) (set l g (stepOf (getD l g freshOf) table g m))
@@ -151,7 +151,7 @@ minute-at (suc k) g l table m j h h′ room =
       | inr more ↦ let other : j ≡ g → ⊥ = λ e. omega arith in minute-at k (g + 1) (set l g (stepOf (getD l g freshOf) table g m)) table m j more up room′ ∙ ap (λ (s : Standing). stepOf s table j m) (getD-set-other l g j (stepOf (getD l g freshOf) table g m) freshOf other)
     ]
 
-pub minute-ready : (n : ℕ) (l : List Standing) (table : List ℕ) (m : ℕ) → n ≤ length l → m + 1 < shiftMinutes → AllMinuteReady table m n l → AllMinuteReady table (m + 1) n (minuteOf n 0 l table m)
+pub minute-ready : (n : ℕ) (l : List Standing) (table : List ℕ) (m : ℕ) → n ≤ length l → m + 1 < shiftMinutes → AllReady table m n l → AllReady table (m + 1) n (minuteOf n 0 l table m)
 minute-ready n l table m room day h g less =
     let e : getD (minuteOf n 0 l table m) g freshOf ≡ stepOf (getD l g freshOf) table g m = minute-at n 0 l table m g (omega arith) (omega arith) (omega arith) in
     let later : m + 1 ≡ 0 → ⊥ = λ z. omega arith in
@@ -162,7 +162,7 @@ pub record Minutes (n : ℕ) (ys : List Standing) (table : List ℕ) (m : ℕ) (
   pub upto : m ≤ shiftMinutes
   pub same : length l ≡ length ys
   pub rest : minutesFrom (shiftMinutes - m) m n l table ≡ minutesFrom shiftMinutes 0 n ys table
-  pub ready : m < shiftMinutes → AllMinuteReady table m n l
+  pub ready : m < shiftMinutes → AllReady table m n l
 
 module _ (n : ℕ) (ys : List Standing) (table : List ℕ) where
   pub minutes-start : n ≤ mostGroomers → length table ≡ dayTablePlaces → Minutes n ys table 0 ys

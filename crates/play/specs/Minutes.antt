@@ -43,8 +43,8 @@ minutesFrom (suc k) m n l table = minutesFrom k (m + 1) n (minuteOf n 0 l table 
 abbrev pub MinuteReady : List ℕ → ℕ → ℕ → Standing → Type 0
 MinuteReady table g m s = (length table ≡ dayTablePlaces) × (g < mostGroomers) × (m < shiftMinutes) × (totalOf (begunOf s m) ≡ m)
 
-abbrev pub AllMinuteReady : List ℕ → ℕ → ℕ → List Standing → Type 0
-AllMinuteReady table m n l = (g : ℕ) → g < n → MinuteReady table g m (getD l g freshOf)
+abbrev pub AllReady : List ℕ → ℕ → ℕ → List Standing → Type 0
+AllReady table m n l = (g : ℕ) → g < n → MinuteReady table g m (getD l g freshOf)
 
 -- what is worked out before the first minute, where these are the causes to refuse: the answer, and where none is there a table that holds the days
 pub record PreparedBy (causes : List Cause) (T : Turns) (groomers : ℕ) (S : List Bool) (delays : List ℕ) (places : ℕ) (p : Prepared) : Type 0 where

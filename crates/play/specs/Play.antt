@@ -67,7 +67,7 @@ pub record DelaysServe (s delays : List ℕ) : Type 0 where
   pub each : length delays ≡ turnCount s
   pub within : (u : ℕ) → u < turnCount s → delayIn delays u ≤ mostDelay
 
--- a cause to refuse is there: its number, and its place in the order; the check's six for a board end at the place before the first of these
+-- a cause to refuse is there: its number, and its place in the order, behind those of the check, of which the six for a board are the last
 pub data PlayCause (s b delays : List ℕ) (places : ℕ) : ℕ → ℕ → Type 0 where
   of-check : {k r : ℕ} → CheckCause s b k r → PlayCause s b delays places k r
   -- 24: there is not one delay for each turn, or one is too long

@@ -14,10 +14,10 @@ ghost use Rattle.checking.specs.Check.{boardCauses};
 ghost use Rattle.day.specs.Table.{dayTablePlaces};
 ghost use Rattle.playing.specs.Standing.{freshOf};
 ghost use Rattle.play.specs.Play.{servesFor, lentCauses, played, playOf};
-ghost use Rattle.play.specs.Minutes.{begunOf, stepOf, minuteOf, minutesFrom, MinuteReady, AllMinuteReady, PreparedBy, PreparedFor};
+ghost use Rattle.play.specs.Minutes.{begunOf, stepOf, minuteOf, minutesFrom, MinuteReady, AllReady, PreparedBy, PreparedFor};
+use day::DAY_TABLE_PLACES;
 use day::MINUTES;
 use day::OVER_MINUTES;
-use day::TABLE_PLACES;
 use playing::Standing;
 use problem::PLACES;
 use problem::Size;
@@ -35,7 +35,7 @@ pub struct Prepared {
     pub refusal: u8,
     pub groomers: u16,
     pub moved: usize,
-    pub table: [u16; TABLE_PLACES],
+    pub table: [u16; DAY_TABLE_PLACES],
 }
 
 // The turn in hand where none is.
@@ -97,7 +97,7 @@ pub fn step(s: Standing, table: &[u16], g: usize, m: u16) -> Standing
 
 // A minute of the first n groomers, in the caller's list.
 pub fn minute(list: &mut [Standing], table: &[u16], n: usize, m: u16)
-    requires { ⌜ (n ≤ length (now list)) × AllMinuteReady (now table) m n (now list) ⌝ }
+    requires { ⌜ (n ≤ length (now list)) × AllReady (now table) m n (now list) ⌝ }
     ensures { λ _. ⌜ now (list .exit) ≡ minuteOf n 0 (now (list .entry)) (now (table .entry)) m ⌝ }
 {
     let mut g = 0;
@@ -126,7 +126,7 @@ fn refused(k: u8) -> Prepared
         refusal: k,
         groomers: 0,
         moved: 0,
-        table: [0; TABLE_PLACES],
+        table: [0; DAY_TABLE_PLACES],
     }
 }
 
@@ -204,7 +204,7 @@ fn checked<'a>(sheet: &'a [u8], board: &'a [u8], delays: &'a [u16], places: usiz
     prepare_board(p, &cols, head.groomers, board, delays, places)
 }
 
-fn table_of(p: Prepared) -> [u16; TABLE_PLACES]
+fn table_of(p: Prepared) -> [u16; DAY_TABLE_PLACES]
     ensures { λ r. ⌜ r ≡ p .table ⌝ }
 {
     p.table

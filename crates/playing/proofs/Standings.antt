@@ -1,6 +1,6 @@
 -- The standing after each minute of a day: the closed reading, and that the counts make all minutes played. Assumes nothing.
-use mathlib.Core.Path.{_≡_, refl}
-use mathlib.Core.Bool.{cond}
+use mathlib.Core.Path.{_≡_, refl, _∙_, ap}
+use mathlib.Core.Bool.{Bool, cond}
 use mathlib.Core.List.{List}
 use Prim.Native.Nat.{ℕ, zero, suc, _+_}
 use native.Mathlib.Omega.{arith}
@@ -8,7 +8,7 @@ use Rattle.sorting.specs.Order.{howMany}
 use Rattle.playing.specs.declared.Stint.{Stint}
 use Rattle.playing.specs.declared.Standing.{Standing}
 use Rattle.playing.specs.Day.{Doing, works, drives, stands, doingAt, isWork, isDrive, isStand}
-use Rattle.playing.specs.Standing.{movedBy, standingAfter, totalOf, inHand, StandingIs}
+use Rattle.playing.specs.Standing.{freshOf, movedBy, standingAfter, totalOf, inHand, StandingIs}
 use Rattle.playing.proofs.Stints.{driven}
 
 -- ---- one minute
@@ -25,38 +25,32 @@ moved-turn s (works u) = refl
 moved-turn s drives = refl
 moved-turn s stands = refl
 
+moved-working : (s : Standing) (d : Doing) → movedBy s d .working ≡ cond (isWork d) 1 0 + s .working
+unfolding movedBy isWork
+moved-working s (works u) = omega arith
+moved-working s drives = omega arith
+moved-working s stands = omega arith
+
+moved-driving : (s : Standing) (d : Doing) → movedBy s d .driving ≡ cond (isDrive d) 1 0 + s .driving
+unfolding movedBy isDrive
+moved-driving s (works u) = omega arith
+moved-driving s drives = omega arith
+moved-driving s stands = omega arith
+
+moved-standing : (s : Standing) (d : Doing) → movedBy s d .standing ≡ cond (isStand d) 1 0 + s .standing
+unfolding movedBy isStand
+moved-standing s (works u) = omega arith
+moved-standing s drives = omega arith
+moved-standing s stands = omega arith
+
 -- ---- the counts
 
 module _ (day : List Stint) where
-  working-count : (k : ℕ) → standingAfter day k .working ≡ howMany (λ m. isWork (doingAt day m)) k
-  unfolding standingAfter movedBy isWork
-  working-count zero = refl
-  working-count (suc k) = go (doingAt day k) (working-count k)
-    where
-      go : (d : Doing) → standingAfter day k .working ≡ howMany (λ m. isWork (doingAt day m)) k → movedBy (standingAfter day k) d .working ≡ cond (isWork d) 1 0 + howMany (λ m. isWork (doingAt day m)) k
-      go (works u) e = omega (arith, e)
-      go drives e = omega (arith, e)
-      go stands e = omega (arith, e)
-
-  pub driving-count : (k : ℕ) → standingAfter day k .driving ≡ howMany (λ m. isDrive (doingAt day m)) k
-  unfolding standingAfter movedBy isDrive
-  driving-count zero = refl
-  driving-count (suc k) = go (doingAt day k) (driving-count k)
-    where
-      go : (d : Doing) → standingAfter day k .driving ≡ howMany (λ m. isDrive (doingAt day m)) k → movedBy (standingAfter day k) d .driving ≡ cond (isDrive d) 1 0 + howMany (λ m. isDrive (doingAt day m)) k
-      go (works u) e = omega (arith, e)
-      go drives e = omega (arith, e)
-      go stands e = omega (arith, e)
-
-  standing-count : (k : ℕ) → standingAfter day k .standing ≡ howMany (λ m. isStand (doingAt day m)) k
-  unfolding standingAfter movedBy isStand
-  standing-count zero = refl
-  standing-count (suc k) = go (doingAt day k) (standing-count k)
-    where
-      go : (d : Doing) → standingAfter day k .standing ≡ howMany (λ m. isStand (doingAt day m)) k → movedBy (standingAfter day k) d .standing ≡ cond (isStand d) 1 0 + howMany (λ m. isStand (doingAt day m)) k
-      go (works u) e = omega (arith, e)
-      go drives e = omega (arith, e)
-      go stands e = omega (arith, e)
+  -- a number that a minute moves by 1 just if a test of what is done passes counts the minutes that pass it
+  count-is : (f : Standing → ℕ) (p : Doing → Bool) → f freshOf ≡ 0 → ((s : Standing) (d : Doing) → f (movedBy s d) ≡ cond (p d) 1 0 + f s) → (k : ℕ) → f (standingAfter day k) ≡ howMany (λ m. p (doingAt day m)) k
+  unfolding standingAfter
+  count-is f p none moved zero = none
+  count-is f p none moved (suc k) = moved (standingAfter day k) (doingAt day k) ∙ ap (λ (n : ℕ). cond (p (doingAt day k)) 1 0 + n) (count-is f p none moved k)
 
   -- the three counts make all minutes played
   pub counts-make : (k : ℕ) → totalOf (standingAfter day k) ≡ k
@@ -66,15 +60,12 @@ module _ (day : List Stint) where
 
   turn-count : (m : ℕ) → standingAfter day (suc m) .turn ≡ inHand (doingAt day m)
   unfolding standingAfter
-  turn-count m = go (doingAt day m)
-    where
-      go : (d : Doing) → movedBy (standingAfter day m) d .turn ≡ inHand d
-      go d = moved-turn (standingAfter day m) d
+  turn-count m = moved-turn (standingAfter day m) (doingAt day m)
 
   -- after every minute the standing is what the day says
   pub standing-is : (m : ℕ) → StandingIs day m (standingAfter day (suc m))
-  standing-is m = record { working-is = working-count (suc m); driving-is = driving-count (suc m); standing-is = standing-count (suc m); turn-is = turn-count m; minutes = counts-make (suc m) }
+  standing-is m = record { working-is = count-is (λ s. s .working) isWork refl moved-working (suc m); driving-is = count-is (λ s. s .driving) isDrive refl moved-driving (suc m); standing-is = count-is (λ s. s .standing) isStand refl moved-standing (suc m); turn-is = turn-count m; minutes = counts-make (suc m) }
 
 pub driving-driven : (day : List Stint) (m : ℕ) → standingAfter day m .driving ≡ driven day m
 unfolding driven
-driving-driven day m = driving-count day m
+driving-driven day m = count-is day (λ s. s .driving) isDrive refl moved-driving m

@@ -126,7 +126,7 @@ pub record DoingIs (day : List Stint) (m : ℕ) (d : Doing) : Type 0 where
   -- and stands in all other minutes
   pub stands-iff : (d ≡ stands) ↔ ((i : ℕ) → i < length day → (InStint (stintAt day i) m → ⊥) × (OverFrom (stintAt day i) m → ⊥))
 
--- in a day, each stint begins no earlier than the groomer is free, and does not end before it begins
+-- stints one after another, from some minute on: each begins when the groomer is free or later, does not end before it begins, and driving over follows
 pub data Laid : ℕ → List Stint → Type 0 where
   none : {free : ℕ} → Laid free []
   more : {free : ℕ} {s : Stint} {ss : List Stint} → free ≤ s .begin → s .begin ≤ s .end → Laid (s .end + overMinutes) ss → Laid free (s ∷ ss)

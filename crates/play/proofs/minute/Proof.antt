@@ -49,7 +49,7 @@ use denote.Triple.Walked.{says, needs, Stays, stay-slice, stay-none-slice, stay-
 use denote.Exit.{yes}
 use Rattle.playing.specs.declared.Standing.{Standing}
 use Rattle.playing.specs.Standing.{freshOf}
-use Rattle.play.specs.Minutes.{stepOf, minuteOf, MinuteReady, AllMinuteReady}
+use Rattle.play.specs.Minutes.{stepOf, minuteOf, MinuteReady, AllReady}
 use Rattle.play.proofs.Moves.{Mid, mid-start, mid-next, mid-end}
 use Rattle.playing.proofs.Standing as T
 use Rattle.playing.proofs.Standing.Laws as T′
@@ -258,7 +258,7 @@ module _ {M : Type 1} (𝓤 : URA M) (H : Heap 𝓤) (A : Atoms 𝓤) (W : Given
         go true e = more i (ltb→lt (i .0) n (subst T (sym e) tt)) e
         go false e = ends i (nltb→le (i .0) n (not-T (ltb (i .0) n) (λ z. subst T e z))) e
 
-  walk : (𝓣 : Tables 𝓤 H) → FmC 𝓤 H (W .laws) (𝓣 .C) → Triple 𝓤 (𝓣 .C #play·step) (Step 𝓤 H A mem run) → AllMinuteReady (p .now) m n ys
+  walk : (𝓣 : Tables 𝓤 H) → FmC 𝓤 H (W .laws) (𝓣 .C) → Triple 𝓤 (𝓣 .C #play·step) (Step 𝓤 H A mem run) → AllReady (p .now) m n ys
       → ent 𝓤 (onEntry 𝓤 H A f.signature (κ, (κ′, tt)) (q, (q′, tt)) a vals) (WpFn 𝓤 H (𝓣 .C) (𝓣 .Λ) code.function (sl ∷ ps ∷ vint w64 n ∷ vint w16 m ∷ []) Post)
   walk 𝓣 fm known ready =
       qed W ((‵ (flft κ q) ⊛ ‵ (flft κ′ q′) ⊛ ‵ ftrue) ∷ ‵ (owns (MutSlice (named 0) κ T.the-row ∷ ShrSlice (named 1) κ′ u16 ∷ usize ∷ u16 ∷ []) a vals) ∷ []) ∵ enter ! (𝓣 .C) (𝓣 .Λ) code.function (sl ∷ ps ∷ vint w64 n ∷ vint w16 m ∷ []) _ $
@@ -274,7 +274,7 @@ module _ {M : Type 1} (𝓤 : URA M) (H : Heap 𝓤) (A : Atoms 𝓤) (W : Given
   minute-walks : (𝓣 : Tables 𝓤 H) → Triple 𝓤 (𝓣 .C #play·step) (Step 𝓤 H A mem run) → Walks 𝓤 H A f.ended stayed (WpFn 𝓤 H (𝓣 .C) (𝓣 .Λ) code.function) (f.clauses 𝓤 H A mem run)
   minute-walks 𝓣 known = walked 𝓤 H A f.ended stayed (f.clauses 𝓤 H A mem run) (WpFn 𝓤 H (𝓣 .C) (𝓣 .Λ) code.function)
       (λ κs. (slice-vals, (slice-vals, (uint-vals w64, (uint-vals w16, tt))))) (λ κs. (mut-slice-tells (named 0) (κs .0) T.the-row, (shr-slice-tells (named 1) (κs .1 .0) u16, (uint-tells w64, (uint-tells w16, tt)))))
-      (λ κs qs bounds a g are. needs 𝓤 ((a .1 .1 .0 ≤ length (a .0 .now)) × AllMinuteReady (a .1 .0 .now) (a .1 .1 .1 .0) (a .1 .1 .0) (a .0 .now)) _ (λ asked.
+      (λ κs qs bounds a g are. needs 𝓤 ((a .1 .1 .0 ≤ length (a .0 .now)) × AllReady (a .1 .0 .now) (a .1 .1 .1 .0) (a .1 .1 .0) (a .0 .now)) _ (λ asked.
       walk 𝓤 H A W mem run (κs .0) (κs .1 .0) (qs .0) (qs .1 .0) (a .0 .ptr .0) (a .0 .ptr .1) (a .0 .name) (a .0 .now) (a .1 .0) (a .1 .1 .0) (a .1 .1 .1 .0) (are .1 .1 .0 .1) (are .1 .1 .1 .0 .1) (are .0 .0 .1) (are .1 .0 .0 .1) (asked .0) 𝓣 (fmOf 𝓤 H (W .laws) 𝓣) known (asked .1)))
 
   goes : AllGo 𝓤 H A W 2 (f.signature .params) (f.ended .kept) stayed

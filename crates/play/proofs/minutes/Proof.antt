@@ -45,7 +45,7 @@ use denote.Triple.Table.{entered, cited}
 use denote.Triple.Walked.{says, needs, Stays, stay-slice, stay-none-slice, stay-none, walkOf, AllGo, goes-slice, goes-none-slice, goes-none, Walks, ends-at, walked, walk-meets}
 use denote.Exit.{yes}
 use Rattle.playing.specs.declared.Standing.{Standing}
-use Rattle.play.specs.Minutes.{minuteOf, minutesFrom, AllMinuteReady}
+use Rattle.play.specs.Minutes.{minuteOf, minutesFrom, AllReady}
 use Rattle.turns.specs.Turn.{shiftMinutes}
 use Rattle.sheet.specs.Kind.{mostGroomers}
 use Rattle.day.specs.Table.{dayTablePlaces}
@@ -139,7 +139,7 @@ module _ {M : Type 1} (𝓤 : URA M) (H : Heap 𝓤) (A : Atoms 𝓤) (W : Given
   abbrev to-minute : ℕ → GName → List Standing → ℕ → Minute 𝓤 H A mem run .Ghost
   to-minute ν δ l m = (((ν ∷ [], (κ′, tt)), (fullShare, (q′, tt)), tt, (x δ l, (p, (n, (m, tt)))), (sl ∷ [], (ps ∷ [], (vint w64 n ∷ [], (vint w16 m ∷ [], tt))))), tt)
 
-  goes-minute : (ν : ℕ) (δ : GName) (l : List Standing) (m : ℕ) → (n ≤ length l) × AllMinuteReady (p .now) m n l → m < 2 ^ 16
+  goes-minute : (ν : ℕ) (δ : GName) (l : List Standing) (m : ℕ) → (n ≤ length l) × AllReady (p .now) m n l → m < 2 ^ 16
       → ent 𝓤 (⋆ 𝓤 H A ((‵ (flft (ν ∷ []) fullShare) ⊛ ‵ (flft κ′ q′)) ∷ (‵ (MutSlice (named 0) (ν ∷ []) T.the-row .own (x δ l) (sl ∷ [])) ⊛ ‵ (ShrSlice (named 1) κ′ u16 .own p (ps ∷ []))) ∷ [])) (Minute 𝓤 H A mem run .pre (to-minute ν δ l m))
   goes-minute ν δ l m asked m-fits =
       qed W ((‵ (flft (ν ∷ []) fullShare) ⊛ ‵ (flft κ′ q′)) ∷ (‵ (MutSlice (named 0) (ν ∷ []) T.the-row .own (x δ l) (sl ∷ [])) ⊛ ‵ (ShrSlice (named 1) κ′ u16 .own p (ps ∷ []))) ∷ []) ∵ says ! asked $
