@@ -7,8 +7,6 @@ use Rattle.day.proofs.Rows.{fit-cases}
 use borrow.Author.Needs.{needs}
 use Rattle.day.proofs.delays_fit.Statement.{statement}
 use Rattle.day.proofs.delays_fit.Tie as tie
-use Rattle.day.proofs.delays_fit.Reads as reads
-use Rattle.day.proofs.delays_fit.Lts as lts
 
 abbrev Inv-loop : tie.InvT-loop
 Inv-loop delays i₀ i = (i ≤ length delays) × (delaysFit delays i ≡ true)
@@ -16,35 +14,27 @@ Inv-loop delays i₀ i = (i ≤ length delays) × (delaysFit delays i ≡ true)
 abbrev μ-loop : tie.MeasureT-loop
 μ-loop delays i₀ i = length delays - i
 
--- src/lib.rt:198:5
 loop-holds : tie.Need-loop-holds Inv-loop μ-loop
 loop-holds c = search (needs, fit-cases)
 
--- src/lib.rt:199:25
 mul-if1 : tie.Need-mul-if1 Inv-loop μ-loop
 mul-if1 c = search (needs, fit-cases)
 
--- src/lib.rt:199:25
 shared-slice-read-if1 : tie.Need-shared-slice-read-if1 Inv-loop μ-loop
 shared-slice-read-if1 c = search (needs, fit-cases)
 
--- src/lib.rt:200:13
 returns : tie.Need-returns Inv-loop μ-loop
 returns c = search (needs, fit-cases)
 
--- src/lib.rt:202:9
 add-i : tie.Need-add-i Inv-loop μ-loop
 add-i c = search (needs, fit-cases)
 
--- src/lib.rt:198:5
 loop-less : tie.Need-loop-less Inv-loop μ-loop
 loop-less c = search (needs, fit-cases)
 
--- src/lib.rt:198:5
 loop-again : tie.Need-loop-again Inv-loop μ-loop
 loop-again c = search (needs, fit-cases)
 
--- src/lib.rt:194:1
 returns-2 : tie.Need-returns-2 Inv-loop μ-loop
 returns-2 c = search (needs, fit-cases)
 

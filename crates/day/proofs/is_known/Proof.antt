@@ -2,14 +2,10 @@ use Rattle.day.proofs.Rows.{known-cases}
 use borrow.Author.Needs.{needs}
 use Rattle.day.proofs.is_known.Statement.{statement}
 use Rattle.day.proofs.is_known.Tie as tie
-use Rattle.day.proofs.is_known.Reads as reads
-use Rattle.day.proofs.is_known.Lts as lts
 
--- src/lib.rt:114:9
 returns : tie.Need-returns
 returns c = search (needs, known-cases)
 
--- src/lib.rt:110:1
 returns-2 : tie.Need-returns-2
 returns-2 c = search (needs, known-cases)
 

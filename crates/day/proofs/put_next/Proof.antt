@@ -2,39 +2,28 @@ use Rattle.day.proofs.Rows.{next-cases}
 use borrow.Author.Needs.{needs}
 use Rattle.day.proofs.put_next.Statement.{statement}
 use Rattle.day.proofs.put_next.Tie as tie
-use Rattle.day.proofs.put_next.Reads as reads
-use Rattle.day.proofs.put_next.Lts as lts
-use Rattle.day.proofs.put_stint.Reads as put-stint-reads
 
--- src/lib.rt:124:18
 add-j : tie.Need-add-j
 add-j c = search needs
 
--- src/lib.rt:124:13
 mul-j : tie.Need-mul-j
 mul-j c = search needs
 
--- src/lib.rt:124:13
 shared-slice-read-j : tie.Need-shared-slice-read-j
 shared-slice-read-j c = search needs
 
--- src/lib.rt:124:13
 cast-j : tie.Need-cast-j
 cast-j c = search (needs, next-cases)
 
--- src/lib.rt:126:9
 put-stint-requires : tie.Need-put-stint-requires
 put-stint-requires c κs = search needs
 
--- src/lib.rt:120:1
 same-length : tie.Need-same-length
 same-length c = search needs
 
--- src/lib.rt:120:1
 returns : tie.Need-returns
 returns c = search (needs, next-cases)
 
--- src/lib.rt:120:1
 returns-2 : tie.Need-returns-2
 returns-2 c = search (needs, next-cases)
 

@@ -2,41 +2,28 @@ use Rattle.day.proofs.Rows.{turn-cases}
 use borrow.Author.Needs.{needs}
 use Rattle.day.proofs.put_turn.Statement.{statement}
 use Rattle.day.proofs.put_turn.Tie as tie
-use Rattle.day.proofs.put_turn.Reads as reads
-use Rattle.day.proofs.put_turn.Lts as lts
-use Rattle.day.proofs.keep_next.Reads as keep-next-reads
-use Rattle.day.proofs.put_next.Reads as put-next-reads
-use Rattle.day.proofs.stint_by.Reads as stint-by-reads
 
--- src/lib.rt:147:35
 mul-stint-by : tie.Need-mul-stint-by
 mul-stint-by c = search needs
 
--- src/lib.rt:147:35
 slice-read-stint-by : tie.Need-slice-read-stint-by
 slice-read-stint-by c = search needs
 
--- src/lib.rt:147:9
 stint-by-requires : tie.Need-stint-by-requires
 stint-by-requires c κs = search (needs, turn-cases)
 
--- src/lib.rt:148:5
 put-next-requires : tie.Need-put-next-requires
 put-next-requires c κs = search needs
 
--- src/lib.rt:149:5
 keep-next-requires : tie.Need-keep-next-requires
 keep-next-requires c κs = search needs
 
--- src/lib.rt:141:1
 same-length : tie.Need-same-length
 same-length c = search needs
 
--- src/lib.rt:141:1
 same-length-2 : tie.Need-same-length-2
 same-length-2 c = search needs
 
--- src/lib.rt:141:1
 returns : tie.Need-returns
 returns c = search (needs, turn-cases)
 

@@ -8,9 +8,6 @@ use Rattle.day.proofs.Rows.{loop-cases}
 use borrow.Author.Needs.{needs}
 use Rattle.day.proofs.put_turns.Statement.{statement}
 use Rattle.day.proofs.put_turns.Tie as tie
-use Rattle.day.proofs.put_turns.Reads as reads
-use Rattle.day.proofs.put_turns.Lts as lts
-use Rattle.day.proofs.put_chosen.Reads as put-chosen-reads
 
 abbrev Inv-loop : tie.InvT-loop
 Inv-loop p cols map delays order table₀ kept₀ i₀ table kept i = (i ≤ p .count) × RowsPut (turnsBy p cols) (choiceIn (p .count) map) (delayIn delays) (take i order) table kept
@@ -18,43 +15,33 @@ Inv-loop p cols map delays order table₀ kept₀ i₀ table kept i = (i ≤ p .
 abbrev μ-loop : tie.MeasureT-loop
 μ-loop p cols map delays order table₀ kept₀ i₀ table kept i = p .count - i
 
--- src/lib.rt:193:5
 loop-holds : tie.Need-loop-holds Inv-loop μ-loop
 loop-holds c = search (needs, loop-cases)
 
--- src/lib.rt:194:39
 mul-put-chosen : tie.Need-mul-put-chosen Inv-loop μ-loop
 mul-put-chosen c = search (needs, loop-cases)
 
--- src/lib.rt:194:39
 shared-slice-read-put-chosen : tie.Need-shared-slice-read-put-chosen Inv-loop μ-loop
 shared-slice-read-put-chosen c = search (needs, loop-cases)
 
--- src/lib.rt:194:62
 slice-aggregate-put-chosen : tie.Need-slice-aggregate-put-chosen Inv-loop μ-loop
 slice-aggregate-put-chosen c = search (needs, loop-cases)
 
--- src/lib.rt:194:9
 put-chosen-requires : tie.Need-put-chosen-requires Inv-loop μ-loop
 put-chosen-requires c κs = ((search (needs, loop-cases), search (needs, loop-cases), search (needs, loop-cases), search (needs, loop-cases)), ((search (needs, loop-cases), search (needs, loop-cases)), (search (needs, loop-cases), search (needs, loop-cases))))
 
--- src/lib.rt:195:9
 add-i : tie.Need-add-i Inv-loop μ-loop
 add-i c = search (needs, loop-cases)
 
--- src/lib.rt:193:5
 loop-less : tie.Need-loop-less Inv-loop μ-loop
 loop-less c = search (needs, loop-cases)
 
--- src/lib.rt:193:5
 loop-again : tie.Need-loop-again Inv-loop μ-loop
 loop-again c = search (needs, loop-cases)
 
--- src/lib.rt:179:1
 same-length : tie.Need-same-length Inv-loop μ-loop
 same-length c = search (needs, loop-cases)
 
--- src/lib.rt:179:1
 returns : tie.Need-returns Inv-loop μ-loop
 returns c = search (needs, loop-cases)
 

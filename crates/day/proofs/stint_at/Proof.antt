@@ -2,54 +2,40 @@ use Rattle.day.proofs.Rows.{stint-cases}
 use borrow.Author.Needs.{needs}
 use Rattle.day.proofs.stint_at.Statement.{statement}
 use Rattle.day.proofs.stint_at.Tie as tie
-use Rattle.day.proofs.stint_at.Reads as reads
-use Rattle.day.proofs.stint_at.Lts as lts
 
--- src/lib.rt:101:14
 mul-at : tie.Need-mul-at
 mul-at c = search needs
 
--- src/lib.rt:101:31
 mul-at-2 : tie.Need-mul-at-2
 mul-at-2 c = search needs
 
--- src/lib.rt:101:14
 add-at : tie.Need-add-at
 add-at c = search needs
 
--- src/lib.rt:103:15
 mul-t5 : tie.Need-mul-t5
 mul-t5 c = search needs
 
--- src/lib.rt:103:15
 shared-slice-read-t8 : tie.Need-shared-slice-read-t8
 shared-slice-read-t8 c = search needs
 
--- src/lib.rt:104:22
 add-t6 : tie.Need-add-t6
 add-t6 c = search needs
 
--- src/lib.rt:104:16
 mul-t9 : tie.Need-mul-t9
 mul-t9 c = search needs
 
--- src/lib.rt:104:16
 shared-slice-read-t11 : tie.Need-shared-slice-read-t11
 shared-slice-read-t11 c = search needs
 
--- src/lib.rt:105:20
 add-t12 : tie.Need-add-t12
 add-t12 c = search needs
 
--- src/lib.rt:105:14
 mul-t13 : tie.Need-mul-t13
 mul-t13 c = search needs
 
--- src/lib.rt:105:14
 shared-slice-read-t15 : tie.Need-shared-slice-read-t15
 shared-slice-read-t15 c = search needs
 
--- src/lib.rt:97:1
 returns : tie.Need-returns
 returns c = search (needs, stint-cases)
 

@@ -2,19 +2,13 @@ use Rattle.play.proofs.Moves.{begun-cases}
 use borrow.Author.Needs.{needs}
 use Rattle.play.proofs.begun.Statement.{statement}
 use Rattle.play.proofs.begun.Tie as tie
-use Rattle.play.proofs.begun.Reads as reads
-use Rattle.play.proofs.begun.Lts as lts
-use Rattle.play.proofs.fresh.Reads as fresh-reads
 
--- src/lib.rt:67:9
 fresh-requires : tie.Need-fresh-requires
 fresh-requires c κs = search needs
 
--- src/lib.rt:67:9
 returns : tie.Need-returns
 returns c = search (needs, begun-cases)
 
--- src/lib.rt:63:1
 returns-2 : tie.Need-returns-2
 returns-2 c = search (needs, begun-cases)
 

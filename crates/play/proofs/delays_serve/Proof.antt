@@ -2,19 +2,13 @@ use Rattle.play.proofs.Answers.{serves-cases}
 use borrow.Author.Needs.{needs}
 use Rattle.play.proofs.delays_serve.Statement.{statement}
 use Rattle.play.proofs.delays_serve.Tie as tie
-use Rattle.play.proofs.delays_serve.Reads as reads
-use Rattle.play.proofs.delays_serve.Lts as lts
-use Rattle.day.proofs.delays_fit.Reads as delays-fit-reads
 
--- src/lib.rt:148:9
 delays-fit-requires : tie.Need-delays-fit-requires
 delays-fit-requires c κs = search needs
 
--- src/lib.rt:148:9
 returns : tie.Need-returns
 returns c = search (needs, serves-cases)
 
--- src/lib.rt:144:1
 returns-2 : tie.Need-returns-2
 returns-2 c = search (needs, serves-cases)
 
