@@ -60,7 +60,7 @@ pub fn keep(sheet: &[u8], kept: &mut [u8]) -> WriteAnswer
     ensures { λ r. ⌜ written r (now (kept .exit)) ≡ keepOf (now (sheet .entry)) (now (kept .entry)) ⌝ }
 {
     let mut table = [0u16; TABLE_PLACES];
-    let read = sheet::read_table(sheet, &mut table);
+    let read = reader::read_table(sheet, &mut table);
     if read.refusal != 0 {
         return refused(read.refusal);
     }

@@ -32,7 +32,7 @@ use writer::WriteAnswer;
 fn archive() -> Kind
     ensures { λ r. ⌜ r ≡ archive ⌝ }
 {
-    let garage = sheet::garage();
+    let garage = reader::garage();
     let most = garage.most;
     let maps = garage.maps;
     let refusals = garage.refusals;
@@ -131,7 +131,7 @@ fn judge_kept(k: &[u8], table: &mut [u16]) -> u8
     ensures { λ r. ⌜ (r ≡ 0 → firstTurns (turnCount (now (k .entry))) (now (table .exit)) ≡ keptTurns (now (k .entry))) ⌝ }
 {
     let kind = archive();
-    let h = sheet::read_header(kind, k);
+    let h = reader::read_header(kind, k);
     match h {
         Header::Refused(fault) => fault,
         Header::Found(limits, n) => judge_form(kind, k, n, limits, &mut *table),

@@ -17,8 +17,8 @@ use Rattle.sheet.proofs.Readings.{sheet-numbered}
 use Rattle.sheet.proofs.Whole.{whole-refusal, whole-accepted, whole-turns}
 use Rattle.model.specs.Ceiling.{ceiling}
 use Rattle.board.specs.Board.{boardHeader, boardTally, boardWorth, writtenSteps}
-use Rattle.board.specs.Open.{malformed}
-use Rattle.board.proofs.Openings.{formed-header}
+use Rattle.opening.specs.Open.{malformed}
+use Rattle.opening.proofs.Openings.{formed-header}
 use Rattle.problem.specs.declared.columns.Size.{Size}
 use Rattle.problem.specs.Columns.{turnsBy, Held}
 use Rattle.problem.specs.Problem.{sheetTurns}

@@ -17,8 +17,8 @@ use Rattle.model.specs.Rules.{independent, maximal, sums}
 use Rattle.model.specs.Ceiling.{ceiling}
 use Rattle.choicemap.specs.Choice.{choiceIn}
 use Rattle.board.specs.Board.{boardTurns, boardSteps, boardTally, boardWorth, boardMap, boardChoice, stepsIn, writtenSteps}
-use Rattle.board.specs.Open.{openOf, stepsPart}
-use Rattle.board.proofs.Openings.{opened, shut, formed-steps, formed-map, part-steps}
+use Rattle.opening.specs.Open.{openOf, stepsPart}
+use Rattle.opening.proofs.Openings.{opened, shut, formed-steps, formed-map, part-steps}
 use Rattle.problem.specs.declared.columns.Size.{Size}
 use Rattle.problem.specs.Columns.{turnsBy, Held}
 use Rattle.choices.specs.Bounds.{Lent}

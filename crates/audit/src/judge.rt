@@ -122,14 +122,14 @@ pub fn board_fault(b: &[u8], p: Size, cols: &[u16; PLACES], room: &mut [u16; PLA
     ensures { λ r. ⌜ r ≡ judged (firstOf (boardCauses (turnsBy p (now (cols .entry))) (now (b .entry))))
         (ceiling (turnsBy p (now (cols .entry))) (writtenSteps (now (b .entry)))) ⌝ }
 {
-    if board::open(b) != 0 {
+    if opening::open(b) != 0 {
         return fault_at(refusal::MALFORMED_BOARD);
     }
     if board::turns(b) as usize != p.count {
         return fault_at(refusal::MALFORMED_BOARD);
     }
-    let map = board::map(b);
-    let steps = board::steps(b);
+    let map = opening::map(b);
+    let steps = opening::steps(b);
     parts_fault(b, map, steps, p, cols, &mut *room)
 }
 
@@ -150,7 +150,7 @@ pub fn check(s: &[u8], b: &[u8]) -> CheckAnswer
 {
     let mut cols = [0u16; PLACES];
     let mut room = [0u16; PLACES];
-    let sheet = problem::load(s, &mut cols, &mut room);
+    let sheet = problem::load_with(s, &mut cols, &mut room);
     if sheet.refusal != 0 {
         return refused(sheet.refusal);
     }

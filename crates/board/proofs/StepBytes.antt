@@ -15,9 +15,9 @@ use Rattle.lists.proofs.Sums.{tab-length, tab-at, tab-same}
 use Rattle.board.specs.Board.{stepSize, stepAt, stepsIn, stepBytes}
 
 -- steps whose numbers fit two bytes
-pub data Small : List Step → Type 0 where
-  none : Small []
-  more : {x : Step} {xs : List Step} → x .turn < 65536 → x .amount < 65536 → Small xs → Small (x ∷ xs)
+pub data SmallSteps : List Step → Type 0 where
+  none : SmallSteps []
+  more : {x : Step} {xs : List Step} → x .turn < 65536 → x .amount < 65536 → SmallSteps xs → SmallSteps (x ∷ xs)
 
 pub bytes-then : (k y : ℕ) {r : List ℕ} → Bytes r → Bytes (bytesOf k y ++ r)
 bytes-then zero y b = b
@@ -48,7 +48,7 @@ step-behind l i =
     let m : valueAt l (stepSize * suc i + 2) 2 ≡ valueAt (drop stepSize l) (stepSize * i + 2) 2 = rw (a, b) (sym (ap valueOf (bytesAt-drop stepSize l (stepSize * i + 2) 2))) in
     λ j. record { turn = t j; amount = m j }
 
-pub steps-read : {xs : List Step} → Small xs → (l rest : List ℕ) → l ≡ stepBytes xs ++ rest → stepsIn (length xs) l ≡ xs
+pub steps-read : {xs : List Step} → SmallSteps xs → (l rest : List ℕ) → l ≡ stepBytes xs ++ rest → stepsIn (length xs) l ≡ xs
 unfolding stepsIn tab stepBytes
 steps-read none l rest e = refl
 steps-read (more {x = x} {xs = xs} h k r) l rest e =

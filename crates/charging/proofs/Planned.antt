@@ -14,7 +14,7 @@ use Rattle.model.proofs.Residuals.{open-left, left-open, left-after-by}
 use Rattle.board.specs.Board.{stepBytes}
 use Rattle.problem.specs.Columns.{turnsBy}
 use Rattle.problem.proofs.Rows.{count-is}
-use Rattle.remaining.specs.Remaining.{kept, Remaining}
+use Rattle.remaining.specs.Remaining.{withoutSpent, Remaining}
 use Rattle.remaining.proofs.Remaining.{remaining-kept}
 use Rattle.hallmodel.specs.Hall.{Hall, isWide, isSmall}
 use Rattle.hallmodel.specs.Plan.{turnsAmong, smallTakes, wideSteps, smallSteps}
@@ -58,7 +58,7 @@ module _ (a : Among) (cols own : List ℕ) (s : List ℤ) where
     small-written l at q = q ∙ ap (λ (x : Step). puts l at (stepBytes (x ∷ []))) next-is
 
   -- no step opens a window again
-  pub small-goes : {list : List ℕ} → Remaining T s list → (list′ : List ℕ) (k j : ℕ) → take k list′ ≡ kept s list → {s′ : List ℤ} → s′ ≡ next s (record { turn = j; amount = left s j }) → Remaining T s′ (take k list′)
+  pub small-goes : {list : List ℕ} → Remaining T s list → (list′ : List ℕ) (k j : ℕ) → take k list′ ≡ withoutSpent s list → {s′ : List ℤ} → s′ ≡ next s (record { turn = j; amount = left s j }) → Remaining T s′ (take k list′)
   small-goes h list′ k j e q =
       let r = remaining-kept T h in
       let x : Step = record { turn = j; amount = left s j } in

@@ -16,7 +16,7 @@ use Rattle.model.specs.Pick.{steps}
 use Rattle.model.proofs.Limits.{AllWithin, amount-within}
 use Rattle.model.proofs.Planned.{planBy-right, planned-right, steps-few}
 use Rattle.board.specs.Board.{stepAt, stepsIn, stepBytes}
-use Rattle.board.proofs.StepBytes.{Small, step-bytes-length, steps-at, steps-read}
+use Rattle.board.proofs.StepBytes.{SmallSteps, step-bytes-length, steps-at, steps-read}
 use Rattle.ratio.proofs.Written.{each-inside, each-small, steps-small}
 use Rattle.problem.specs.Columns.{turnsBy}
 use Rattle.problem.proofs.Rows.{count-is}
@@ -38,7 +38,7 @@ Inside n xs = (d : Step) (i : ℕ) → i < length xs → getD xs i d .turn < n
 record Good (n : ℕ) (xs : List Step) : Type 0 where
   few : length xs ≤ n
   inside : Inside n xs
-  small : Small xs
+  small : SmallSteps xs
 
 module _ (H : Hall) (supplied : 0 < H .units) (few : windowCount H ≤ mostTurns) (worths : (t : ℕ) → t < windowCount H → H .windows .worth t ≤ mostWorth) where
   of-kind : (b : Bool) (t : ℕ) → t < windowCount H → cond b (H .windows .worth t) 0 ≤ mostWorth

@@ -1,10 +1,10 @@
 // The engine's first half for the charging hall: the windows of one kind as turns in columns, what a
 // step on a small window takes, and the steps of either kind.
 mod among;
-mod stepping;
+mod running;
 mod taking;
 
 pub use among::Among;
 pub use among::is_of_kind;
 pub use among::put_among;
-pub use stepping::plan_among;
+pub use running::plan_among;

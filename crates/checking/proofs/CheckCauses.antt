@@ -25,10 +25,10 @@ use Rattle.sheet.specs.Accepted.{SheetCause, placeOf, FirstAmong}
 use Rattle.sheet.proofs.Causes.{refused-iff, first-same, cause-there}
 use Rattle.sheet.proofs.Readings.{sheet-numbered}
 use Rattle.board.specs.Board.{boardTurns, boardSteps, boardTally, boardWorth, boardChoice, writtenSteps}
-use Rattle.board.specs.Open.{malformed, openOf, OpenCause}
+use Rattle.opening.specs.Open.{malformed, openOf, OpenCause}
 use Rattle.refusal.specs.Number.{malformedBoard}
-use Rattle.board.proofs.Openings.{open-refused, shut}
-use Rattle.board.proofs.OpenCauses.{open-refused-iff}
+use Rattle.opening.proofs.Openings.{open-refused, shut}
+use Rattle.opening.proofs.OpenCauses.{open-refused-iff}
 use Rattle.problem.specs.Problem.{sheetTurns}
 use Rattle.problem.proofs.Posed.{sheet-lengths}
 use Rattle.checking.specs.Check.{choiceCauses, stepCauses, ruleCauses, sumCauses, boardCauses, checkCauses, checkOf, BoardCause, no-board, other-count, two-conflict, room-left, step-wrong, turn-open, sums-differ, CheckCause, of-sheet, of-board, FirstCheckCause}

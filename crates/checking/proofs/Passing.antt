@@ -23,9 +23,9 @@ use Rattle.sheet.specs.Accepted.{Accepted}
 use Rattle.sheet.proofs.Accepting.{accepted-iff}
 use Rattle.sheet.proofs.Readings.{sheet-numbered}
 use Rattle.board.specs.Board.{boardTurns, boardTally, boardWorth, boardChoice, writtenSteps}
-use Rattle.board.specs.Open.{malformed}
-pub use Rattle.board.proofs.OpenCauses.{formed-board}
-use Rattle.board.proofs.OpenCauses.{board-formed}
+use Rattle.opening.specs.Open.{malformed}
+pub use Rattle.opening.proofs.OpenCauses.{formed-board}
+use Rattle.opening.proofs.OpenCauses.{board-formed}
 use Rattle.problem.specs.Problem.{sheetTurns}
 use Rattle.problem.proofs.Posed.{sheet-count, sheet-lengths}
 use Rattle.checking.specs.Check.{choiceCauses, stepCauses, ruleCauses, sumCauses, boardCauses, checkCauses, checkOf, checked, Passes, BoardKeeps}

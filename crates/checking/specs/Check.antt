@@ -17,7 +17,7 @@ use Rattle.sheet.specs.Accepted.{SheetCause, placeOf, FirstAmong}
 use Rattle.problem.specs.Problem.{sheetTurns}
 use Rattle.checking.specs.declared.CheckAnswer.{CheckAnswer}
 use Rattle.board.specs.Board.{boardTurns, boardSteps, boardTally, boardWorth, boardChoice, writtenSteps}
-use Rattle.board.specs.Open.{malformed, WellFormed, OpenCause}
+use Rattle.opening.specs.Open.{malformed, WellFormed, OpenCause}
 
 -- what may be wrong with a choice: two chosen turns conflict, or a turn still fits
 unfoldable pub choiceCauses : Turns → List Bool → List Cause

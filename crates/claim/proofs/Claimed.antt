@@ -26,7 +26,7 @@ use Rattle.sheet.specs.Kind.{garage}
 use Rattle.sheet.proofs.SoundKinds.{garage-sound}
 use Rattle.sheet.proofs.Accepting.{sheet-reads, accepted-iff}
 use Rattle.board.specs.Board.{boardTurns, boardSteps, boardTally, boardWorth, boardChoice, writtenSteps}
-use Rattle.board.specs.Open.{WellFormed}
+use Rattle.opening.specs.Open.{WellFormed}
 use Rattle.problem.specs.Problem.{sheetTurns}
 use Rattle.problem.proofs.Posed.{sheet-count, sheet-lengths}
 use Rattle.checking.specs.Check.{Passes, BoardKeeps, checkOf, checked}

@@ -20,14 +20,14 @@ use Rattle.model.specs.Choice.{chosen, fits, choose, back, fill, goBack, choice
 use Rattle.model.specs.Ceiling.{inGroups, holdAll, fewestGroups, stepCost, ceiling}
 use Rattle.model.specs.Rules.{independent, maximal, noEarlier, right, allRight, noneOpen, sums}
 use Rattle.choicemap.specs.Choice.{bitOf, chosenIn, choiceIn, clearPast, byteOf, mapOf, onesOf, onesIn}
-use Rattle.board.specs.Chosen.{countOf, turnChosen}
+use Rattle.opening.specs.Chosen.{countOf, turnChosen}
 use Rattle.board.specs.Board.{boardMap, boardChoice, stepsIn, writtenSteps, stepBytes, boardOf}
-use Rattle.board.specs.Open.{badSizes, malformed, openOf, stepsPart}
+use Rattle.opening.specs.Open.{badSizes, malformed, openOf, stepsPart}
 use Rattle.checking.specs.Check.{choiceCauses, stepCauses, ruleCauses, sumCauses, boardCauses, checkCauses, checkOf}
 use Rattle.planning.specs.Plan.{boardFor, plannedBoard, planCauses, planOf}
 use Rattle.text.specs.Decimal.{decimalIn, decimal}
-use Rattle.listing.specs.Round.{startsAt, startsBelow, roundFrom, roundOf}
-use Rattle.listing.specs.Text.{labelled, twoLabelled, headingOf, lineOf, linesOf, groomerText, groomersFrom, sumsLine, listingOf}
+use Rattle.rounds.specs.Round.{startsAt, startsBelow, roundFrom, roundOf}
+use Rattle.lines.specs.Text.{labelled, twoLabelled, headingOf, lineOf, linesOf, groomerText, groomersFrom, sumsLine, listingOf}
 use Rattle.listing.specs.List.{sumsFor, listingFor, sheetListing, listCauses, listOf}
 use Rattle.claim.specs.Cases.{WorkedCases}
 

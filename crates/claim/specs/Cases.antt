@@ -13,8 +13,8 @@ use Rattle.turns.specs.declared.Counts.{Counts}
 use Rattle.sheet.specs.Read.{readOf, outcome, readRefused}
 use Rattle.problem.specs.Problem.{sheetTurns}
 use Rattle.writing.specs.Write.{writeOf}
-use Rattle.board.specs.Open.{openOf, stepsPart}
-use Rattle.board.specs.Chosen.{counted, countOf, turnChosen}
+use Rattle.opening.specs.Open.{openOf, stepsPart}
+use Rattle.opening.specs.Chosen.{counted, countOf, turnChosen}
 use Rattle.checking.specs.Check.{checkOf, checked}
 use Rattle.planning.specs.Plan.{planOf}
 use Rattle.listing.specs.List.{listOf}

@@ -66,44 +66,44 @@ module _ (F : Field) (m : ℕ) where
   unfolding sizeIn
   two-size l n = rw (two F l n)
 
-  pub narrow-size : F .width ≡ 1 → (m / F .unit % 2 ≡ sizeIn F m) × (m / F .unit % 2 ≤ 2)
-  narrow-size e = (sym (one-size e), omega arith)
+  pub byte-size : F .width ≡ 1 → (m / F .unit % 2 ≡ sizeIn F m) × (m / F .unit % 2 ≤ 2)
+  byte-size e = (sym (one-size e), omega arith)
 
   pub wide-size : ColumnsLaid F → (F .width ≡ 1 → ⊥) → (2 * (m / F .unit % 2) ≡ sizeIn F m) × (2 * (m / F .unit % 2) ≤ 2)
   wide-size l e = (sym (two-size l e), omega arith)
 
   -- room for it
-  pub narrow-fits : (at : ℕ) {n : ℕ} → F .width ≡ 1 → at + sizeIn F m ≤ n → at + m / F .unit % 2 ≤ n
-  narrow-fits at e h = rw (← one-size e) h
+  pub byte-fits : (at : ℕ) {n : ℕ} → F .width ≡ 1 → at + sizeIn F m ≤ n → at + m / F .unit % 2 ≤ n
+  byte-fits at e h = rw (← one-size e) h
 
   pub wide-fits : (at : ℕ) {n : ℕ} → ColumnsLaid F → (F .width ≡ 1 → ⊥) → at + sizeIn F m ≤ n → at + 2 * (m / F .unit % 2) ≤ n
   wide-fits at l e h = rw (← two-size l e) h
 
   -- put
-  pub narrow-at : (at : ℕ) {r : ℕ} → F .width ≡ 1 → r ≡ at + m / F .unit % 2 → r ≡ at + sizeIn F m
-  narrow-at at e p = rw (one-size e) p
+  pub byte-at : (at : ℕ) {r : ℕ} → F .width ≡ 1 → r ≡ at + m / F .unit % 2 → r ≡ at + sizeIn F m
+  byte-at at e p = rw (one-size e) p
 
   pub wide-at : (at : ℕ) {r : ℕ} → ColumnsLaid F → (F .width ≡ 1 → ⊥) → r ≡ at + 2 * (m / F .unit % 2) → r ≡ at + sizeIn F m
   wide-at at l e p = rw (two-size l e) p
 
-  pub narrow-put : (at x : ℕ) (l : List ℕ) {l′ : List ℕ} → F .width ≡ 1 → l′ ≡ puts l at (fieldBytes (m / F .unit % 2) 1 x) → l′ ≡ puts l at (fieldIn F m x)
+  pub byte-put : (at x : ℕ) (l : List ℕ) {l′ : List ℕ} → F .width ≡ 1 → l′ ≡ puts l at (fieldBytes (m / F .unit % 2) 1 x) → l′ ≡ puts l at (fieldIn F m x)
   unfolding fieldIn
-  narrow-put at x l e q = rw e q
+  byte-put at x l e q = rw e q
 
   pub wide-put : (at x : ℕ) (l : List ℕ) {l′ : List ℕ} → ColumnsLaid F → (F .width ≡ 1 → ⊥) → l′ ≡ puts l at (fieldBytes (m / F .unit % 2) 2 x) → l′ ≡ puts l at (fieldIn F m x)
   unfolding fieldIn
   wide-put at x l laid e q = rw (two F laid e) q
 
   -- read
-  pub narrow-read : (at old : ℕ) (s : List ℕ) {r : ℕ} → F .width ≡ 1 → r ≡ field 1 s at (m / F .unit % 2) old → r ≡ fieldValue F s at m old
+  pub byte-read : (at old : ℕ) (s : List ℕ) {r : ℕ} → F .width ≡ 1 → r ≡ field 1 s at (m / F .unit % 2) old → r ≡ fieldValue F s at m old
   unfolding fieldValue
-  narrow-read at old s e p = rw e p
+  byte-read at old s e p = rw e p
 
   pub wide-read : (at old : ℕ) (s : List ℕ) {r : ℕ} → ColumnsLaid F → (F .width ≡ 1 → ⊥) → r ≡ field 2 s at (m / F .unit % 2) old → r ≡ fieldValue F s at m old
   unfolding fieldValue
   wide-read at old s l e p = rw (two F l e) p
 
-pub ruleset field-in-cases = (bit-below, narrow-size, wide-size, narrow-fits, wide-fits, narrow-at, wide-at, narrow-put, wide-put, narrow-read, wide-read)
+pub ruleset field-in-cases = (bit-below, byte-size, wide-size, byte-fits, wide-fits, byte-at, wide-at, byte-put, wide-put, byte-read, wide-read)
 
 -- ---- a column
 

@@ -15,7 +15,7 @@ use Rattle.sheet.specs.declared.reader.ReadAnswer.{ReadAnswer}
 use Rattle.sheet.specs.Read.{Outcome, outcome}
 use Rattle.writing.specs.Write.{countsOf, writeOf}
 use Rattle.trial.specs.Trial.{drawOf}
-use Rattle.board.specs.Open.{openOf, stepsPart}
+use Rattle.opening.specs.Open.{openOf, stepsPart}
 use Rattle.checking.specs.declared.CheckAnswer.{CheckAnswer}
 use Rattle.checking.specs.Check.{checkOf}
 use Rattle.partition.specs.declared.PartitionAnswer.{PartitionAnswer}

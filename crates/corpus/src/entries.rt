@@ -3,8 +3,8 @@ ghost use mathlib.Core.Path.{_≡_};
 ghost use lib.ListN.{length};
 ghost use Rattle.sheet.specs.Read.{readOf};
 ghost use Rattle.writing.specs.Write.{countsOf, writeOf};
-ghost use Rattle.board.specs.Open.{openOf, stepsPart};
-ghost use Rattle.board.specs.Chosen.{countOf, turnChosen};
+ghost use Rattle.opening.specs.Open.{openOf, stepsPart};
+ghost use Rattle.opening.specs.Chosen.{countOf, turnChosen};
 ghost use Rattle.checking.specs.Check.{checkOf};
 ghost use Rattle.planning.specs.Plan.{planOf};
 ghost use Rattle.listing.specs.List.{listOf};
@@ -17,7 +17,7 @@ ghost use Rattle.hall.specs.Charge.{chargeOf};
 ghost use Rattle.corpus.specs.Line.{longHeld, countsHeld, drawHeld, drawnBy, unpacked, sumOf, writtenLine, readLine, partitionLine, earnedLine};
 ghost use Rattle.corpus.specs.Line.{checkLine, improvedLine, chargedLine};
 use super::tools;
-use board::CountAnswer;
+use opening::CountAnswer;
 
 // The values of a line behind its name: the refusal, what the entry returned, and a checksum or what
 // else ends the line.
@@ -59,7 +59,7 @@ pub fn read(sheet: &[u8], table: &mut [u16]) -> ReadLine
     ensures { λ r. ⌜ (r ≡ readLine (readOf (now (sheet .entry)) (now (table .entry))))
         × (now (table .exit) ≡ readOf (now (sheet .entry)) (now (table .entry)) .table) ⌝ }
 {
-    let answer = sheet::read(sheet, &mut *table);
+    let answer = reader::read(sheet, &mut *table);
     ReadLine {
         refusal: answer.refusal,
         groomers: answer.groomers,
@@ -124,9 +124,9 @@ pub fn open(board: &[u8]) -> Line
       last = sumOf (stepsPart (now (board .entry)));
     } ⌝ }
 {
-    let steps = board::steps(board);
+    let steps = opening::steps(board);
     Line {
-        refusal: board::open(board),
+        refusal: opening::open(board),
         value: steps.len() as u64,
         last: tools::byte_sum(steps),
     }
@@ -136,14 +136,14 @@ pub fn open(board: &[u8]) -> Line
 pub fn count(board: &[u8]) -> CountAnswer
     ensures { λ r. ⌜ r ≡ countOf (now (board .entry)) ⌝ }
 {
-    board::count(board)
+    opening::count(board)
 }
 
 // Whether a board chooses a turn.
 pub fn chosen(board: &[u8], turn: u16) -> bool
     ensures { λ r. ⌜ r ≡ turnChosen (now (board .entry)) turn ⌝ }
 {
-    board::chooses(board, turn as usize)
+    opening::chooses(board, turn as usize)
 }
 
 // Checking a board against a sheet: nothing is lent, and the ceiling ends the line.

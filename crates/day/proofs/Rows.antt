@@ -23,8 +23,8 @@ use Rattle.problem.specs.declared.columns.Size.{Size}
 use Rattle.problem.specs.declared.ways.Row.{Row}
 use Rattle.problem.specs.Columns.{rowIn, turnsBy, Held}
 use Rattle.problem.proofs.Rows.{count-is, groomer-at, start-at, end-at}
-use Rattle.partition.specs.Numbering.{orderByStart}
-use Rattle.partition.proofs.Orders.{order-length, order-turn}
+use Rattle.numbering.specs.Numbering.{orderByStart}
+use Rattle.numbering.proofs.Orders.{order-length, order-turn}
 use Rattle.partition.proofs.Places.{order-place, zeros-few, few-zeros}
 use Rattle.playing.specs.declared.Stint.{Stint}
 use Rattle.playing.specs.Day.{overMinutes, mostDelay, delayIn, delaysFit, stintOf, stintsFrom, takes, takenOf, dayOf}

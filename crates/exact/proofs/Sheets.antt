@@ -16,7 +16,7 @@ use Rattle.sheet.proofs.Unrefused.{few-turns}
 use Rattle.choicemap.specs.Choice.{mapBytes, mapOf}
 use Rattle.board.specs.Board.{boardMap}
 use Rattle.choicemap.proofs.Clean.{map-length}
-use Rattle.board.proofs.Written as written
+use Rattle.opening.proofs.Written as written
 use Rattle.problem.specs.Problem.{sheetTurns}
 use Rattle.problem.proofs.Posed.{sheet-count, sheet-lengths, sheet-worths-from}
 use Rattle.planning.specs.Plan.{boardFor, plannedBoard}

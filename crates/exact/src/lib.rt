@@ -73,8 +73,7 @@ pub fn best(s: &[u8], map: &mut [u8]) -> BestAnswer
     ensures { λ r. ⌜ earned r (now (map .exit)) ≡ exactOf (now (s .entry)) (now (map .entry)) ⌝ }
 {
     let mut cols = [0u16; PLACES];
-    let mut room = [0u16; PLACES];
-    let r = problem::load(s, &mut cols, &mut room);
+    let r = problem::load(s, &mut cols);
     let fault = r.refusal;
     if fault != 0 {
         return refused(fault);

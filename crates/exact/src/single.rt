@@ -12,7 +12,7 @@ use problem::Size;
 use problem::row_at;
 
 // A flag for each number of a slope, 0 to the greatest.
-const SLOPES: usize = 121;
+const SLOPES: usize = sheet::MOST_SLOPES as usize + 1;
 
 // Sets a slope's flag; returns whether it was clear.
 fn is_first(flags: &mut [u8; SLOPES], slope: u16) -> bool

@@ -13,7 +13,7 @@ use Rattle.sheet.specs.Read.{countsIn, turnCount, turnsOf, causesFor, atFront}
 use Rattle.sheet.specs.Accepted.{AcceptedFor, LentCauseFor}
 use Rattle.choicemap.specs.Choice.{mapBytes, mapOf}
 use Rattle.problem.specs.Problem.{problemOf}
-use Rattle.hallmodel.specs.Hall.{mostUnits, mostVehicles, Hall, windowCount}
+use Rattle.hallmodel.specs.Hall.{hallGap, mostUnits, mostVehicles, Hall, windowCount}
 use Rattle.hallmodel.specs.Plan.{hallChoice, hallWorth}
 
 -- a charging sheet: where the garage's has groomers and slopes, it has units and vehicles; every map is without the driver; and a draw out of range has a number of its own
@@ -28,7 +28,7 @@ chargingSheet =
 
 -- the hall of a sheet: no free minutes are needed between two windows
 unfoldable pub hallOf : List ℕ → Hall
-hallOf s = record { units = countsIn s .groomers; windows = problemOf 0 (turnsOf s) }
+hallOf s = record { units = countsIn s .groomers; windows = problemOf hallGap (turnsOf s) }
 
 -- after the sheet's causes: too few lent bytes for the map
 unfoldable pub chargeCauses : List ℕ → ℕ → List Cause

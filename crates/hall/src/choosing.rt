@@ -7,7 +7,7 @@ ghost use Prim.Native.Nat.{_*_, _≤_, _<_};
 ghost use lib.ListN.{length, replicate};
 ghost use Rattle.model.specs.Choice.{choose, back, fill};
 ghost use Rattle.choicemap.specs.Choice.{choiceIn, Clean};
-ghost use Rattle.board.specs.Board.{stepsIn};
+ghost use Rattle.board.specs.Board.{stepSize, stepsIn};
 ghost use Rattle.choices.specs.Bounds.{StepsOf};
 ghost use Rattle.hallmodel.specs.Plan.{fitsAmong, chooseAmong};
 ghost use Rattle.charging.specs.Among.{hallBy, ofKind};
@@ -46,7 +46,7 @@ fn go_back(
     map: &mut [u8],
     used: &mut [u8; USED],
 )
-    requires { ⌜ HallHeld a (now cols) × (4 * m ≤ length (now steps)) × StepsOf (a .size .count) m (now steps) × Clean (a .size .count) (now map) ⌝ }
+    requires { ⌜ HallHeld a (now cols) × (stepSize * m ≤ length (now steps)) × StepsOf (a .size .count) m (now steps) × Clean (a .size .count) (now map) ⌝ }
     requires { ⌜ choiceIn (a .size .count) (now map) ≡ replicate (a .size .count) false ⌝ }
     requires { ⌜ Supplied (hallBy a (now cols)) (choiceIn (a .size .count) (now map)) (now used) ⌝ }
     ensures { λ _. ⌜ choiceIn (a .size .count) (now (map .exit)) ≡ backOver a (now (cols .entry)) (stepsIn m (now (steps .entry))) ⌝ }
@@ -79,7 +79,7 @@ fn fill_up(a: Among, cols: &[u16; PLACES], map: &mut [u8], used: &mut [u8; USED]
 
 // Going back over m steps, then filling, into a map that has none chosen.
 pub fn choose_windows(a: Among, cols: &[u16; PLACES], steps: &[u8], m: usize, map: &mut [u8])
-    requires { ⌜ HallHeld a (now cols) × (4 * m ≤ length (now steps)) × StepsOf (a .size .count) m (now steps) × Clean (a .size .count) (now map) ⌝ }
+    requires { ⌜ HallHeld a (now cols) × (stepSize * m ≤ length (now steps)) × StepsOf (a .size .count) m (now steps) × Clean (a .size .count) (now map) ⌝ }
     requires { ⌜ choiceIn (a .size .count) (now map) ≡ replicate (a .size .count) false ⌝ }
     ensures { λ _. ⌜ choiceIn (a .size .count) (now (map .exit))
         ≡ chooseAmong (hallBy a (now (cols .entry))) (ofKind a (now (cols .entry))) (stepsIn m (now (steps .entry))) ⌝ }

@@ -28,6 +28,9 @@ use turns::Refusals;
 // The most units that a hall has.
 const MOST_UNITS: u16 = 48;
 
+// The free minutes between two windows: none.
+const HALL_GAP: u16 = 0;
+
 // A bit for each window that a sheet can have, and steps for as many.
 const MAP_BYTES: usize = (MOST_TURNS + 7) / 8;
 
@@ -153,7 +156,7 @@ pub fn charge(s: &[u8], map: &mut [u8]) -> ChargeAnswer
     }
     let p = Size {
         count: r.turns as usize,
-        gap: 0,
+        gap: HALL_GAP,
     };
     answer(r.groomers, p, &cols, &mut *map)
 }

@@ -17,6 +17,10 @@ mostUnits = 48
 abbrev pub mostVehicles : ℕ
 mostVehicles = 60
 
+-- the free minutes between two windows: none
+abbrev pub hallGap : ℕ
+hallGap = 0
+
 -- a hall: the units of its supply, and its windows, which are turns whose slope is the vehicle and whose groomer is the draw; their gap and drivers play no part
 pub record Hall : Type 0 where
   pub units : ℕ

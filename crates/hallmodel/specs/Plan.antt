@@ -8,7 +8,7 @@ use Rattle.model.specs.Steps.{Step, initial, afterStep, afterStepBy}
 use Rattle.model.specs.Pick.{planBy, steps}
 use Rattle.model.specs.Choice.{chosen, back, fill}
 use Rattle.model.specs.Run.{Run}
-use Rattle.hallmodel.specs.Hall.{Hall, windowCount, draw, sameVehicle, shareMinute, isWide, isSmall, staysAllowed}
+use Rattle.hallmodel.specs.Hall.{hallGap, Hall, windowCount, draw, sameVehicle, shareMinute, isWide, isSmall, staysAllowed}
 
 -- ---- the steps
 
@@ -17,7 +17,7 @@ unfoldable pub turnsAmong : Hall → (ℕ → Bool) → Turns
 turnsAmong H kind =
     record {
       count = windowCount H;
-      gap = 0;
+      gap = hallGap;
       slope = H .windows .slope;
       groomer = λ t. 0;
       start = H .windows .start;

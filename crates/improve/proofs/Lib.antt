@@ -1,8 +1,3 @@
-pub mod WordBits
-pub mod WordCases
-pub mod SearchCases
-pub mod TableCases
-pub mod Linked
 pub mod StartCases
 pub mod AnswerCases
 pub mod ImproveCauses

@@ -25,12 +25,12 @@ use Rattle.sheet.proofs.Readings.{sheet-numbered}
 use Rattle.sheet.proofs.Unrefused.{few-turns}
 use Rattle.choicemap.specs.Choice.{mapBytes, mapOf}
 use Rattle.choicemap.proofs.Clean.{map-length}
-use Rattle.board.proofs.Written as written
+use Rattle.opening.proofs.Written as written
 use Rattle.problem.specs.Problem.{sheetTurns}
 use Rattle.problem.proofs.Posed.{sheet-count, sheet-lengths}
 use Rattle.planning.specs.Plan.{boardFor, plannedBoard}
 use Rattle.planning.proofs.Planned.{planned-back}
-use Rattle.improve.specs.Words.{wordBits}
+use Rattle.search.specs.Words.{wordBits}
 use Rattle.improve.specs.Improve.{mostSearched, improveCauses, Improvement, improvedFor, improveOf}
 use Rattle.improve.specs.Sheet.{MapOfSet, ImprovedSheet, PlanComesBack}
 use Rattle.improve.proofs.ImproveCauses.{improve-number, afterSheet}
@@ -59,9 +59,13 @@ module _ (s : List ℕ) (limit : ℕ) (lent : List ℕ) (z : improveOf s limit l
 
   -- ---- the answer's fields
 
+  -- no limit has a part in what is refused
+  worth-at : (more : ℕ) → improveOf s more lent .worth ≡ searchAll (sheetTurns s) more .worth
+  unfolding improveOf improvedFor
+  worth-at more = rw (eq-eqb (firstOf (improveCauses s (length lent))) 0 none-first)
+
   worth-is : improveOf s limit lent .worth ≡ searchAll (sheetTurns s) limit .worth
-  unfolding improvedFor
-  worth-is = ap (λ (x : Improvement). x .worth) answered
+  worth-is = worth-at limit
 
   whole-is : improveOf s limit lent .whole ≡ searchAll (sheetTurns s) limit .whole
   unfolding improvedFor
@@ -107,6 +111,7 @@ module _ (s : List ℕ) (limit : ℕ) (lent : List ℕ) (z : improveOf s limit l
         all-made = λ l. visits-are ∙ promised .all-made l;
         ran-whole = (λ w. promised .ran-whole .0 (sym whole-is ∙ w), λ l. whole-is ∙ promised .ran-whole .1 l);
         greatest = λ w R f. omega (arith, worth-is, promised .greatest (sym whole-is ∙ w) R f);
+        larger = λ more l. omega (arith, worth-is, worth-at more, promised .larger more l);
         mapped = map-held;
         behind = bytes-behind;
         no-less = omega (arith, worth-is, promised .no-less, planned-back s (split .0) .worth);

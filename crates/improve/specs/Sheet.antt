@@ -18,7 +18,7 @@ use Rattle.choicemap.specs.Choice.{mapBytes, mapOf}
 use Rattle.board.specs.Board.{boardWorth, boardMap}
 use Rattle.problem.specs.Problem.{sheetTurns}
 use Rattle.planning.specs.Plan.{plannedBoard}
-use Rattle.improve.specs.Words.{wordBits}
+use Rattle.search.specs.Words.{wordBits}
 use Rattle.improve.specs.Improve.{improvedFor, improveOf}
 
 -- ---- as statements
@@ -49,6 +49,8 @@ pub record ImprovedSheet (s : List ℕ) (limit : ℕ) (lent : List ℕ) : Type 0
   pub ran-whole : (improveOf s limit lent .whole ≡ true) ↔ (wholeVisits (sheetTurns s) ≤ limit)
   -- then no feasible set earns more than the worth
   pub greatest : improveOf s limit lent .whole ≡ true → (R : List ℕ) → Feasible (sheetTurns s) R → worthOf (sheetTurns s) R ≤ improveOf s limit lent .worth
+  -- a greater limit earns at least as much
+  pub larger : (more : ℕ) → limit ≤ more → improveOf s limit lent .worth ≤ improveOf s more lent .worth
   -- the lent bytes begin with the map of a set without conflict that earns the worth
   pub mapped : MapOfSet (sheetTurns s) (improveOf s limit lent .worth) (take (mapBytes (turnCount s)) (improveOf s limit lent .lent))
   -- the bytes behind the map stay as they were

@@ -4,11 +4,11 @@ ghost use Prim.Native.Nat.{_≤_};
 ghost use lib.ListN.{length};
 ghost use Rattle.problem.specs.Columns.{columnPlaces, turnsBy, Held};
 ghost use Rattle.planning.specs.Plan.{boardFor};
-ghost use Rattle.improve.specs.Words.{wordBits};
+ghost use Rattle.search.specs.Words.{wordBits};
 ghost use Rattle.improve.specs.Start.{StartOf};
-use super::words::word_of;
 use problem::PLACES;
 use problem::Size;
+use search::word_of;
 
 // The board's worth, its ceiling, and its set as a word.
 pub struct Start {
@@ -22,9 +22,9 @@ fn start_from(p: Size, cols: &[u16; PLACES], b: &[u8]) -> Start
     requires { ⌜ Held p (now cols) × (p .count ≤ wordBits) × (now b ≡ boardFor (turnsBy p (now cols))) ⌝ }
     ensures { λ r. ⌜ StartOf (turnsBy p (now (cols .entry))) r ⌝ }
 {
-    let steps = board::steps(b);
+    let steps = opening::steps(b);
     let m = board::step_count(b);
-    let map = board::map(b);
+    let map = opening::map(b);
     Start {
         worth: board::worth(b),
         ceiling: ratio::ceiling_of(p, cols, steps, m as usize),

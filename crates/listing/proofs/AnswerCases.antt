@@ -31,9 +31,9 @@ use Rattle.sheet.proofs.Readings.{sheet-numbered}
 use Rattle.sheet.proofs.Whole.{whole-refusal, whole-accepted, whole-answer, whole-turns}
 use Rattle.choicemap.specs.Choice.{choiceIn, Clean}
 use Rattle.board.specs.Board.{boardHeader, stepSize, boardTurns, boardSteps, boardTally, boardWorth, boardMap, boardChoice, boardLength, stepsIn}
-use Rattle.board.specs.Open.{malformed, stepsPart}
-use Rattle.board.proofs.Openings.{formed-header, part-length, part-steps}
-use Rattle.board.proofs.OpenCauses.{formed-clean}
+use Rattle.opening.specs.Open.{malformed, stepsPart}
+use Rattle.opening.proofs.Openings.{formed-header, part-length, part-steps}
+use Rattle.opening.proofs.OpenCauses.{formed-clean}
 use Rattle.problem.specs.declared.columns.Size.{Size}
 use Rattle.problem.specs.Columns.{turnsBy, Held}
 use Rattle.problem.specs.Problem.{sheetTurns}
@@ -41,14 +41,14 @@ use Rattle.problem.specs.Load.{shiftSize, Posed}
 use Rattle.problem.proofs.Rows.{count-is, lengths-are}
 use Rattle.planning.specs.Plan.{boardFor}
 use Rattle.planning.proofs.Boards.{planned-bytes, board-most, ReadsBack, board-back}
-use Rattle.listing.specs.declared.lines.Sums.{Sums}
-use Rattle.listing.specs.Text.{listingOf}
+use Rattle.lines.specs.declared.lines.Sums.{Sums}
+use Rattle.lines.specs.Text.{listingOf}
 use Rattle.listing.specs.Ready.{Ready}
 use Rattle.listing.specs.Limits.{listingBytes}
 use Rattle.listing.specs.declared.ListAnswer.{ListAnswer}
 use Rattle.listing.specs.List.{sumsFor, listingFor, sheetListing, listCauses, listOf}
 use Rattle.listing.specs.Answer.{listed, listRefused, textAnswer}
-use Rattle.listing.proofs.Rounds.{apart-starts}
+use Rattle.rounds.proofs.Rounds.{apart-starts}
 use Rattle.listing.proofs.Bytes.{listing-bytes}
 
 -- ---- a text into lent bytes

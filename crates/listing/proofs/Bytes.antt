@@ -24,11 +24,11 @@ use Rattle.sheet.proofs.Unrefused.{few-groomers, few-slopes, few-turns}
 use Rattle.turns.specs.Turn.{mostWorth}
 use Rattle.problem.specs.Problem.{sheetTurns}
 use Rattle.problem.proofs.Posed.{sheet-count, sheet-lengths, sheet-ends, sheet-worths, sheet-slopes, sheet-groomers}
-use Rattle.listing.specs.declared.lines.Sums.{Sums}
-use Rattle.listing.specs.Round.{roundOf, shiftMinutes, In, here, later, StartsApart}
-use Rattle.listing.specs.Text.{labelled, twoLabelled, headingOf, lineOf, linesOf, groomerText, groomersFrom, sumsLine, listingOf, groomerWord, slopeWord, worthWord, sumWord, tallyWord, ceilingWord, hyphen, lineFeed}
+use Rattle.lines.specs.declared.lines.Sums.{Sums}
+use Rattle.rounds.specs.Round.{roundOf, shiftMinutes, In, here, later, StartsApart}
+use Rattle.lines.specs.Text.{labelled, twoLabelled, headingOf, lineOf, linesOf, groomerText, groomersFrom, sumsLine, listingOf, groomerWord, slopeWord, worthWord, sumWord, tallyWord, ceilingWord, hyphen, lineFeed}
 use Rattle.listing.specs.List.{sumsFor, listingFor, sheetListing}
-use Rattle.listing.proofs.Rounds.{apart-starts, round-is, rounds-count}
+use Rattle.rounds.proofs.Rounds.{apart-starts, round-is, rounds-count}
 use Rattle.listing.proofs.Slopes.{chosen-few}
 
 -- ---- a line: its words, and the digits of its numbers

@@ -1,9 +1,5 @@
-pub mod Pieces
-pub mod LinePieces
 pub mod NoteCases
 pub mod PartCases
-pub mod Rounds
-pub mod Sizes
 pub mod AnswerCases
 pub mod Listed
 pub mod FirstBytes

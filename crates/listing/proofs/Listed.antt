@@ -22,14 +22,14 @@ use Rattle.sheet.proofs.ReadCauses.{lent-causes-iff}
 use Rattle.sheet.proofs.Unrefused.{few-turns}
 use Rattle.choicemap.specs.Choice.{mapOf, onesIn}
 use Rattle.board.specs.Board.{boardMap}
-use Rattle.board.proofs.Written.{map-read}
+use Rattle.opening.proofs.Written.{map-read}
 use Rattle.problem.specs.Problem.{sheetTurns}
 use Rattle.problem.proofs.Posed.{sheet-count, sheet-starts, sheet-lengths, sheet-ends, sheet-groomers}
 use Rattle.planning.specs.Plan.{boardFor, plannedBoard}
 use Rattle.planning.proofs.Boards.{choice-count}
-use Rattle.listing.specs.Round.{roundOf, Round, StartsApart, shiftMinutes}
+use Rattle.rounds.specs.Round.{roundOf, Round, StartsApart, shiftMinutes}
 use Rattle.listing.specs.List.{sheetListing, listCauses, listOf, ListCause, FirstListCause}
-use Rattle.listing.proofs.Rounds.{apart-starts, round-is, rounds-ones}
+use Rattle.rounds.proofs.Rounds.{apart-starts, round-is, rounds-ones}
 
 module _ (s : List ℕ) (z : firstOf (sheetCauses s) ≡ 0) where
   abbrev T : Turns

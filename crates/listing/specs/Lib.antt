@@ -1,5 +1,3 @@
-pub mod Round
-pub mod Text
 pub mod Notes
 pub mod Ready
 pub mod List

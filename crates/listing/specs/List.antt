@@ -14,8 +14,8 @@ use Rattle.model.specs.Ceiling.{ceiling}
 use Rattle.sheet.specs.Read.{countsIn, sheetCauses}
 use Rattle.sheet.specs.Accepted.{LentCause, FirstAmong}
 use Rattle.problem.specs.Problem.{sheetTurns}
-use Rattle.listing.specs.declared.lines.Sums.{Sums}
-use Rattle.listing.specs.Text.{listingOf}
+use Rattle.lines.specs.declared.lines.Sums.{Sums}
+use Rattle.lines.specs.Text.{listingOf}
 
 -- what the planner's choice of some turns is worth, and the tally and the ceiling of the planner's steps
 unfoldable pub sumsFor : Turns → Sums

@@ -4,7 +4,7 @@ use mathlib.Core.List.{List}
 use Rattle.choicemap.specs.Choice.{choiceIn, Clean}
 use Rattle.problem.specs.declared.columns.Size.{Size}
 use Rattle.problem.specs.Columns.{turnsBy, Held}
-use Rattle.listing.specs.Round.{StartsApart}
+use Rattle.rounds.specs.Round.{StartsApart}
 
 -- columns that hold a problem, and a map as a board holds it, which chooses no two turns of a groomer with one start
 pub record Ready (p : Size) (cols map : List ℕ) : Type 0 where

@@ -1,5 +1,4 @@
 // The drivers' listing: what each groomer drives, as text.
-mod lines;
 mod notes;
 mod parts;
 
@@ -10,7 +9,7 @@ ghost use Rattle.wire.specs.Number.{puts};
 ghost use Rattle.problem.specs.Columns.{columnPlaces, turnsBy, Held};
 ghost use Rattle.choicemap.specs.Choice.{choiceIn};
 ghost use Rattle.planning.specs.Plan.{boardFor};
-ghost use Rattle.listing.specs.Text.{listingOf, refusedLine};
+ghost use Rattle.lines.specs.Text.{listingOf, refusedLine};
 ghost use Rattle.listing.specs.Ready.{Ready};
 ghost use Rattle.listing.specs.Limits.{listingBytes};
 ghost use Rattle.listing.specs.List.{sumsFor, listingFor, listOf};
@@ -72,7 +71,7 @@ fn sums_of(p: Size, cols: &[u16; PLACES], b: &[u8]) -> Sums
     requires { ⌜ Held p (now cols) × (now b ≡ boardFor (turnsBy p (now cols))) ⌝ }
     ensures { λ r. ⌜ r ≡ sumsFor (turnsBy p (now (cols .entry))) ⌝ }
 {
-    let steps = board::steps(b);
+    let steps = opening::steps(b);
     let m = board::step_count(b);
     Sums {
         worth: board::worth(b),
@@ -87,7 +86,7 @@ fn list_board(p: Size, cols: &[u16; PLACES], groomers: u16, b: &[u8], out: &mut 
     ensures { λ r. ⌜ listed r (now (out .exit)) ≡ textAnswer (listingFor groomers (turnsBy p (now (cols .entry)))) (now (out .entry)) ⌝ }
 {
     let sums = sums_of(p, cols, b);
-    list_map(p, cols, groomers, board::map(b), sums, &mut *out)
+    list_map(p, cols, groomers, opening::map(b), sums, &mut *out)
 }
 
 // The listing of a problem: its board is planned into a place of its own, with room for what planning
@@ -113,7 +112,7 @@ pub fn list(s: &[u8], out: &mut [u8]) -> ListAnswer
 {
     let mut cols = [0u16; PLACES];
     let mut room = [0u16; PLACES];
-    let r = problem::load(s, &mut cols, &mut room);
+    let r = problem::load_with(s, &mut cols, &mut room);
     let fault = r.refusal;
     if fault != 0 {
         return refused(fault);

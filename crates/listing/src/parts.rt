@@ -7,12 +7,12 @@ ghost use Rattle.text.specs.Place.{lastPlace};
 ghost use Rattle.problem.specs.Columns.{turnsBy, Held};
 ghost use Rattle.choicemap.specs.Choice.{choiceIn};
 ghost use Rattle.listing.specs.Ready.{Ready};
-ghost use Rattle.listing.specs.Text.{groomerText, groomersFrom, listingOf};
-use super::lines::Sums;
-use super::lines::put_heading;
-use super::lines::put_sums;
+ghost use Rattle.lines.specs.Text.{groomerText, groomersFrom, listingOf};
 use super::notes::note_round;
 use super::notes::put_notes;
+use lines::Sums;
+use lines::put_heading;
+use lines::put_sums;
 use problem::PLACES;
 use problem::Size;
 

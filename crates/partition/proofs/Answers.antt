@@ -22,9 +22,9 @@ use Rattle.problem.specs.Problem.{sheetTurns}
 use Rattle.problem.specs.Load.{shiftSize, Posed}
 use Rattle.problem.proofs.Posed.{sheet-count}
 use Rattle.partition.specs.declared.PartitionAnswer.{PartitionAnswer}
-use Rattle.partition.specs.Numbering.{numbersOf, usedOf}
+use Rattle.numbering.specs.Numbering.{numbersOf, usedOf}
 use Rattle.partition.specs.Partition.{partitionCauses, partitioned, partitionRefused, partitionOf}
-use Rattle.partition.proofs.Numbers.{numbers-greedy}
+use Rattle.numbering.proofs.Numbers.{numbers-greedy}
 
 -- ---- the answer for any causes
 

@@ -1,11 +1,5 @@
-pub mod Smallest
-pub mod Counting
-pub mod Orders
-pub mod Numbers
-pub mod Fewest
 pub mod Serving
 pub mod Places
 pub mod PartitionCauses
 pub mod Answers
 pub mod Promised
-pub mod Worked

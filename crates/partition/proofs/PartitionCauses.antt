@@ -17,7 +17,7 @@ use Rattle.sheet.proofs.Accepting.{accepted-iff}
 use Rattle.sheet.proofs.Causes.{first-same}
 use Rattle.sheet.proofs.ReadCauses.{lent-causes-iff}
 use Rattle.problem.specs.Problem.{sheetTurns}
-use Rattle.partition.specs.Numbering.{numbersOf, usedOf}
+use Rattle.numbering.specs.Numbering.{numbersOf, usedOf}
 use Rattle.partition.specs.Partition.{partitionCauses, partitioned, partitionRefused, partitionOf, PartitionCause, FirstPartitionCause}
 
 pub partition-number : (s lent : List ℕ) → partitionOf s lent .answer .refusal ≡ firstOf (partitionCauses s (length lent))

@@ -11,9 +11,9 @@ use Rattle.sheet.specs.Kind.{mostTurns}
 use Rattle.problem.specs.declared.columns.Size.{Size}
 use Rattle.problem.specs.Columns.{turnsBy, Held}
 use Rattle.problem.proofs.Rows.{count-is}
-use Rattle.partition.specs.Numbering.{orderByStart, numberFor}
-use Rattle.partition.specs.Underway.{ClearBelow, NextIn, BusyUntil, Serving}
-use Rattle.partition.proofs.Orders.{order-length, order-turn}
+use Rattle.numbering.specs.Numbering.{orderByStart, numberFor}
+use Rattle.partition.specs.Serving.{ClearBelow, NextIn, BusyUntil, Serving}
+use Rattle.numbering.proofs.Orders.{order-length, order-turn}
 use Rattle.partition.proofs.Serving.{earliest-none, used-least, serving-first, serving-turn, serving-more, serving-done, serving-used, serving-few}
 
 -- ---- a list put place by place

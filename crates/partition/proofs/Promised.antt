@@ -12,10 +12,10 @@ use Rattle.sheet.specs.Read.{turnCount, sheetCauses}
 use Rattle.sheet.proofs.Readings.{sheet-numbered}
 use Rattle.problem.specs.Problem.{sheetTurns}
 use Rattle.problem.proofs.Posed.{sheet-count, sheet-lengths}
-use Rattle.partition.specs.Numbering.{numberIn, numbersOf, usedOf, Before, GreedyNumbers, PartitionPromises}
+use Rattle.numbering.specs.Numbering.{numberIn, numbersOf, usedOf, Before, GreedyNumbers, PartitionPromises}
 use Rattle.partition.specs.Partition.{partitionCauses, partitionOf}
-use Rattle.partition.proofs.Numbers.{numbers-greedy, numbers-assignment}
-use Rattle.partition.proofs.Fewest.{together-most, together-reached, fewest, used-different}
+use Rattle.numbering.proofs.Numbers.{numbers-greedy, numbers-assignment}
+use Rattle.numbering.proofs.Fewest.{together-most, together-reached, fewest, used-different}
 use Rattle.partition.proofs.PartitionCauses.{partition-number}
 use Rattle.partition.proofs.Answers.{answered}
 

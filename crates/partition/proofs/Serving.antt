@@ -18,12 +18,13 @@ use Rattle.problem.specs.declared.ways.Row.{Row}
 use Rattle.problem.specs.declared.columns.Size.{Size}
 use Rattle.problem.specs.Columns.{rowIn, turnsBy, Held}
 use Rattle.problem.proofs.Rows.{count-is, gap-is, start-at, end-at, lengths-are}
-use Rattle.partition.specs.declared.numbering.Groomers.{Groomers}
-use Rattle.partition.specs.Numbering.{numberIn, orderByStart, freeFor, numberFor, numberAll, numbersOf, greatest, usedOf}
-use Rattle.partition.specs.Underway.{Underway, NextIn, BusyUntil, NoneBefore, FirstFree, Serving}
-use Rattle.partition.proofs.Smallest.{first-is, greatest-above, greatest-to, greatest-set}
-use Rattle.partition.proofs.Orders.{order-length}
-use Rattle.partition.proofs.Numbers.{all-head, free-apart, apart-free, next-inside, next-unnumbered, underway-next, underway-first, nothing}
+use Rattle.partition.specs.declared.assigning.Groomers.{Groomers}
+use Rattle.numbering.specs.Numbering.{numberIn, orderByStart, freeFor, numberFor, numberAll, numbersOf, greatest, usedOf}
+use Rattle.numbering.specs.Underway.{Underway}
+use Rattle.partition.specs.Serving.{NextIn, BusyUntil, NoneBefore, FirstFree, Serving}
+use Rattle.numbering.proofs.Smallest.{first-is, greatest-above, greatest-to, greatest-set}
+use Rattle.numbering.proofs.Orders.{order-length}
+use Rattle.numbering.proofs.Numbers.{all-head, free-apart, apart-free, next-inside, next-unnumbered, underway-next, underway-first, nothing}
 
 -- ---- the first groomer that is free
 

@@ -1,3 +1,2 @@
-pub mod Numbering
 pub mod Partition
-pub mod Underway
+pub mod Serving

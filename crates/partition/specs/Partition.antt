@@ -10,7 +10,7 @@ use Rattle.sheet.specs.Read.{turnCount, sheetCauses, atFront}
 use Rattle.sheet.specs.Accepted.{LentCause, FirstAmong}
 use Rattle.problem.specs.Problem.{sheetTurns}
 use Rattle.partition.specs.declared.PartitionAnswer.{PartitionAnswer}
-use Rattle.partition.specs.Numbering.{numbersOf, usedOf}
+use Rattle.numbering.specs.Numbering.{numbersOf, usedOf}
 
 -- after the sheet's causes: the lent places must be as many as the turns
 unfoldable pub partitionCauses : List ℕ → ℕ → List Cause

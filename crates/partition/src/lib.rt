@@ -6,10 +6,10 @@ ghost use lib.ListN.{length};
 ghost use Rattle.turns.specs.Turn.{shiftMinutes};
 ghost use Rattle.sheet.specs.Kind.{mostTurns};
 ghost use Rattle.problem.specs.Columns.{turnsBy, Held};
-ghost use Rattle.partition.specs.Numbering.{numbersOf, usedOf};
+ghost use Rattle.numbering.specs.Numbering.{numbersOf, usedOf};
 ghost use Rattle.partition.specs.Partition.{partitioned, partitionRefused, partitionOf};
 
-mod numbering;
+mod assigning;
 mod order;
 
 pub use order::put_order;
@@ -32,8 +32,8 @@ fn number_by_order(p: Size, cols: &[u16; PLACES], order: &mut [u16], numbers: &m
         × (r ≡ usedOf (turnsBy p (now (cols .entry)))) × (r ≤ mostTurns) ⌝ }
 {
     order::put_order(p, cols, &mut *order);
-    numbering::clear(&mut *numbers);
-    numbering::number_all(p, cols, &*order, &mut *numbers)
+    assigning::clear(&mut *numbers);
+    assigning::number_all(p, cols, &*order, &mut *numbers)
 }
 
 // The same with places of its own.
@@ -61,8 +61,7 @@ pub fn assign(s: &[u8], places: &mut [u16]) -> PartitionAnswer
     ensures { λ r. ⌜ partitioned r (now (places .exit)) ≡ partitionOf (now (s .entry)) (now (places .entry)) ⌝ }
 {
     let mut cols = [0u16; PLACES];
-    let mut room = [0u16; PLACES];
-    let r = problem::load(s, &mut cols, &mut room);
+    let r = problem::load(s, &mut cols);
     let fault = r.refusal;
     if fault != 0 {
         return refused(fault);

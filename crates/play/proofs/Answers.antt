@@ -23,7 +23,7 @@ use Rattle.sheet.proofs.Whole.{whole-refusal, whole-accepted, whole-answer, who
 use Rattle.model.specs.Turns.{Turns}
 use Rattle.choicemap.specs.Choice.{mapBytes, choiceIn}
 use Rattle.board.specs.Board.{boardTurns, boardMap, boardChoice}
-use Rattle.board.specs.Open.{malformed}
+use Rattle.opening.specs.Open.{malformed}
 use Rattle.problem.specs.declared.columns.Size.{Size}
 use Rattle.problem.specs.Columns.{turnsBy, Held}
 use Rattle.problem.specs.Problem.{sheetTurns}

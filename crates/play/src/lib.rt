@@ -9,7 +9,7 @@ ghost use Rattle.turns.specs.Turn.{shiftMinutes};
 ghost use Rattle.sheet.specs.Kind.{mostGroomers};
 ghost use Rattle.problem.specs.Columns.{turnsBy, Held};
 ghost use Rattle.board.specs.Board.{boardTurns, boardChoice};
-ghost use Rattle.board.specs.Open.{malformed};
+ghost use Rattle.opening.specs.Open.{malformed};
 ghost use Rattle.checking.specs.Check.{boardCauses};
 ghost use Rattle.day.specs.Table.{dayTablePlaces};
 ghost use Rattle.playing.specs.Standing.{freshOf};
@@ -157,7 +157,7 @@ fn prepare_days(
         if places < groomers as usize {
             return refused(refusal::BUFFER_TOO_SMALL);
         }
-        let map = board::map(board);
+        let map = opening::map(board);
         return Prepared {
             refusal: 0,
             groomers: groomers,
@@ -195,8 +195,7 @@ fn checked<'a>(sheet: &'a [u8], board: &'a [u8], delays: &'a [u16], places: usiz
     ensures { λ r. ⌜ PreparedFor (now (sheet .entry)) (now (board .entry)) (now (delays .entry)) places r ⌝ }
 {
     let mut cols = [0u16; PLACES];
-    let mut room = [0u16; PLACES];
-    let head = problem::load(sheet, &mut cols, &mut room);
+    let head = problem::load(sheet, &mut cols);
     if head.refusal != 0 {
         return refused(head.refusal);
     }

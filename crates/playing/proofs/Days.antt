@@ -16,8 +16,8 @@ use Rattle.model.specs.Choice.{has}
 use Rattle.sorting.specs.Sorting.{AllOf, timesIn}
 use Rattle.sorting.specs.Order.{Ascending, StandsBefore}
 use Rattle.sorting.proofs.Order.{ascending-of}
-use Rattle.partition.specs.Numbering.{orderByStart}
-use Rattle.partition.proofs.Orders.{order-inside, order-rising, order-has}
+use Rattle.numbering.specs.Numbering.{orderByStart}
+use Rattle.numbering.proofs.Orders.{order-inside, order-rising, order-has}
 use Rattle.playing.specs.declared.Stint.{Stint}
 use Rattle.playing.specs.Day.{overMinutes, stintOf, stintsFrom, takes, takenOf, dayOf, works, drives, stands, doingAt, Laid, stintAt, Takes, DayIs, InStint, OverFrom, DoingIs}
 use Rattle.playing.proofs.Stints.{doing-before, doing-in, doing-over, doing-after}

@@ -13,9 +13,9 @@ use Rattle.model.specs.Turns.{Turns, PositiveLengths, same-groomer}
 use Rattle.model.specs.Choice.{has}
 use Rattle.model.specs.Rules.{Independent}
 use Rattle.sorting.specs.Sorting.{AllOf, timesIn}
-use Rattle.partition.specs.Numbering.{orderByStart, Before}
+use Rattle.numbering.specs.Numbering.{orderByStart, Before}
 use Rattle.sorting.specs.Order.{Ascending}
-use Rattle.partition.proofs.Orders.{order-inside, order-rising, order-has}
+use Rattle.numbering.proofs.Orders.{order-inside, order-rising, order-has}
 use Rattle.playing.specs.declared.Stint.{Stint}
 use Rattle.playing.specs.Day.{overMinutes, stintOf, stintsFrom, takes, takenOf, dayOf, Doing, works, drives, stands, doingAt, NoEarlier, OnTime}
 use Rattle.playing.proofs.Stints.{doing-before, doing-in, doing-over, doing-after}

@@ -8,7 +8,7 @@ use native.Mathlib.Decide.{decLt}
 use native.Mathlib.Nat.{le-max-right}
 use borrow.Author.Tests.{lt-ltb, le-ltb}
 use Rattle.model.specs.Turns.{Turns}
-use Rattle.partition.specs.Numbering.{orderByStart}
+use Rattle.numbering.specs.Numbering.{orderByStart}
 use Rattle.sorting.specs.Order.{howMany}
 use Rattle.playing.specs.declared.Stint.{Stint}
 use Rattle.playing.specs.Day.{overMinutes, stintOf, stintsFrom, takenOf, dayOf, Doing, works, drives, stands, doingAt, isDrive, Laid}

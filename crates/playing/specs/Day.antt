@@ -10,7 +10,7 @@ use Rattle.lists.specs.Lists.{every}
 use Rattle.model.specs.Turns.{Turns}
 use Rattle.model.specs.Choice.{has}
 use Rattle.problem.specs.Problem.{shiftGap}
-use Rattle.partition.specs.Numbering.{orderByStart, Before}
+use Rattle.numbering.specs.Numbering.{orderByStart, Before}
 use Rattle.playing.specs.declared.Stint.{Stint}
 
 -- driving over takes the free minutes that a groomer needs between two turns

@@ -13,6 +13,7 @@ pub use columns::starts;
 pub use posing::SHIFT_GAP;
 pub use posing::load;
 pub use posing::load_as;
+pub use posing::load_with;
 pub use posing::shift_size;
 pub use ways::Row;
 pub use ways::Ways;

@@ -70,7 +70,7 @@ pub fn load_as(
     ensures { λ r. ⌜ (r ≡ answerFor kind (now (s .entry))) × (r .refusal ≡ 0 → (gap : ℕ) → PosedFor gap (now (s .entry)) (now (cols .exit))) ⌝ }
     ensures { λ _. ⌜ length (now (room .exit)) ≡ columnPlaces ⌝ }
 {
-    let r = sheet::read_table_of(kind, s, &mut *room);
+    let r = reader::read_table_of(kind, s, &mut *room);
     if r.refusal != 0 {
         return r;
     }
@@ -79,10 +79,19 @@ pub fn load_as(
 }
 
 // The garage's sheet, likewise.
-pub fn load(s: &[u8], cols: &mut [u16; PLACES], room: &mut [u16; PLACES]) -> ReadAnswer
+pub fn load_with(s: &[u8], cols: &mut [u16; PLACES], room: &mut [u16; PLACES]) -> ReadAnswer
     requires { ⌜ (length (now cols) ≡ columnPlaces) × (length (now room) ≡ columnPlaces) ⌝ }
     ensures { λ r. ⌜ (r ≡ answerOf (now (s .entry))) × (r .refusal ≡ 0 → Posed (now (s .entry)) (now (cols .exit))) ⌝ }
     ensures { λ _. ⌜ length (now (room .exit)) ≡ columnPlaces ⌝ }
 {
-    load_as(sheet::garage(), s, &mut *cols, &mut *room)
+    load_as(reader::garage(), s, &mut *cols, &mut *room)
+}
+
+// The garage's sheet, for those who have no room to lend.
+pub fn load(s: &[u8], cols: &mut [u16; PLACES]) -> ReadAnswer
+    requires { ⌜ length (now cols) ≡ columnPlaces ⌝ }
+    ensures { λ r. ⌜ (r ≡ answerOf (now (s .entry))) × (r .refusal ≡ 0 → Posed (now (s .entry)) (now (cols .exit))) ⌝ }
+{
+    let mut room = [0u16; PLACES];
+    load_with(s, &mut *cols, &mut room)
 }

@@ -1,4 +1,3 @@
 pub mod Remaining
 pub mod Removing
 pub mod Picks
-pub mod Planning

@@ -14,7 +14,7 @@ const SCREEN_TURNS: u16 = 96;
 fn lift_desk() -> Kind
     ensures { λ r. ⌜ r ≡ liftDesk ⌝ }
 {
-    let garage = sheet::garage();
+    let garage = reader::garage();
     let mark = garage.mark;
     let most = garage.most;
     let maps = garage.maps;
@@ -40,5 +40,5 @@ fn lift_desk() -> Kind
 pub fn read_short(s: &[u8], table: &mut [u16]) -> ReadAnswer
     ensures { λ r. ⌜ outcome r (now (table .exit)) ≡ readShortOf (now (s .entry)) (now (table .entry)) ⌝ }
 {
-    sheet::read_as(lift_desk(), s, &mut *table)
+    reader::read_as(lift_desk(), s, &mut *table)
 }

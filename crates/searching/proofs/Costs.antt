@@ -10,7 +10,7 @@ use borrow.Author.Tests.{le-leb, lt-leb}
 use Rattle.lists.specs.Lists.{sum}
 use Rattle.model.specs.Turns.{Turns}
 use Rattle.model.specs.Choice.{fits}
-use Rattle.searching.specs.Sets.{setsFrom, oneMore, costsFrom, paidFor}
+use Rattle.searching.specs.Sets.{setsFrom, oneMore, visitCosts, paidFor}
 use Rattle.searching.proofs.Searches.{visitsFrom, visits-none, visits-with, visits-without, sets-with, sets-without}
 
 -- ---- lists of visits
@@ -97,57 +97,57 @@ paid-all v (A ∷ As) l = paid-on v A As (omega arith) ∙ ap suc (paid-all (v -
 
 module _ (T : Turns) where
   module _ (left t : ℕ) (S : List Bool) where
-    pub costs-with : fits T S t ≡ true → costsFrom T (suc left) t S ≡ oneMore (costsFrom T left (suc t) (set S t true) ++ costsFrom T left (suc t) S)
-    unfolding costsFrom
+    pub costs-with : fits T S t ≡ true → visitCosts T (suc left) t S ≡ oneMore (visitCosts T left (suc t) (set S t true) ++ visitCosts T left (suc t) S)
+    unfolding visitCosts
     costs-with f = rw f
 
-    pub costs-without : fits T S t ≡ false → costsFrom T (suc left) t S ≡ oneMore (costsFrom T left (suc t) S)
-    unfolding costsFrom
+    pub costs-without : fits T S t ≡ false → visitCosts T (suc left) t S ≡ oneMore (visitCosts T left (suc t) S)
+    unfolding visitCosts
     costs-without f = rw f
 
-  pub costs-last : (t : ℕ) (S : List Bool) → costsFrom T 0 t S ≡ 0 ∷ []
-  unfolding costsFrom
+  pub costs-last : (t : ℕ) (S : List Bool) → visitCosts T 0 t S ≡ 0 ∷ []
+  unfolding visitCosts
   costs-last t S = refl
 
-  one-length : (t : ℕ) (S : List Bool) → length (costsFrom T 0 t S) ≡ length (setsFrom T 0 t S)
-  unfolding costsFrom setsFrom
+  one-length : (t : ℕ) (S : List Bool) → length (visitCosts T 0 t S) ≡ length (setsFrom T 0 t S)
+  unfolding visitCosts setsFrom
   one-length t S = refl
 
   -- one number for each set
-  pub costs-length : (left t : ℕ) (S : List Bool) → length (costsFrom T left t S) ≡ length (setsFrom T left t S)
+  pub costs-length : (left t : ℕ) (S : List Bool) → length (visitCosts T left t S) ≡ length (setsFrom T left t S)
   costs-length zero t S = one-length t S
   costs-length (suc left) t S = go (fits T S t) refl (costs-length left (suc t) (set S t true)) (costs-length left (suc t) S)
     where
-      go : (b : Bool) → fits T S t ≡ b → length (costsFrom T left (suc t) (set S t true)) ≡ length (setsFrom T left (suc t) (set S t true))
-          → length (costsFrom T left (suc t) S) ≡ length (setsFrom T left (suc t) S) → length (costsFrom T (suc left) t S) ≡ length (setsFrom T (suc left) t S)
+      go : (b : Bool) → fits T S t ≡ b → length (visitCosts T left (suc t) (set S t true)) ≡ length (setsFrom T left (suc t) (set S t true))
+          → length (visitCosts T left (suc t) S) ≡ length (setsFrom T left (suc t) S) → length (visitCosts T (suc left) t S) ≡ length (setsFrom T (suc left) t S)
       go true f p q =
-          let a = more-length (costsFrom T left (suc t) (set S t true) ++ costsFrom T left (suc t) S) in
-          let b = length-append (costsFrom T left (suc t) (set S t true)) (costsFrom T left (suc t) S) in
+          let a = more-length (visitCosts T left (suc t) (set S t true) ++ visitCosts T left (suc t) S) in
+          let b = length-append (visitCosts T left (suc t) (set S t true)) (visitCosts T left (suc t) S) in
           let c = length-append (setsFrom T left (suc t) (set S t true)) (setsFrom T left (suc t) S) in
           rw (costs-with left t S f, sets-with T left t S f) (omega (arith, a, b, c))
-      go false f p q = let a = more-length (costsFrom T left (suc t) S) in rw (costs-without left t S f, sets-without T left t S f) (omega (arith, a))
+      go false f p q = let a = more-length (visitCosts T left (suc t) S) in rw (costs-without left t S f, sets-without T left t S f) (omega (arith, a))
 
-  costs-some : (left t : ℕ) (S : List Bool) → 1 ≤ length (costsFrom T left t S)
+  costs-some : (left t : ℕ) (S : List Bool) → 1 ≤ length (visitCosts T left t S)
   costs-some zero t S = omega (arith, ap length (costs-last t S))
   costs-some (suc left) t S = go (fits T S t) refl (costs-some left (suc t) S)
     where
-      go : (b : Bool) → fits T S t ≡ b → 1 ≤ length (costsFrom T left (suc t) S) → 1 ≤ length (costsFrom T (suc left) t S)
+      go : (b : Bool) → fits T S t ≡ b → 1 ≤ length (visitCosts T left (suc t) S) → 1 ≤ length (visitCosts T (suc left) t S)
       go true f h =
-          let a = more-length (costsFrom T left (suc t) (set S t true) ++ costsFrom T left (suc t) S) in
-          let b = length-append (costsFrom T left (suc t) (set S t true)) (costsFrom T left (suc t) S) in
+          let a = more-length (visitCosts T left (suc t) (set S t true) ++ visitCosts T left (suc t) S) in
+          let b = length-append (visitCosts T left (suc t) (set S t true)) (visitCosts T left (suc t) S) in
           rw (costs-with left t S f) (omega (arith, a, b))
-      go false f h = let a = more-length (costsFrom T left (suc t) S) in rw (costs-without left t S f) (omega (arith, a))
+      go false f h = let a = more-length (visitCosts T left (suc t) S) in rw (costs-without left t S f) (omega (arith, a))
 
   -- together those of the whole search
-  pub costs-total : (left t : ℕ) (S : List Bool) → total (costsFrom T left t S) ≡ visitsFrom T left t S
+  pub costs-total : (left t : ℕ) (S : List Bool) → total (visitCosts T left t S) ≡ visitsFrom T left t S
   costs-total zero t S = ap total (costs-last t S) ∙ sym (visits-none T t S)
   costs-total (suc left) t S = go (fits T S t) refl (costs-total left (suc t) (set S t true)) (costs-total left (suc t) S)
     where
-      go : (b : Bool) → fits T S t ≡ b → total (costsFrom T left (suc t) (set S t true)) ≡ visitsFrom T left (suc t) (set S t true)
-          → total (costsFrom T left (suc t) S) ≡ visitsFrom T left (suc t) S → total (costsFrom T (suc left) t S) ≡ visitsFrom T (suc left) t S
+      go : (b : Bool) → fits T S t ≡ b → total (visitCosts T left (suc t) (set S t true)) ≡ visitsFrom T left (suc t) (set S t true)
+          → total (visitCosts T left (suc t) S) ≡ visitsFrom T left (suc t) S → total (visitCosts T (suc left) t S) ≡ visitsFrom T (suc left) t S
       go true f p q =
-          let a = total-append (costsFrom T left (suc t) (set S t true)) (costsFrom T left (suc t) S) in
-          let b = length-append (costsFrom T left (suc t) (set S t true)) (costsFrom T left (suc t) S) in
-          let c = more-total (costsFrom T left (suc t) (set S t true) ++ costsFrom T left (suc t) S) (omega (arith, b, costs-some left (suc t) S)) in
+          let a = total-append (visitCosts T left (suc t) (set S t true)) (visitCosts T left (suc t) S) in
+          let b = length-append (visitCosts T left (suc t) (set S t true)) (visitCosts T left (suc t) S) in
+          let c = more-total (visitCosts T left (suc t) (set S t true) ++ visitCosts T left (suc t) S) (omega (arith, b, costs-some left (suc t) S)) in
           rw (costs-with left t S f) (omega (arith, a, c, visits-with T left t S f))
-      go false f p q = let c = more-total (costsFrom T left (suc t) S) (costs-some left (suc t) S) in rw (costs-without left t S f) (omega (arith, c, visits-without T left t S f))
+      go false f p q = let c = more-total (visitCosts T left (suc t) S) (costs-some left (suc t) S) in rw (costs-without left t S f) (omega (arith, c, visits-without T left t S f))

@@ -16,7 +16,7 @@ use Rattle.model.proofs.Filled.{NoConflict, put-apart}
 use Rattle.model.proofs.Minutes
 use Rattle.model.proofs.Readings.{apart-reads}
 use Rattle.searching.specs.Search.{Progress, worthOfChoice, compared, visited, cutShort, searchFrom, noneTaken, fromPlan, searchAll}
-use Rattle.searching.specs.Sets.{setsFrom, setsOf, oneMore, costsFrom, paidFor, setsWithin, comparedAll, ListedSet, here, there, SetOf, ComesBefore, SetsInOrder, empty, leads, Compares}
+use Rattle.searching.specs.Sets.{setsFrom, setsOf, oneMore, visitCosts, paidFor, setsWithin, comparedAll, ListedSet, here, there, SetOf, ComesBefore, SetsInOrder, empty, leads, Compares}
 use Rattle.searching.proofs.Promised.{whole-visits}
 use Rattle.searching.proofs.Costs.{total, paid-none, paid-more, paid-few, paid-past, paid-within, paid-all, costs-with, costs-without, costs-last, costs-length, costs-total}
 use Rattle.searching.proofs.Searches.{compared-cases, sets-with, sets-without, visitsFrom, visits-none, search-visits, search-none, search-ind, Begins, begins-fits, begins-with, begins-without}
@@ -231,10 +231,10 @@ module _ (T : Turns) where
   abbrev Reaches : List ℕ → List (List Bool) → Progress → Progress → Type 0
   Reaches cs Ss x y = SameBest y (comparedAll T (take (paidFor (x .visits) cs) Ss) x)
 
-  reaches-one : (t : ℕ) (S : List Bool) (x : Progress) → Reaches (costsFrom T 0 t S) (setsFrom T 0 t S) x (compared T S x)
+  reaches-one : (t : ℕ) (S : List Bool) (x : Progress) → Reaches (visitCosts T 0 t S) (setsFrom T 0 t S) x (compared T S x)
   unfolding setsFrom comparedAll
   reaches-one t S x =
-      let e : paidFor (x .visits) (costsFrom T 0 t S) ≡ 1 = ap (paidFor (x .visits)) (costs-last T t S) ∙ paid-all (x .visits) (0 ∷ []) (omega arith) in
+      let e : paidFor (x .visits) (visitCosts T 0 t S) ≡ 1 = ap (paidFor (x .visits)) (costs-last T t S) ∙ paid-all (x .visits) (0 ∷ []) (omega arith) in
       rw e (record { worth-is = refl; best-is = refl })
 
   -- with no visit left nothing is compared
@@ -268,30 +268,30 @@ module _ (T : Turns) where
 
   -- the sets with turn t, then those without it
   module _ (left t : ℕ) (S : List Bool) (x : Progress)
-      (ih : (y : Progress) → Reaches (costsFrom T left (suc t) (set S t true)) (setsFrom T left (suc t) (set S t true)) y (searchFrom T left (suc t) (set S t true) y))
-      (jh : (y : Progress) → Reaches (costsFrom T left (suc t) S) (setsFrom T left (suc t) S) y (searchFrom T left (suc t) S y)) where
+      (ih : (y : Progress) → Reaches (visitCosts T left (suc t) (set S t true)) (setsFrom T left (suc t) (set S t true)) y (searchFrom T left (suc t) (set S t true) y))
+      (jh : (y : Progress) → Reaches (visitCosts T left (suc t) S) (setsFrom T left (suc t) S) y (searchFrom T left (suc t) S y)) where
     reaches-with : Dec (x .visits < visitsFrom T left (suc t) (set S t true))
-        → Reaches (costsFrom T left (suc t) (set S t true) ++ costsFrom T left (suc t) S) (setsFrom T left (suc t) (set S t true) ++ setsFrom T left (suc t) S) x
+        → Reaches (visitCosts T left (suc t) (set S t true) ++ visitCosts T left (suc t) S) (setsFrom T left (suc t) (set S t true) ++ setsFrom T left (suc t) S) x
         (searchFrom T left (suc t) S (searchFrom T left (suc t) (set S t true) x))
     reaches-with (yes l) =
-        reaches-first (costsFrom T left (suc t) (set S t true)) (costsFrom T left (suc t) S) (setsFrom T left (suc t) (set S t true)) (setsFrom T left (suc t) S)
+        reaches-first (visitCosts T left (suc t) (set S t true)) (visitCosts T left (suc t) S) (setsFrom T left (suc t) (set S t true)) (setsFrom T left (suc t) S)
         (costs-length T left (suc t) (set S t true)) x (searchFrom T left (suc t) (set S t true) x) _ (ih x) (omega (arith, costs-total T left (suc t) (set S t true)))
         (spent left (suc t) S (searchFrom T left (suc t) (set S t true) x) (some-left left (suc t) (set S t true) (omega arith)) (omega (arith, search-visits T left (suc t) (set S t true) x)))
     reaches-with (no l) =
-        reaches-both (costsFrom T left (suc t) (set S t true)) (costsFrom T left (suc t) S) (setsFrom T left (suc t) (set S t true)) (setsFrom T left (suc t) S)
+        reaches-both (visitCosts T left (suc t) (set S t true)) (visitCosts T left (suc t) S) (setsFrom T left (suc t) (set S t true)) (setsFrom T left (suc t) S)
         (costs-length T left (suc t) (set S t true)) x (searchFrom T left (suc t) (set S t true) x) _ (ih x) (omega (arith, costs-total T left (suc t) (set S t true)))
         (omega (arith, search-visits T left (suc t) (set S t true) x, costs-total T left (suc t) (set S t true))) (jh (searchFrom T left (suc t) (set S t true) x))
 
-  none-costs : (left t : ℕ) (S : List Bool) (x : Progress) → x .visits ≡ 0 → Reaches (costsFrom T (suc left) t S) (setsFrom T (suc left) t S) x (cutShort x)
+  none-costs : (left t : ℕ) (S : List Bool) (x : Progress) → x .visits ≡ 0 → Reaches (visitCosts T (suc left) t S) (setsFrom T (suc left) t S) x (cutShort x)
   none-costs left t S x z = go (fits T S t) refl
     where
-      go : (b : Bool) → fits T S t ≡ b → Reaches (costsFrom T (suc left) t S) (setsFrom T (suc left) t S) x (cutShort x)
+      go : (b : Bool) → fits T S t ≡ b → Reaches (visitCosts T (suc left) t S) (setsFrom T (suc left) t S) x (cutShort x)
       go true f = rw (costs-with T left t S f) (reaches-none _ (setsFrom T (suc left) t S) x (cutShort x) z (record { worth-is = refl; best-is = refl }))
       go false f = rw (costs-without T left t S f) (reaches-none _ (setsFrom T (suc left) t S) x (cutShort x) z (record { worth-is = refl; best-is = refl }))
 
-  search-reaches : (left t : ℕ) (S : List Bool) (x : Progress) → Reaches (costsFrom T left t S) (setsFrom T left t S) x (searchFrom T left t S x)
+  search-reaches : (left t : ℕ) (S : List Bool) (x : Progress) → Reaches (visitCosts T left t S) (setsFrom T left t S) x (searchFrom T left t S x)
   search-reaches =
-      search-ind T (λ left t S x y. Reaches (costsFrom T left t S) (setsFrom T left t S) x y)
+      search-ind T (λ left t S x y. Reaches (visitCosts T left t S) (setsFrom T left t S) x y)
       reaches-one
       none-costs
       (λ left t S x z f ih jh.
@@ -306,8 +306,8 @@ module _ (T : Turns) where
       let size = costs-length T (T .count) 0 (noneTaken T) in
       let cost = costs-total T (T .count) 0 (noneTaken T) ∙ whole-visits T in
       record {
-        all = λ l. take-all (paidFor limit (costsFrom T (T .count) 0 (noneTaken T))) (setsFrom T (T .count) 0 (noneTaken T))
-            (omega (arith, size, paid-all limit (costsFrom T (T .count) 0 (noneTaken T)) (omega (arith, cost))));
+        all = λ l. take-all (paidFor limit (visitCosts T (T .count) 0 (noneTaken T))) (setsFrom T (T .count) 0 (noneTaken T))
+            (omega (arith, size, paid-all limit (visitCosts T (T .count) 0 (noneTaken T)) (omega (arith, cost))));
         worth-is = r .worth-is;
         best-is = r .best-is;
         costs = size;

@@ -1,6 +1,4 @@
 // A kind of sheet: what may differ between sheets that are read alike.
-ghost use mathlib.Core.Path.{_≡_};
-ghost use Rattle.sheet.specs.Kind.{garage};
 use turns::Refusals;
 
 // A map with every field of a turn but the driver, which is then none, and a map with every field.
@@ -11,7 +9,7 @@ pub const FULL_MAP: u8 = 63;
 // The most groomers and slopes of the garage's sheet.
 pub const MOST_GROOMERS: u16 = 16;
 
-const MOST_SLOPES: u16 = 120;
+pub const MOST_SLOPES: u16 = 120;
 
 // The most turns that a sheet of any kind may have, and the places that a table needs for them.
 pub const MOST_TURNS: u16 = 400;
@@ -38,28 +36,4 @@ pub struct Kind {
     pub most: Most,
     pub maps: Maps,
     pub refusals: Refusals,
-}
-
-// The garage's sheet.
-pub fn garage() -> Kind
-    ensures { λ r. ⌜ r ≡ garage ⌝ }
-{
-    Kind {
-        mark: wire::GRM,
-        most: Most {
-            groomers: MOST_GROOMERS,
-            slopes: MOST_SLOPES,
-            turns: MOST_TURNS,
-        },
-        maps: Maps {
-            first: FIRST_MAP,
-            full: FULL_MAP,
-        },
-        refusals: Refusals {
-            counts: refusal::BAD_COUNTS,
-            turns: refusal::TOO_MANY_TURNS,
-            slope: refusal::BAD_SLOPE,
-            groomer: refusal::BAD_GROOMER,
-        },
-    }
 }

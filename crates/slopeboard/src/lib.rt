@@ -5,8 +5,8 @@ ghost use lib.ListN.{take, drop};
 ghost use Rattle.sheet.specs.Read.{readOf, outcome};
 ghost use Rattle.writing.specs.Write.{countsOf, writeOf};
 ghost use Rattle.writer.specs.Answer.{written};
-ghost use Rattle.board.specs.Open.{openOf, stepsPart};
-ghost use Rattle.board.specs.Chosen.{countOf, turnChosen};
+ghost use Rattle.opening.specs.Open.{openOf, stepsPart};
+ghost use Rattle.opening.specs.Chosen.{countOf, turnChosen};
 ghost use Rattle.checking.specs.Check.{checkOf};
 ghost use Rattle.planner.specs.Answer.{planned};
 ghost use Rattle.planning.specs.Plan.{planOf};
@@ -23,13 +23,14 @@ ghost use Rattle.archive.specs.Archive.{keepOf, restoreOf};
 ghost use Rattle.play.specs.Play.{played, playOf};
 ghost use Rattle.hall.specs.Answer.{charged};
 ghost use Rattle.hall.specs.Charge.{chargeOf};
-ghost use Rattle.slopeboard.specs.Part.{stepsPartAt};
-use board::CountAnswer;
+ghost use Rattle.opening.specs.Part.{stepsPartAt};
 use checking::CheckAnswer;
 use exact::BestAnswer;
 use hall::ChargeAnswer;
 use improve::Improved;
 use listing::ListAnswer;
+use opening::CountAnswer;
+use opening::Part;
 use partition::PartitionAnswer;
 use planner::PlanAnswer;
 use play::PlayAnswer;
@@ -37,18 +38,11 @@ use playing::Standing;
 use sheet::ReadAnswer;
 use writer::WriteAnswer;
 
-// A part of the caller's own bytes: where it starts, and its length.
-#[repr(C)]
-pub struct Part {
-    pub start: usize,
-    pub length: usize,
-}
-
 #[no_mangle]
 pub extern "C" fn slopeboard_read(sheet: &[u8], table: &mut [u16]) -> ReadAnswer
     ensures { λ r. ⌜ outcome r (now (table .exit)) ≡ readOf (now (sheet .entry)) (now (table .entry)) ⌝ }
 {
-    sheet::read(sheet, &mut *table)
+    reader::read(sheet, &mut *table)
 }
 
 #[no_mangle]
@@ -74,41 +68,30 @@ pub extern "C" fn slopeboard_write(
 pub extern "C" fn slopeboard_open(board: &[u8]) -> u8
     ensures { λ r. ⌜ r ≡ openOf (now (board .entry)) ⌝ }
 {
-    board::open(board)
+    opening::open(board)
 }
 
-// The part of the board that `board::steps` returns, by place and length.
+// The part of the board that `opening::steps` returns, by place and length.
 #[no_mangle]
 pub extern "C" fn slopeboard_steps(board: &[u8]) -> Part
     ensures { λ r. ⌜ r ≡ stepsPartAt (now (board .entry)) ⌝ }
     ensures { λ r. ⌜ take (r .length) (drop (r .start) (now (board .entry))) ≡ stepsPart (now (board .entry)) ⌝ }
 {
-    if board::open(board) != 0 {
-        return Part {
-            start: 0,
-            length: 0,
-        };
-    }
-    let part = board::steps(board);
-    let length = part.len();
-    Part {
-        start: board.len() - length,
-        length: length,
-    }
+    opening::steps_at(board)
 }
 
 #[no_mangle]
 pub extern "C" fn slopeboard_count(board: &[u8]) -> CountAnswer
     ensures { λ r. ⌜ r ≡ countOf (now (board .entry)) ⌝ }
 {
-    board::count(board)
+    opening::count(board)
 }
 
 #[no_mangle]
 pub extern "C" fn slopeboard_is_chosen(board: &[u8], turn: usize) -> bool
     ensures { λ r. ⌜ r ≡ turnChosen (now (board .entry)) turn ⌝ }
 {
-    board::chooses(board, turn)
+    opening::chooses(board, turn)
 }
 
 #[no_mangle]

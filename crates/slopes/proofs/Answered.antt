@@ -16,7 +16,7 @@ use Rattle.sheet.specs.Read.{sheetCauses}
 use Rattle.sheet.proofs.Readings.{sheet-numbered}
 use Rattle.sheet.proofs.Prefix.{prefix-refusal, prefix-same}
 use Rattle.listing.specs.declared.ListAnswer.{ListAnswer}
-use Rattle.listing.specs.Text.{refusedLine}
+use Rattle.lines.specs.Text.{refusedLine}
 use Rattle.listing.specs.Limits.{inputBytes, listingBytes}
 use Rattle.listing.specs.List.{sheetListing, listCauses, listOf}
 use Rattle.listing.specs.Answer.{listed}

@@ -5,7 +5,7 @@ use mathlib.Core.Bool.{cond}
 use lib.Dec.{eqb}
 use Rattle.refusal.specs.Cause.{firstOf}
 use Rattle.sheet.specs.Read.{sheetCauses}
-use Rattle.listing.specs.Text.{refusedLine}
+use Rattle.lines.specs.Text.{refusedLine}
 use Rattle.listing.specs.List.{sheetListing}
 
 -- the listing of a sheet, or the one line of its refusal

@@ -113,7 +113,7 @@ fn fill_turns(seed: u64, counts: Counts, n: u16, table: &mut [u16])
     let mut at: usize = 0;
     while 0 < left {
         let d = turn_after(counts, x);
-        at = sheet::put_turn(&mut *table, at, d.turn);
+        at = reader::put_turn(&mut *table, at, d.turn);
         x = d.last;
         left -= 1;
     }
@@ -145,8 +145,8 @@ fn seed_fault(seed: u64, groomers: u32, slopes: u32, turns: u32) -> u8
     if DRAW_MODULUS <= seed {
         return refusal::BAD_SEED;
     }
-    let kind = sheet::garage();
-    sheet::count_fault(kind, groomers, slopes, turns as usize)
+    let kind = reader::garage();
+    reader::count_fault(kind, groomers, slopes, turns as usize)
 }
 
 // Draws turns from any seed with any counts, and writes their sheet into any lent bytes.

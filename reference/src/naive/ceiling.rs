@@ -42,8 +42,8 @@ pub fn fewest_groups(turns: &[Turn], left: &[i64], j: usize) -> i64 {
     fewest
 }
 
-/// The sum of the steps' amounts, each counted once for each of the fewest
-/// groups that the step needs.
+/// The amounts added up, each times the least number of groups that cover
+/// what its step takes from.
 pub fn ceiling(turns: &[Turn], steps: &[(usize, i64)]) -> i64 {
     let mut left = worths(turns);
     let mut ceiling = 0;

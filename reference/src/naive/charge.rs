@@ -134,7 +134,7 @@ pub fn kind(hall: &Hall, window: usize) -> Kind {
 pub fn planned(hall: &Hall, of: Kind) -> Plan {
     let steps = all_steps(hall, of);
     let mut chosen = vec![false; hall.windows.len()];
-    // Back from the last step to the first, then all in turn order.
+    // The steps' windows, the last step's first; then every window by number.
     let back = steps.iter().rev().map(|&(j, _)| j);
     for window in back.chain(0..hall.windows.len()) {
         let mut with = chosen.clone();

@@ -70,9 +70,9 @@ fn check_steps(turns: &[Turn], steps: &[(usize, i64)]) -> Result<(), u8> {
     Ok(())
 }
 
-/// Whether a step is right: there is such a turn, it is open, the amount is
-/// what remains of it, and no open turn of its groomer or its driver has an
-/// earlier end.
+/// Whether a step is right where it stands: the sheet has its turn, something
+/// is left of that turn and the amount is all of it, and of what is open
+/// nothing of the same groomer or driver ends sooner.
 fn is_right(turns: &[Turn], left: &[i64], turn: usize, amount: i64) -> bool {
     if turn >= turns.len() || !is_open(left, turn) || amount != left[turn] {
         return false;

@@ -1,4 +1,4 @@
-use Rattle.columns.proofs.ColumnCases.{narrow-size, wide-size}
+use Rattle.columns.proofs.ColumnCases.{byte-size, wide-size}
 use Rattle.columns.proofs.ColumnCases.{field-in-cases}
 use borrow.Author.Needs.{needs}
 use Rattle.columns.proofs.size_in.Statement.{statement}
@@ -17,7 +17,7 @@ mul-result : tie.Need-mul-result
 mul-result c = search needs
 
 returns : tie.Need-returns
-returns c = narrow-size _ _ (c .if1 .taken)
+returns c = byte-size _ _ (c .if1 .taken)
 
 returns-2 : tie.Need-returns-2
 returns-2 c = wide-size _ _ (search needs) (c .if1 .left)

@@ -33,8 +33,8 @@ slice-aggregate-number-turns c = search (needs, partition-cases)
 number-turns-requires : tie.Need-number-turns-requires
 number-turns-requires c κs = (search (needs, partition-cases), search (needs, partition-cases), search (needs, partition-cases))
 
-cast-t17 : tie.Need-cast-t17
-cast-t17 c = search needs
+cast-t15 : tie.Need-cast-t15
+cast-t15 c = search needs
 
 same-length : tie.Need-same-length
 same-length c = search needs
@@ -56,6 +56,6 @@ assign-spec =
     slice-relend-prefix-number-turns
     slice-aggregate-number-turns
     number-turns-requires
-    cast-t17
+    cast-t15
     same-length
     returns-3)

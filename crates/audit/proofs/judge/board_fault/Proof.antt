@@ -1,4 +1,4 @@
-use Rattle.board.proofs.Openings.{opened-cases}
+use Rattle.opening.proofs.Openings.{opened-cases}
 use Rattle.audit.proofs.Judgements.{board-cases}
 use borrow.Author.Needs.{needs}
 use Rattle.audit.proofs.judge.board_fault.Statement.{statement}

@@ -3,8 +3,8 @@ use borrow.Author.Needs.{needs}
 use Rattle.audit.proofs.judge.check.Statement.{statement}
 use Rattle.audit.proofs.judge.check.Tie as tie
 
-load-requires : tie.Need-load-requires
-load-requires c κs = search needs
+load-with-requires : tie.Need-load-with-requires
+load-with-requires c κs = search needs
 
 refused-requires : tie.Need-refused-requires
 refused-requires c κs = search needs
@@ -37,7 +37,7 @@ pub check-spec : {M : Type 1} → statement M
 check-spec =
     tie.close
     (tie.spec
-    load-requires
+    load-with-requires
     refused-requires
     returns
     shift-size-requires

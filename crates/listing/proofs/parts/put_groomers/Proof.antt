@@ -6,7 +6,7 @@ use lib.ListN.{length}
 use Rattle.wire.specs.Number.{puts}
 use Rattle.problem.specs.Columns.{turnsBy}
 use Rattle.choicemap.specs.Choice.{choiceIn}
-use Rattle.listing.specs.Text.{groomersFrom}
+use Rattle.lines.specs.Text.{groomersFrom}
 use Rattle.listing.proofs.parts.put_groomers.Statement.{statement}
 use Rattle.listing.proofs.parts.put_groomers.Tie as tie
 

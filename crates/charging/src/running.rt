@@ -1,0 +1,108 @@
+// The steps of one kind: the wide windows' are a shift's of one groomer, the small windows' take by their
+// draws. The pick is the same, over the list of those that remain.
+ghost use mathlib.Core.Path.{_≡_};
+ghost use mathlib.Core.Bool.{true, false};
+ghost use mathlib.Core.List.{[], _∷_};
+ghost use Prim.Native.Nat.{_+_, _*_, _≤_, _<_};
+ghost use lib.ListN.{length};
+ghost use Rattle.wire.specs.Number.{puts};
+ghost use Rattle.model.specs.Steps.{isOpen, left, afterStepBy};
+ghost use Rattle.model.specs.Pick.{pick, planBy};
+ghost use Rattle.board.specs.Board.{stepSize, stepBytes};
+ghost use Rattle.problem.specs.Columns.{turnsBy, Held};
+ghost use Rattle.ratio.specs.Bounds.{Residuals};
+ghost use Rattle.remaining.specs.Remaining.{Remaining};
+ghost use Rattle.hallmodel.specs.Plan.{turnsAmong, smallTakes, smallSteps};
+ghost use Rattle.charging.specs.Among.{hallBy, ofKind, stepsBy};
+ghost use Rattle.charging.specs.Bounds.{HallHeld, OnlySmall};
+use super::among::Among;
+use super::among::put_among;
+use super::taking::take_step;
+use problem::MOST_TURNS;
+use problem::PLACES;
+
+// Step number m, on the window j that is picked: it is written, and taken.
+fn plan_step(rest: &mut [i32], a: Among, cols: &[u16; PLACES], j: usize, out: &mut [u8], m: usize)
+    requires { ⌜ (j < a .size .count) × (isOpen (now rest) j ≡ true) × HallHeld a (now cols) × (stepSize * m + stepSize ≤ length (now out)) ⌝ }
+    requires { ⌜ Residuals (a .size .count) (now rest) × OnlySmall a (now cols) (now rest) ⌝ }
+    ensures { λ _. ⌜ now (rest .exit) ≡ afterStepBy (smallTakes (hallBy a (now (cols .entry)))) (now (rest .entry))
+        (record { turn = j; amount = left (now (rest .entry)) j }) ⌝ }
+    ensures { λ _. ⌜ Residuals (a .size .count) (now (rest .exit)) × OnlySmall a (now (cols .entry)) (now (rest .exit)) ⌝ }
+    ensures { λ _. ⌜ now (out .exit) ≡ puts (now (out .entry)) (stepSize * m) (stepBytes (record { turn = j; amount = left (now (rest .entry)) j } ∷ [])) ⌝ }
+{
+    let amount = ratio::left_of(&*rest, j);
+    board::put_step(&mut *out, m, j as u16, amount);
+    take_step(&mut *rest, a, cols, j, amount);
+}
+
+// All steps of the small windows from these residuals on, at most as many as windows; returns how many. The
+// engine's rows are in a set of columns of their own.
+fn run_steps(
+    rest: &mut [i32],
+    a: Among,
+    cols: &[u16; PLACES],
+    own: &[u16; PLACES],
+    list: &mut [u16],
+    out: &mut [u8],
+) -> usize
+    requires { ⌜ (stepSize * a .size .count ≤ length (now out)) × HallHeld a (now cols) × Held (a .size) (now own) ⌝ }
+    requires { ⌜ Residuals (a .size .count) (now rest) × OnlySmall a (now cols) (now rest) ⌝ }
+    requires { ⌜ (length (now list) ≡ a .size .count) × Remaining (turnsBy (a .size) (now own)) (now rest) (now list) ⌝ }
+    ensures { λ r. ⌜ r ≡ length (planBy (turnsBy (a .size) (now (own .entry))) (afterStepBy (smallTakes (hallBy a (now (cols .entry))))) (a .size .count)
+        (now (rest .entry))) ⌝ }
+    ensures { λ _. ⌜ now (out .exit) ≡ puts (now (out .entry)) 0 (stepBytes (planBy (turnsBy (a .size) (now (own .entry)))
+        (afterStepBy (smallTakes (hallBy a (now (cols .entry))))) (a .size .count) (now (rest .entry)))) ⌝ }
+{
+    let n = a.size.count;
+    let mut k = n;
+    let mut m = 0;
+    while m < n {
+        k = remaining::remove_spent(&*rest, &mut *list, k);
+        let j = remaining::pick_turn(&*rest, a.size, own, &list[0..k]);
+        if n <= j {
+            return m;
+        }
+        plan_step(&mut *rest, a, cols, j, &mut *out, m);
+        m += 1;
+    }
+    m
+}
+
+// The small windows' steps, from their worths on.
+fn plan_small(
+    a: Among,
+    cols: &[u16; PLACES],
+    own: &[u16; PLACES],
+    out: &mut [u8],
+    spare: &mut [u16],
+) -> usize
+    requires { ⌜ (a .wide ≡ false) × (stepSize * a .size .count ≤ length (now out)) × (a .size .count ≤ length (now spare)) ⌝ }
+    requires { ⌜ HallHeld a (now cols) × Held (a .size) (now own) ⌝ }
+    requires { ⌜ turnsBy (a .size) (now own) ≡ turnsAmong (hallBy a (now cols)) (ofKind a (now cols)) ⌝ }
+    ensures { λ r. ⌜ r ≡ length (smallSteps (hallBy a (now (cols .entry)))) ⌝ }
+    ensures { λ _. ⌜ now (out .exit) ≡ puts (now (out .entry)) 0 (stepBytes (smallSteps (hallBy a (now (cols .entry))))) ⌝ }
+{
+    let n = a.size.count;
+    let mut space = [0i32; MOST_TURNS];
+    let mut numbers = [0u16; MOST_TURNS];
+    let rest = &mut space[0..n];
+    let list = &mut numbers[0..n];
+    ratio::set_initial(&mut *rest, a.size, own);
+    remaining::set_by_end(a.size, own, &mut *list, &mut *spare);
+    run_steps(&mut *rest, a, cols, own, &mut *list, &mut *out)
+}
+
+// Writes the steps of the kind that is meant; returns how many.
+pub fn plan_among(a: Among, cols: &[u16; PLACES], out: &mut [u8]) -> usize
+    requires { ⌜ (stepSize * a .size .count ≤ length (now out)) × HallHeld a (now cols) ⌝ }
+    ensures { λ r. ⌜ r ≡ length (stepsBy a (now (cols .entry))) ⌝ }
+    ensures { λ _. ⌜ now (out .exit) ≡ puts (now (out .entry)) 0 (stepBytes (stepsBy a (now (cols .entry)))) ⌝ }
+{
+    let mut own = [0u16; PLACES];
+    put_among(a, cols, &mut own);
+    let mut spare = [0u16; MOST_TURNS];
+    if a.wide {
+        return stepping::plan_steps(a.size, &own, &mut *out, &mut spare);
+    }
+    plan_small(a, cols, &own, &mut *out, &mut spare)
+}

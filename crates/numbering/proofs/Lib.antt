@@ -1,0 +1,6 @@
+pub mod Smallest
+pub mod Counting
+pub mod Orders
+pub mod Numbers
+pub mod Fewest
+pub mod Worked

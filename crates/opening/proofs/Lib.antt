@@ -1,0 +1,5 @@
+pub mod Openings
+pub mod OpenCauses
+pub mod Written
+pub mod Chosen
+pub mod Parts

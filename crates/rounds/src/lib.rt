@@ -1,0 +1,1 @@
+// A groomer's round, its chosen turns by start; no code.

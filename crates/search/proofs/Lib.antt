@@ -1,0 +1,5 @@
+pub mod WordBits
+pub mod WordCases
+pub mod SearchCases
+pub mod TableCases
+pub mod Linked
