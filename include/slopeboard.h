@@ -23,8 +23,8 @@
  * - On success, the places of a lent buffer past the last one written hold what they held before.
  * - All working space is on the caller's stack. No function calls itself but the search of slopeboard_improve,
  *   which goes one level deeper for each of at most 64 turns. In bytes, read off the compiled code:
- *   slopeboard_play 26,408, slopeboard_charge 22,976, slopeboard_list 22,032, slopeboard_improve 19,888,
- *   slopeboard_plan 18,160, slopeboard_check 16,328, slopeboard_best 13,024, slopeboard_draw 11,528,
+ *   slopeboard_play 22,408, slopeboard_charge 22,208, slopeboard_list 20,304, slopeboard_improve 19,312,
+ *   slopeboard_best 13,024, slopeboard_plan 12,608, slopeboard_check 11,528, slopeboard_draw 11,528,
  *   slopeboard_assign 10,608, slopeboard_write 6,664, slopeboard_keep 5,336, slopeboard_read and
  *   slopeboard_read_short 4,936, slopeboard_restore 4,864, each of the others fewer than 100. What memcpy and
  *   memset need comes on top.
