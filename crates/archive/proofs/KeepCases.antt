@@ -20,7 +20,7 @@ use Rattle.turns.specs.declared.Turn.{Turn}
 use Rattle.turns.specs.declared.Counts.{Counts}
 use Rattle.turns.specs.Turn.{rowNumbers, rows, turnsOfTable, tableRows, tableTurns}
 use Rattle.turns.proofs.Rows.{rows-length, turns-rows, table-turns-length}
-use Rattle.sheet.specs.declared.reader.ReadAnswer.{ReadAnswer}
+use Rattle.sheet.specs.declared.answer.ReadAnswer.{ReadAnswer}
 use Rattle.sheet.specs.declared.record.Cursor.{Cursor}
 use Rattle.sheet.specs.Kind.{garage, mostTurns}
 use Rattle.sheet.specs.Record.{widthOf, badMapFor, mapAt, endAt, cursorAfter, firstCursor, recordBytes, recordCauses}

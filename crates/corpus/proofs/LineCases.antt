@@ -11,7 +11,7 @@ use Rattle.wire.specs.Number.{valueAt}
 use Rattle.lists.specs.Lists.{tab}
 use Rattle.lists.proofs.Sums.{tab-length}
 use Rattle.refusal.specs.Written.{Written}
-use Rattle.sheet.specs.declared.reader.ReadAnswer.{ReadAnswer}
+use Rattle.sheet.specs.declared.answer.ReadAnswer.{ReadAnswer}
 use Rattle.sheet.specs.Read.{Outcome, outcome}
 use Rattle.writing.specs.Write.{countsOf, writeOf}
 use Rattle.trial.specs.Trial.{drawOf}

@@ -1,4 +1,4 @@
--- The days of all groomers as one table of numbers: for each groomer rows of three numbers, a stint each, cut off at the shift's end. For inner functions only. Assumes nothing.
+-- The days of all groomers as one table of numbers: for each groomer rows of three numbers, a stint each, cut off at the shift's end. For inner functions only (request R-13). Assumes nothing.
 use mathlib.Core.Path.{_≡_}
 use mathlib.Core.Bool.{Bool, false, cond, _&&_}
 use mathlib.Core.List.{List, [], _∷_}
@@ -114,7 +114,7 @@ besideWith chosen r u delay kept =
 
 -- ---- as statements
 
--- the delays of the first n turns are within their limit
+-- there is a delay for each of the first n turns, none above the limit
 abbrev pub DelaysFit : List ℕ → ℕ → Type 0
 DelaysFit delays n = (n ≤ length delays) × ((u : ℕ) → u < n → delayIn delays u ≤ mostDelay)
 

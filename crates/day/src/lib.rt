@@ -89,7 +89,7 @@ fn put_stint(table: &mut [u16], g: usize, j: usize, s: Stint)
 }
 
 // The stint in row j of groomer g's day.
-pub fn stint_at(table: &[u16], g: usize, j: usize) -> Stint
+pub fn stint_in(table: &[u16], g: usize, j: usize) -> Stint
     requires { ⌜ (length (now table) ≡ dayTablePlaces) × (g < mostGroomers) × (j < dayRows) ⌝ }
     ensures { λ r. ⌜ r ≡ stintIn (now (table .entry)) g j ⌝ }
 {

@@ -14,7 +14,7 @@ use Rattle.refusal.proofs.Order.{first-stops, first-goes}
 use Rattle.wire.specs.Number.{puts}
 use Rattle.wire.proofs.Puts.{puts-front, puts-length}
 use Rattle.sheet.specs.declared.kind.Kind.{Kind}
-use Rattle.sheet.specs.declared.reader.ReadAnswer.{ReadAnswer}
+use Rattle.sheet.specs.declared.answer.ReadAnswer.{ReadAnswer}
 use Rattle.sheet.specs.Kind.{mostTurns, three, Sound}
 use Rattle.sheet.specs.Read.{countsIn, turnCount, turnsOf, causesFor, answerFor}
 use Rattle.sheet.proofs.Readings.{causes-numbered}

@@ -24,7 +24,7 @@ use Rattle.model.specs.Choice.{choice}
 use Rattle.model.proofs.Planned.{planned-right, steps-few}
 use Rattle.model.proofs.Readings.{allRight-is}
 use Rattle.model.proofs.Promised.{planned-keeps}
-use Rattle.sheet.specs.declared.reader.ReadAnswer.{ReadAnswer}
+use Rattle.sheet.specs.declared.answer.ReadAnswer.{ReadAnswer}
 use Rattle.sheet.specs.Kind.{mostTurns}
 use Rattle.sheet.specs.Read.{countsIn, turnCount, sheetCauses, answerOf}
 use Rattle.sheet.proofs.Readings.{sheet-numbered}

@@ -1,17 +1,13 @@
--- Turns that get their numbers one after another, as far as it has come. For inner functions only (request R-4). Assumes nothing.
+-- The groomers as the code keeps them while turns get their numbers: until when each is busy. For inner functions only (request R-4). Assumes nothing.
 use mathlib.Core.Path.{_≡_}
-use mathlib.Core.Bool.{false}
 use mathlib.Core.List.{List}
 use Prim.Native.Nat.{ℕ, _+_, _≤_, _<_}
-use lib.Dec.{eqb}
 use lib.ListN.{length, getD, drop}
-use Rattle.model.specs.Turns.{Turns, overlap}
+use Rattle.model.specs.Turns.{Turns}
 use Rattle.sheet.specs.Kind.{mostTurns}
-use Rattle.sorting.specs.Sorting.{AllOf, timesIn}
-use Rattle.sorting.specs.Order.{Ascending}
 use Rattle.numbering.specs.Underway.{Underway}
 use Rattle.partition.specs.declared.assigning.Groomers.{Groomers}
-use Rattle.numbering.specs.Numbering.{numberIn, orderByStart, numberAll, numbersOf, greatest, Before, TakenFor}
+use Rattle.numbering.specs.Numbering.{numberIn, orderByStart, numberAll, numbersOf, greatest}
 
 -- a turn that can get its number next: it has none, no turn that has one starts later, and fewer numbers are given than there are turns
 pub record NextIn (T : Turns) (numbers : List ℕ) (t : ℕ) : Type 0 where

@@ -11,7 +11,7 @@ use Rattle.wire.specs.Number.{puts}
 use Rattle.wire.proofs.Puts.{puts-front}
 use Rattle.turns.specs.Turn.{mostWorth}
 use Rattle.model.specs.Turns.{Turns}
-use Rattle.sheet.specs.declared.reader.ReadAnswer.{ReadAnswer}
+use Rattle.sheet.specs.declared.answer.ReadAnswer.{ReadAnswer}
 use Rattle.sheet.specs.Kind.{mostTurns}
 use Rattle.sheet.specs.Read.{turnCount, sheetCauses, answerOf}
 use Rattle.sheet.proofs.Readings.{sheet-numbered}

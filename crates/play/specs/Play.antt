@@ -1,4 +1,4 @@
--- A shift played through: any bytes as a sheet, any as a board, any table of delays, and a lent list of standings. Assumes nothing.
+-- A shift played through: any bytes as a sheet, any as a board, any table of delays, and a lent list of standings (request R-13). Assumes nothing.
 use mathlib.Core.Path.{_≡_}
 use mathlib.Core.Logic.{_≢_}
 use Prim.Native.Nat.{ℕ, suc, _≤_, _<_}
@@ -62,7 +62,7 @@ playOf s b delays lent =
 
 -- ---- as statements
 
--- each turn of the sheet has a delay within the limit, and no number is over
+-- each turn of the sheet has a delay within the limit, and there are no more numbers
 pub record DelaysServe (s delays : List ℕ) : Type 0 where
   pub each : length delays ≡ turnCount s
   pub within : (u : ℕ) → u < turnCount s → delayIn delays u ≤ mostDelay

@@ -1,4 +1,4 @@
--- What a board played with delays hands back where nothing is refused. Assumes nothing.
+-- What a board played with delays hands back where nothing is refused (request R-13). Assumes nothing.
 use mathlib.Core.Path.{_≡_}
 use mathlib.Core.Bool.{true}
 use mathlib.Core.List.{List}

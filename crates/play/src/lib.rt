@@ -70,7 +70,7 @@ pub fn step(s: Standing, table: &[u16], g: usize, m: u16) -> Standing
     ensures { λ r. ⌜ r ≡ stepOf s (now (table .entry)) g m ⌝ }
 {
     let b = begun(s, m);
-    let k = day::stint_at(table, g, (b.driving / OVER_MINUTES) as usize);
+    let k = day::stint_in(table, g, (b.driving / OVER_MINUTES) as usize);
     if m < k.begin {
         return Standing {
             working: b.working,
@@ -140,7 +140,7 @@ fn delays_serve(delays: &[u16], n: usize) -> bool
     false
 }
 
-// The same for a board that passes, for a list of so many places.
+// What is prepared for a board that passes, for a list of so many places.
 fn prepare_days(
     p: Size,
     cols: &[u16; PLACES],

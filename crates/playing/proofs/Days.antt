@@ -288,3 +288,9 @@ doing-is {day = day} h m = go (place-of h m)
           drives-iff = (λ e. absurd (drives-stands (sym e ∙ d)), λ (j, k, v). drives-at h m j k v);
           stands-iff = (λ e. n, stands-at h m);
         }
+
+-- and in no minute of such a day is anything else done
+pub doing-only : {free : ℕ} {day : List Stint} → Laid free day → (m : ℕ) (d : Doing) → DoingIs day m d → d ≡ doingAt day m
+doing-only h m (works u) w = let (i, l, t, k) = w .works-iff u .0 refl in sym (works-at h m i l k ∙ ap works t)
+doing-only h m drives w = let (i, l, k) = w .drives-iff .0 refl in sym (drives-at h m i l k)
+doing-only h m stands w = sym (stands-at h m (w .stands-iff .0 refl))

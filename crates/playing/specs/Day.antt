@@ -1,4 +1,4 @@
--- A groomer's day on a board: from when to when its turns are worked where some have a delay, and what it does in each minute. Assumes nothing.
+-- A groomer's day on a board: from when to when its turns are worked where some have a delay, and what it does in each minute (request R-13). Assumes nothing.
 use mathlib.Core.Path.{_≡_}
 use mathlib.Core.Logic.{_↔_}
 use mathlib.Core.Bool.{Bool, true, false, cond, _&&_}

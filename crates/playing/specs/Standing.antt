@@ -1,4 +1,4 @@
--- A groomer's standing: how many minutes it has worked, driven over and stood, and the turn in hand. Assumes nothing.
+-- A groomer's standing: how many minutes it has worked, driven over and stood, and the turn in hand (request R-13). Assumes nothing.
 use mathlib.Core.Path.{_≡_}
 use mathlib.Core.List.{List}
 use Prim.Native.Nat.{ℕ, zero, suc, _+_, _-_}

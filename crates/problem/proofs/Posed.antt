@@ -14,7 +14,7 @@ use Rattle.lists.proofs.Bools.{up-to}
 use Rattle.turns.specs.declared.Turn.{Turn}
 use Rattle.turns.specs.Turn.{rowNumbers, turnIn, shiftMinutes, mostWorth, InRange}
 use Rattle.model.specs.Turns.{Turns, PositiveLengths}
-use Rattle.sheet.specs.declared.reader.ReadAnswer.{ReadAnswer}
+use Rattle.sheet.specs.declared.answer.ReadAnswer.{ReadAnswer}
 use Rattle.sheet.specs.declared.kind.Kind.{Kind}
 use Rattle.sheet.specs.Kind.{mostTurns, garage, Sound}
 use Rattle.sheet.specs.Read.{countsIn, turnCount, turnsOf, tableOf, causesFor, answerFor, sheetCauses}

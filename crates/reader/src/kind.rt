@@ -1,4 +1,4 @@
-// The kinds of sheet that the garage reads.
+// The garage's kind of sheet, as a value.
 ghost use mathlib.Core.Path.{_≡_};
 ghost use Rattle.sheet.specs.Kind.{garage};
 use sheet::FIRST_MAP;

@@ -16,7 +16,7 @@ use Rattle.wire.specs.Number.{puts}
 use Rattle.wire.proofs.Puts.{puts-front}
 use Rattle.turns.specs.Turn.{rowNumbers}
 use Rattle.sheet.specs.declared.kind.Kind.{Kind}
-use Rattle.sheet.specs.declared.reader.ReadAnswer.{ReadAnswer}
+use Rattle.sheet.specs.declared.answer.ReadAnswer.{ReadAnswer}
 use Rattle.sheet.specs.Kind.{mostTurns, garage, Sound}
 use Rattle.sheet.specs.Read.{turnCount, tableOf, causesFor, readCausesFor, Outcome, outcome, atFront, readRefused, readAnswer, answerFor, readFor, sheetCauses, answerOf, readOf}
 use Rattle.sheet.proofs.SoundKinds.{garage-sound, garage-given}

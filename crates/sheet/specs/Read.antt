@@ -15,7 +15,7 @@ use Rattle.sheet.specs.declared.kind.Kind.{Kind}
 use Rattle.sheet.specs.declared.record.Cursor.{Cursor}
 use Rattle.sheet.specs.declared.header.Header.{Header}
 use Rattle.sheet.specs.declared.header.Header.the-variants.{Found, Refused}
-use Rattle.sheet.specs.declared.reader.ReadAnswer.{ReadAnswer}
+use Rattle.sheet.specs.declared.answer.ReadAnswer.{ReadAnswer}
 use Rattle.sheet.specs.Kind.{garage}
 use Rattle.sheet.specs.Record.{recordCauses, turnAt, cursorAfter, firstCursor}
 

@@ -1,9 +1,10 @@
 // The sheet: kinds of sheet, and a record read from its bytes.
+mod answer;
 mod header;
 mod kind;
-mod reader;
 mod record;
 
+pub use answer::ReadAnswer;
 pub use header::HEADER_BYTES;
 pub use header::Header;
 pub use kind::FIRST_MAP;
@@ -15,7 +16,6 @@ pub use kind::MOST_TURNS;
 pub use kind::Maps;
 pub use kind::Most;
 pub use kind::TABLE_PLACES;
-pub use reader::ReadAnswer;
 pub use record::Cursor;
 pub use record::Next;
 pub use record::bad_map_for;

@@ -6,11 +6,11 @@ use Rattle.play.proofs.step.Tie as tie
 begun-requires : tie.Need-begun-requires
 begun-requires c κs = search needs
 
-cast-stint-at : tie.Need-cast-stint-at
-cast-stint-at c = search needs
+cast-stint-in : tie.Need-cast-stint-in
+cast-stint-in c = search needs
 
-stint-at-requires : tie.Need-stint-at-requires
-stint-at-requires c κs = search (needs, step-cases)
+stint-in-requires : tie.Need-stint-in-requires
+stint-in-requires c κs = search (needs, step-cases)
 
 add-t10 : tie.Need-add-t10
 add-t10 c = search (needs, step-cases)
@@ -35,8 +35,8 @@ step-spec =
     tie.close
     (tie.spec
     begun-requires
-    cast-stint-at
-    stint-at-requires
+    cast-stint-in
+    stint-in-requires
     add-t10
     returns
     add-t11

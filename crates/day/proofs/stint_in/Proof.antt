@@ -1,7 +1,7 @@
 use Rattle.day.proofs.Rows.{stint-cases}
 use borrow.Author.Needs.{needs}
-use Rattle.day.proofs.stint_at.Statement.{statement}
-use Rattle.day.proofs.stint_at.Tie as tie
+use Rattle.day.proofs.stint_in.Statement.{statement}
+use Rattle.day.proofs.stint_in.Tie as tie
 
 mul-at : tie.Need-mul-at
 mul-at c = search needs
@@ -39,8 +39,8 @@ shared-slice-read-t15 c = search needs
 returns : tie.Need-returns
 returns c = search (needs, stint-cases)
 
-pub stint-at-spec : {M : Type 1} → statement M
-stint-at-spec =
+pub stint-in-spec : {M : Type 1} → statement M
+stint-in-spec =
     tie.close
     (tie.spec
     mul-at
