@@ -24,10 +24,10 @@ use Rattle.problem.specs.Columns.{turnsBy, Held}
 use Rattle.problem.specs.Problem.{sheetTurns}
 use Rattle.problem.specs.Load.{shiftSize, Posed}
 use Rattle.checking.specs.declared.CheckAnswer.{CheckAnswer}
-use Rattle.audit.specs.declared.replay.Judgement.{Judgement}
+use Rattle.replay.specs.declared.replay.Judgement.{Judgement}
 use Rattle.checking.specs.Check.{boardCauses, checkCauses, checked, checkOf}
-use Rattle.audit.specs.Judged.{judged}
-use Rattle.audit.proofs.Faults.{judged-number, judged-limit}
+use Rattle.replay.specs.Judged.{judged}
+use Rattle.replay.proofs.Faults.{judged-number, judged-limit}
 
 -- ---- a refusal, and a pass
 

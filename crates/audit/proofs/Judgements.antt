@@ -23,10 +23,10 @@ use Rattle.problem.specs.declared.columns.Size.{Size}
 use Rattle.problem.specs.Columns.{turnsBy, Held}
 use Rattle.choices.specs.Bounds.{Lent}
 use Rattle.choices.specs.Below.{apartBelow, independentBelow, maximalBelow, chosenBelow}
-use Rattle.audit.specs.declared.replay.Judgement.{Judgement}
+use Rattle.replay.specs.declared.replay.Judgement.{Judgement}
 use Rattle.checking.specs.Check.{choiceCauses, stepCauses, ruleCauses, sumCauses, partCauses, boardCauses}
-use Rattle.audit.specs.Judged.{faultAt, judged}
-use Rattle.audit.proofs.Faults.{fault-judged, judged-number, judged-same}
+use Rattle.replay.specs.Judged.{faultAt, judged}
+use Rattle.replay.proofs.Faults.{fault-judged, judged-number, judged-same}
 
 -- ---- the choice
 

@@ -1,4 +1,2 @@
-pub mod Faults
-pub mod Replays
 pub mod Judgements
 pub mod Checks

@@ -10,15 +10,15 @@ ghost use Rattle.board.specs.Board.{boardHeader, stepSize, boardSteps, boardTal
 ghost use Rattle.problem.specs.Columns.{columnPlaces, turnsBy, Held};
 ghost use Rattle.choices.specs.Bounds.{Lent};
 ghost use Rattle.model.specs.Ceiling.{ceiling};
-ghost use Rattle.audit.specs.Judged.{judged};
+ghost use Rattle.replay.specs.Judged.{judged};
 ghost use Rattle.checking.specs.Check.{choiceCauses, ruleCauses, sumCauses, partCauses, boardCauses, checked, checkOf};
-use super::replay::Judgement;
-use super::replay::fault_at;
-use super::replay::steps_fault;
 use checking::CheckAnswer;
 use problem::MOST_TURNS;
 use problem::PLACES;
 use problem::Size;
+use replay::Judgement;
+use replay::fault_at;
+use replay::steps_fault;
 
 // The first cause that the choice gives, 0 if none. Here and below, the room is for the rows of the
 // chosen turns: nothing is said of what it holds afterwards.

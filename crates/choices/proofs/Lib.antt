@@ -1,4 +1,3 @@
 pub mod Chosen
-pub mod Fitting
 pub mod Gathering
 pub mod Unchosen

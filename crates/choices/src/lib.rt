@@ -1,10 +1,9 @@
-// A choice of turns, held in a choice map: choosing by the steps and filling, and what the rules
-// ask of a choice. It knows turns only as rows in columns.
-mod choosing;
+// A choice of turns, held in a choice map: whether a turn has room beside it, and what the rules ask
+// of it. It knows turns only as rows in columns.
 mod room;
 mod rules;
 
-pub use choosing::choose_turns;
+pub use room::has_room;
 pub use rules::chosen_worth;
 pub use rules::is_independent;
 pub use rules::is_maximal;

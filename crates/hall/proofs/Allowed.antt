@@ -17,7 +17,7 @@ use Rattle.problem.specs.declared.ways.Row.{Row}
 use Rattle.problem.specs.Ways.{turnRow}
 use Rattle.problem.specs.Columns.{rowIn}
 use Rattle.problem.proofs.Rows.{count-is, row-is}
-use Rattle.choices.proofs.Fitting.{bit-inside, room-clean, steps-next}
+use Rattle.chooser.proofs.Fitting.{bit-inside, room-clean, steps-next}
 use Rattle.hallmodel.specs.Hall.{Hall, windowCount, vehicleFree, supplyLasts, staysAllowed}
 use Rattle.hallmodel.specs.Plan.{fitsAmong, chooseAmong}
 use Rattle.charging.specs.declared.among.Among.{Among}

@@ -29,10 +29,10 @@ use Rattle.problem.specs.Columns.{turnsBy, Held}
 use Rattle.problem.specs.Problem.{sheetTurns}
 use Rattle.problem.specs.Load.{shiftSize, Posed}
 use Rattle.problem.proofs.Rows.{count-is}
-use Rattle.audit.specs.declared.replay.Judgement.{Judgement}
+use Rattle.replay.specs.declared.replay.Judgement.{Judgement}
 use Rattle.checking.specs.Check.{boardCauses, ruleCauses, choiceCauses, stepCauses, sumCauses, checkCauses}
-use Rattle.audit.specs.Judged.{judged}
-use Rattle.audit.proofs.Faults.{judged-number}
+use Rattle.replay.specs.Judged.{judged}
+use Rattle.replay.proofs.Faults.{judged-number}
 use Rattle.checking.proofs.Passing.{board-clear}
 use Rattle.playing.specs.Day.{delayIn, delaysFit, dayOf}
 use Rattle.day.specs.Table.{dayTablePlaces, DelaysFit, Days}

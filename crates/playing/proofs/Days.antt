@@ -19,7 +19,7 @@ use Rattle.sorting.proofs.Order.{ascending-of}
 use Rattle.numbering.specs.Numbering.{orderByStart}
 use Rattle.numbering.proofs.Orders.{order-inside, order-rising, order-has}
 use Rattle.playing.specs.declared.Stint.{Stint}
-use Rattle.playing.specs.Day.{overMinutes, stintOf, stintsFrom, takes, takenOf, dayOf, works, drives, stands, doingAt, Laid, stintAt, Takes, DayIs, InStint, OverFrom, DoingIs}
+use Rattle.playing.specs.Day.{Doing, overMinutes, stintOf, stintsFrom, takes, takenOf, dayOf, works, drives, stands, doingAt, Laid, stintAt, Takes, DayIs, InStint, OverFrom, DoingIs}
 use Rattle.playing.proofs.Stints.{doing-before, doing-in, doing-over, doing-after}
 use Rattle.playing.proofs.Delayed.{works-of, times-rest, all-has, taken-all, taken-has, taken-chosen, taken-groomer}
 

@@ -6,7 +6,7 @@ use Rattle.hall.specs.Supply.{Supplied}
 use mathlib.Core.Path.{_≡_}
 use Prim.Native.Nat.{_-_, _≤_}
 use borrow.Author.Needs.{needs}
-use Rattle.choices.proofs.Fitting.{fill-cases}
+use Rattle.chooser.proofs.Fitting.{fill-cases}
 use Rattle.hall.proofs.choosing.fill_up.Statement.{statement}
 use Rattle.hall.proofs.choosing.fill_up.Tie as tie
 

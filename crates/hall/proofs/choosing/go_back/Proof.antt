@@ -6,7 +6,7 @@ use Prim.Native.Nat.{_-_, _≤_}
 use native.Mathlib.Omega.{arith}
 use lib.ListN.{drop}
 use Rattle.board.specs.Board.{stepsIn}
-use Rattle.choices.proofs.Fitting.{step-of}
+use Rattle.chooser.proofs.Fitting.{step-of}
 use Rattle.hall.specs.OneKind.{backOver}
 use borrow.Author.Needs.{needs}
 use Rattle.hall.proofs.Allowed.{passed-cases}

@@ -1,0 +1,4 @@
+// Choosing by the steps: going back over them, then filling.
+mod choosing;
+
+pub use choosing::choose_turns;
