@@ -18,7 +18,7 @@ use Rattle.play.specs.Play.{dayAt, playOf}
 
 -- of an answer that refuses nothing
 pub record PlayPromised (s b delays : List ℕ) (lent : List Standing) : Type 0 where
-  -- the number of groomers comes back
+  -- the answer counts the groomers of the sheet
   pub groomers-are : playOf s b delays lent .answer .groomers ≡ countsIn s .groomers
   -- at each groomer's place the list holds its standing after the shift's last minute
   pub standings : (g : ℕ) → g < countsIn s .groomers → StandingIs (dayAt s b delays g) lastMinute (getD (playOf s b delays lent .list) g freshOf)
