@@ -215,7 +215,7 @@ fn following_turn(rng: &mut Rng, old: Row, fresh: Row) -> Row {
 
 /// A turn with some values of the old one; the fresh times come back if the
 /// mixture would end too late.
-fn mixed_turn(rng: &mut Rng, old: Row, fresh: Row) -> Row {
+pub fn mixed_turn(rng: &mut Rng, old: Row, fresh: Row) -> Row {
     let mut turn = fresh;
     for (value, old) in turn.iter_mut().zip(old) {
         if rng.percent(50) {

@@ -98,6 +98,26 @@ pub fn usual(rng: &mut Rng, windows: usize) -> Hall {
     }
 }
 
+/// The usual hall with draws of at most an eighth of the units: every step
+/// takes little, so that there are many.
+pub fn small_draws(rng: &mut Rng, windows: usize) -> Hall {
+    let mut hall = usual(rng, windows);
+    for [_, draw, ..] in &mut hall.windows {
+        *draw = rng.between(1, u32::from(MAX_UNITS) / 8) as u16;
+    }
+    hall
+}
+
+/// The same with all windows in one hour and a half, each of which holds its
+/// middle.
+pub fn all_together(rng: &mut Rng, windows: usize) -> Hall {
+    let mut hall = small_draws(rng, windows);
+    for [_, _, start, length, ..] in &mut hall.windows {
+        *start = 445 - rng.below((*length).into()) as u16;
+    }
+    hall
+}
+
 /// Up to so many windows in few minutes, for trying every set.
 pub fn small(rng: &mut Rng, most: u32) -> Hall {
     let windows = rng.between(0, most) as usize;

@@ -65,7 +65,10 @@ fn drawn_by_shape(rng: &mut Rng, shape: u32, turns: usize) -> Shift {
         3 => drawn(rng, turns, [MAX_GROOMERS, 1], [LAST_END, 1, 90], 500),
         ALL_EQUAL => all_equal(rng, turns),
         5 => one_after_the_other(rng, turns),
-        A_STEP_A_TURN => a_step_a_turn(rng, turns),
+        A_STEP_A_TURN => {
+            let slopes = (turns as u32 / 4).clamp(MAX_GROOMERS, MAX_SLOPES);
+            a_step_a_turn(rng, turns, slopes)
+        }
         EQUAL_ENDS => equal_ends(rng, turns),
         8 => drawn(rng, turns, [3, 8], [40, 1, 8], 3),
         9 => drawn(rng, turns, [2, 30], [200, 1, 60], u32::from(MAX_WORTH)),
@@ -264,11 +267,10 @@ fn one_after_the_other(rng: &mut Rng, turns: usize) -> Shift {
 /// Every groomer has the time to drive over, no slope has two turns with one
 /// end, and on each slope the worths rise with the ends: so every turn is
 /// still open when its end is the earliest.
-fn a_step_a_turn(rng: &mut Rng, turns: usize) -> Shift {
+pub fn a_step_a_turn(rng: &mut Rng, turns: usize, slopes: u32) -> Shift {
     let each = turns.max(1).div_ceil(MAX_GROOMERS as usize) as u32;
     let from_start_to_start = LAST_END / each;
     let length = from_start_to_start - DRIVE_OVER;
-    let slopes = (turns as u32 / 4).clamp(MAX_GROOMERS, MAX_SLOPES);
     let worth = rng.between(1, 1000);
     let turn = |number: u32| {
         [
@@ -286,6 +288,32 @@ fn a_step_a_turn(rng: &mut Rng, turns: usize) -> Shift {
         slopes: slopes as u8,
         turns: (0..turns as u32).map(turn).collect(),
     }
+}
+
+/// All turns on one slope, each ending after the one before and worth more:
+/// every step touches all that is open, and leaves it open.
+pub fn rising_on_one_slope(rng: &mut Rng, turns: usize) -> Shift {
+    assert!(turns <= MAX_TURNS);
+    let mut shift = drawn(rng, turns, [MAX_GROOMERS, 1], [LAST_END, 30, 90], 1);
+    let mut worth = 0;
+    for (turn, number) in shift.turns.iter_mut().zip(0..) {
+        let end = 90 + 2 * number;
+        worth += rng.between(1, 140);
+        turn[2] = end - turn[3];
+        turn[4] = worth as u16;
+    }
+    shift
+}
+
+/// The shift with half of each turn's values, at random, as in the turn before,
+/// as far as the end allows it.
+pub fn half_repeated(rng: &mut Rng, shift: &Shift) -> Shift {
+    let mut shift = shift.clone();
+    for place in 1..shift.turns.len() {
+        let old = shift.turns[place - 1];
+        shift.turns[place] = gen::mixed_turn(rng, old, shift.turns[place]);
+    }
+    shift
 }
 
 /// Few ends and many starts: what remains of the turns decides, or their

@@ -5,14 +5,21 @@
 //! SLOPEBOARD_LIB_DIR=$PWD/target/staticlib cargo run --release --manifest-path reference/bench/Cargo.toml
 //! ```
 //!
-//! The two versions are timed by turns, so that whatever slows the machine
-//! down for a while meets both. The median is of all rounds, the best is the fastest
-//! one; the ratio is library to reference by the medians, the growth is the
-//! library's median against that of half as many turns.
+//! With words behind it, only the entries so named are timed.
+//!
+//! A row goes over 64 different sheets of one kind, one call each, again and
+//! again: a single sheet called repeatedly would be learned by the branch
+//! predictor. The two versions are timed by turns, so that whatever slows the
+//! machine down for a while meets both. The best is the fastest round, the
+//! median that of all rounds; the ratio is library to reference by the
+//! medians, the growth is the library's median against that of half as many
+//! turns. A row marked * has the sheets on which the library is known to be
+//! slowest.
 //!
 //! All sheets that are random are drawn from a seed as the library draws them:
 //! lengths from 30 to 90, worths from 1 to 60,000.
 
+use std::env;
 use std::hint::black_box;
 use std::time::{Duration, Instant};
 
@@ -20,18 +27,18 @@ use slopeboard_reference::gen::{self, Rng, Shift};
 use slopeboard_reference::limits::{FIELDS, LAST_END, MAX_DELAY, MAX_GROOMERS};
 use slopeboard_reference::{fast, halls, naive, shapes};
 
-/// How many times each version is timed on a sheet.
-const ROUNDS: usize = 301;
+/// How many different sheets a row goes over.
+const SHEETS: usize = 64;
 
-/// A timed stretch has enough calls to take about so long.
-const STRETCH: Duration = Duration::from_micros(200);
+/// The rounds of a version take about so long together.
+const LASTING: Duration = Duration::from_millis(250);
 
-/// How many sheets of a size are drawn; the table has their mean.
-const SHEETS: u32 = 5;
+/// At least so many rounds, and at most.
+const ROUNDS: [usize; 2] = [15, 401];
 
 /// A turn table with its counts, a sheet with its turns in that order, the
-/// planner's board for it, its kept form, delays, a charging
-/// sheet of as many windows, and room for any answer.
+/// planner's board for it, its kept form, delays, charging sheets of as many
+/// windows, a seed, and room for any answer.
 struct Job {
     groomers: u32,
     slopes: u32,
@@ -41,6 +48,9 @@ struct Job {
     kept: Vec<u8>,
     delays: Vec<u16>,
     hall: Vec<u8>,
+    small_hall: Vec<u8>,
+    full_hall: Vec<u8>,
+    seed: u64,
     numbers: Vec<u16>,
     bytes: Vec<u8>,
     list: [slopeboard::Standing; MAX_GROOMERS as usize],
@@ -57,6 +67,11 @@ impl Job {
         fast::keep(&sheet, &mut kept).expect("the sheet is accepted");
         let hall = halls::usual(rng, shift.turns.len());
         let hall = halls::encode(rng, &hall, 0).bytes;
+        let small_hall = halls::small_draws(rng, shift.turns.len());
+        let small_hall = halls::encode(rng, &small_hall, 0).bytes;
+        let full_hall = halls::all_together(rng, shift.turns.len());
+        let full_hall = halls::encode(rng, &full_hall, 0).bytes;
+        let seed = 1 + u64::from(rng.below(2_147_483_646));
         let delay = |_| rng.between(0, MAX_DELAY.into()) as u16;
         let delays = shift.turns.iter().map(delay);
         Job {
@@ -68,6 +83,9 @@ impl Job {
             kept,
             delays: delays.collect(),
             hall,
+            small_hall,
+            full_hall,
+            seed,
             numbers: vec![0; FIELDS * shift.turns.len()],
             bytes: vec![0; slopeboard::MOST_TEXT_BYTES],
             list: Default::default(),
@@ -78,13 +96,6 @@ impl Job {
     fn steps(&self) -> usize {
         naive::steps(&self.board).len() / 4
     }
-
-    /// How many groomers it takes to do all turns.
-    fn groomers(&self) -> usize {
-        let mut places = vec![0; self.numbers.len() / FIELDS];
-        let count = fast::assign(&self.sheet, &mut places);
-        count.expect("the sheet is accepted").into()
-    }
 }
 
 /// One entry, called in both versions. A call says whether it was accepted.
@@ -94,28 +105,29 @@ struct Entry {
     reference: fn(&mut Job) -> bool,
 }
 
-const ENTRIES: [Entry; 4] = [
-    Entry {
-        name: "read",
-        library: |job| slopeboard::read(&job.sheet, &mut job.numbers).is_ok(),
-        reference: |job| fast::read(&job.sheet, &mut job.numbers).is_ok(),
-    },
-    Entry {
-        name: "plan",
-        library: |job| slopeboard::plan(&job.sheet, &mut job.bytes).is_ok(),
-        reference: |job| fast::plan(&job.sheet, &mut job.bytes).is_ok(),
-    },
-    Entry {
-        name: "check",
-        library: |job| slopeboard::check(&job.sheet, &job.board).is_ok(),
-        reference: |job| fast::check(&job.sheet, &job.board).is_ok(),
-    },
-    Entry {
-        name: "list",
-        library: |job| slopeboard::list(&job.sheet, &mut job.bytes).is_ok(),
-        reference: |job| fast::listing(&job.sheet, &mut job.bytes).is_ok(),
-    },
-];
+const READ: Entry = Entry {
+    name: "read",
+    library: |job| slopeboard::read(&job.sheet, &mut job.numbers).is_ok(),
+    reference: |job| fast::read(&job.sheet, &mut job.numbers).is_ok(),
+};
+
+const PLAN: Entry = Entry {
+    name: "plan",
+    library: |job| slopeboard::plan(&job.sheet, &mut job.bytes).is_ok(),
+    reference: |job| fast::plan(&job.sheet, &mut job.bytes).is_ok(),
+};
+
+const CHECK: Entry = Entry {
+    name: "check",
+    library: |job| slopeboard::check(&job.sheet, &job.board).is_ok(),
+    reference: |job| fast::check(&job.sheet, &job.board).is_ok(),
+};
+
+const LIST: Entry = Entry {
+    name: "list",
+    library: |job| slopeboard::list(&job.sheet, &mut job.bytes).is_ok(),
+    reference: |job| fast::listing(&job.sheet, &mut job.bytes).is_ok(),
+};
 
 /// The planner beside one that makes its steps in the same order as it does:
 /// removes what is spent, looks for the earliest end, subtracts.
@@ -157,57 +169,66 @@ const IMPROVE: Entry = Entry {
     reference: |job| fast::improve(&job.sheet, VISITS, &mut job.bytes).is_ok(),
 };
 
-/// The entry that draws sheets: from one seed, with the counts of the job.
+/// The entry that draws sheets: from a seed of the job, with its counts.
 const DRAW: Entry = Entry {
     name: "draw",
     library: |job| {
         let turns = (job.table.len() / FIELDS) as u32;
-        slopeboard::draw(1, job.groomers, job.slopes, turns, &mut job.bytes).is_ok()
+        slopeboard::draw(job.seed, job.groomers, job.slopes, turns, &mut job.bytes).is_ok()
     },
     reference: |job| {
         let turns = (job.table.len() / FIELDS) as u32;
-        fast::draw(1, job.groomers, job.slopes, turns, &mut job.bytes).is_ok()
+        fast::draw(job.seed, job.groomers, job.slopes, turns, &mut job.bytes).is_ok()
     },
 };
 
-/// The entries that go by the bytes of a sheet alone.
-const KEPT: [Entry; 2] = [
-    Entry {
-        name: "keep",
-        library: |job| slopeboard::keep(&job.sheet, &mut job.bytes).is_ok(),
-        reference: |job| fast::keep(&job.sheet, &mut job.bytes).is_ok(),
-    },
-    Entry {
-        name: "restore",
-        library: |job| slopeboard::restore(&job.kept, &mut job.bytes).is_ok(),
-        reference: |job| fast::restore(&job.kept, &mut job.bytes).is_ok(),
-    },
-];
+const KEEP: Entry = Entry {
+    name: "keep",
+    library: |job| slopeboard::keep(&job.sheet, &mut job.bytes).is_ok(),
+    reference: |job| fast::keep(&job.sheet, &mut job.bytes).is_ok(),
+};
 
-/// Playing a board, beside a version that goes by the turns and one that goes
-/// by the minutes as the library does.
-const PLAY: [Entry; 2] = [
-    Entry {
-        name: "play",
-        library: |job| slopeboard::play(&job.sheet, &job.board, &job.delays, &mut job.list).is_ok(),
-        reference: |job| {
-            fast::play(&job.sheet, &job.board, &job.delays, &mut job.other_list).is_ok()
-        },
+const RESTORE: Entry = Entry {
+    name: "restore",
+    library: |job| slopeboard::restore(&job.kept, &mut job.bytes).is_ok(),
+    reference: |job| fast::restore(&job.kept, &mut job.bytes).is_ok(),
+};
+
+/// Playing a board, beside a version that goes by the turns.
+const PLAY: Entry = Entry {
+    name: "play",
+    library: |job| slopeboard::play(&job.sheet, &job.board, &job.delays, &mut job.list).is_ok(),
+    reference: |job| fast::play(&job.sheet, &job.board, &job.delays, &mut job.other_list).is_ok(),
+};
+
+/// Playing a board, beside a version that goes by the minutes as the library does.
+const PLAY_BY_MINUTE: Entry = Entry {
+    name: "play o",
+    library: |job| slopeboard::play(&job.sheet, &job.board, &job.delays, &mut job.list).is_ok(),
+    reference: |job| {
+        fast::play_by_minute(&job.sheet, &job.board, &job.delays, &mut job.other_list).is_ok()
     },
-    Entry {
-        name: "play o",
-        library: |job| slopeboard::play(&job.sheet, &job.board, &job.delays, &mut job.list).is_ok(),
-        reference: |job| {
-            fast::play_by_minute(&job.sheet, &job.board, &job.delays, &mut job.other_list).is_ok()
-        },
-    },
-];
+};
 
 /// The entry for charging halls.
 const CHARGE: Entry = Entry {
     name: "charge",
     library: |job| slopeboard::charge(&job.hall, &mut job.bytes).is_ok(),
     reference: |job| fast::charge(&job.hall, &mut job.bytes).is_ok(),
+};
+
+/// The same on windows of small draws.
+const CHARGE_SMALL: Entry = Entry {
+    name: "charge s",
+    library: |job| slopeboard::charge(&job.small_hall, &mut job.bytes).is_ok(),
+    reference: |job| fast::charge(&job.small_hall, &mut job.bytes).is_ok(),
+};
+
+/// And where these all overlap.
+const CHARGE_TOGETHER: Entry = Entry {
+    name: "charge a",
+    library: |job| slopeboard::charge(&job.full_hall, &mut job.bytes).is_ok(),
+    reference: |job| fast::charge(&job.full_hall, &mut job.bytes).is_ok(),
 };
 
 /// Best and median time of one call, in nanoseconds.
@@ -225,60 +246,44 @@ impl Times {
             median: samples[samples.len() / 2],
         }
     }
-
-    fn add(&mut self, other: Times, share: f64) {
-        self.best += other.best * share;
-        self.median += other.median * share;
-    }
 }
 
-/// Time of one call, as the mean of so many, in nanoseconds.
-fn stretch(call: fn(&mut Job) -> bool, job: &mut Job, calls: u32) -> f64 {
+/// Time of one call, as the mean over all sheets, in nanoseconds.
+fn round(call: fn(&mut Job) -> bool, jobs: &mut [Job]) -> f64 {
     let start = Instant::now();
-    for _ in 0..calls {
+    for job in &mut *jobs {
         assert!(call(black_box(job)), "an accepted sheet was refused");
     }
-    start.elapsed().as_nanos() as f64 / f64::from(calls)
+    start.elapsed().as_nanos() as f64 / jobs.len() as f64
 }
 
-/// How many calls make up a stretch.
-fn calls_for(call: fn(&mut Job) -> bool, job: &mut Job) -> u32 {
-    let one = stretch(call, job, 3).max(1.0);
-    (STRETCH.as_nanos() as f64 / one).clamp(1.0, 10_000.0) as u32
+/// How many rounds there are of each version.
+fn rounds_for(versions: [fn(&mut Job) -> bool; 2], jobs: &mut [Job]) -> usize {
+    let both = versions.map(|call| round(call, jobs) * jobs.len() as f64);
+    let longer = both[0].max(both[1]).max(1.0);
+    let rounds = (LASTING.as_nanos() as f64 / longer) as usize;
+    rounds.clamp(ROUNDS[0], ROUNDS[1])
 }
 
 /// Times both versions by turns: the library's times and the reference's.
-fn measure(entry: &Entry, job: &mut Job) -> [Times; 2] {
+fn measure(entry: &Entry, jobs: &mut [Job]) -> [Times; 2] {
     let versions = [entry.library, entry.reference];
-    let calls = versions.map(|call| calls_for(call, job));
     let mut samples = [Vec::new(), Vec::new()];
-    for round in 0..ROUNDS {
+    for number in 0..rounds_for(versions, jobs) {
         for place in 0..2 {
             // Neither is always the first of a round.
-            let version = (round + place) % 2;
-            let time = stretch(versions[version], job, calls[version]);
-            samples[version].push(time);
+            let version = (number + place) % 2;
+            samples[version].push(round(versions[version], jobs));
         }
     }
     samples.map(Times::of)
-}
-
-fn measure_all(entry: &Entry, jobs: &mut [Job]) -> [Times; 2] {
-    let share = 1.0 / jobs.len() as f64;
-    let mut sum = [Times::default(); 2];
-    for job in jobs {
-        let times = measure(entry, job);
-        sum[0].add(times[0], share);
-        sum[1].add(times[1], share);
-    }
-    sum
 }
 
 fn print_row(name: &str, label: &str, [library, reference]: [Times; 2], growth: Option<f64>) {
     let micros = |time: f64| format!("{:.2}", time / 1000.0);
     let growth = growth.map_or(String::new(), |growth| format!("{growth:.2}"));
     println!(
-        "{name:8}{label:14}{:>9}{:>10}{:>12}{:>10}{:>8.2}{growth:>8}",
+        "{name:10}{label:18}{:>9}{:>10}{:>12}{:>10}{:>8.2}{growth:>8}",
         micros(library.best),
         micros(library.median),
         micros(reference.best),
@@ -327,29 +332,56 @@ fn widest_sheet(rng: &mut Rng, turns: usize) -> Shift {
     drawn(rng, turns, [16, 120])
 }
 
-/// Tables whose turns stand in one order or another.
-const ORDERS: [(&str, Kind); 4] = [
-    ("random", |rng, turns| {
-        let shift = widest_sheet(rng, turns);
-        shapes::shuffled(rng, &shift)
-    }),
-    ("falling", |rng, turns| {
-        shapes::falling(&widest_sheet(rng, turns))
-    }),
-    ("sorted", widest_sheet),
-    ("equal", |rng, turns| {
-        shapes::shift(rng, shapes::ALL_EQUAL, turns)
-    }),
-];
+/// The widest sheet with its turns in any order.
+fn widest_shuffled(rng: &mut Rng, turns: usize) -> Shift {
+    let shift = widest_sheet(rng, turns);
+    shapes::shuffled(rng, &shift)
+}
 
-/// Sheets with one turn a slope, of many groomers or few. The last has turns
-/// that are up to five hours long, so that many are in the way of one another.
-const SIMPLE: [(&str, Kind); 4] = [
-    ("k=16", |rng, turns| one_turn_a_slope(rng, turns, 16, 90)),
-    ("k=4", |rng, turns| one_turn_a_slope(rng, turns, 4, 90)),
-    ("k=1", |rng, turns| one_turn_a_slope(rng, turns, 1, 90)),
-    ("k=1 long", |rng, turns| one_turn_a_slope(rng, turns, 1, 300)),
-];
+fn widest_falling(rng: &mut Rng, turns: usize) -> Shift {
+    shapes::falling(&widest_sheet(rng, turns))
+}
+
+/// A step for each turn, on as many slopes as share no cycle with the
+/// groomers, the turns in any order: the most that planning, checking and
+/// listing have to do.
+fn most_steps(rng: &mut Rng, turns: usize) -> Shift {
+    let shift = shapes::a_step_a_turn(rng, turns, 119);
+    shapes::shuffled(rng, &shift)
+}
+
+/// All turns on one slope, the worths rising with the ends: every step touches
+/// all that is open.
+fn one_slope(rng: &mut Rng, turns: usize) -> Shift {
+    let shift = shapes::rising_on_one_slope(rng, turns);
+    shapes::shuffled(rng, &shift)
+}
+
+fn equal_turns(rng: &mut Rng, turns: usize) -> Shift {
+    shapes::shift(rng, shapes::ALL_EQUAL, turns)
+}
+
+/// Half of a record's values, at random, are those of the record before: no
+/// map can be guessed from the last.
+fn random_maps(rng: &mut Rng, turns: usize) -> Shift {
+    let shift = driven_sheet(rng, turns);
+    shapes::half_repeated(rng, &shift)
+}
+
+/// Sheets with one turn a slope, of many groomers or few.
+fn single_of_16(rng: &mut Rng, turns: usize) -> Shift {
+    one_turn_a_slope(rng, turns, 16, 90)
+}
+
+fn single_of_4(rng: &mut Rng, turns: usize) -> Shift {
+    one_turn_a_slope(rng, turns, 4, 90)
+}
+
+/// One groomer, and turns that are up to five hours long, so that many are in
+/// the way of one another.
+fn single_of_1(rng: &mut Rng, turns: usize) -> Shift {
+    one_turn_a_slope(rng, turns, 1, 300)
+}
 
 /// A shift with one turn a slope and no drivers: so many groomers, and lengths
 /// up to so many minutes.
@@ -365,12 +397,117 @@ fn one_turn_a_slope(rng: &mut Rng, turns: usize, groomers: u8, longest: u32) -> 
     shapes::simple(rng, &shift)
 }
 
-/// Sheets whose turns take few groomers or many.
-const CROWDS: [Kind; 3] = [usual_sheet, widest_sheet, |rng, turns| {
-    shapes::shift(rng, shapes::ALL_EQUAL, turns)
-}];
+/// The rows of an entry: the sheets' kind, its name in the table, and sizes.
+/// The last kind of most entries is the slowest known, marked *.
+type Rows = (
+    &'static Entry,
+    &'static [(&'static str, Kind, &'static [usize])],
+);
 
-/// Jobs for sheets of so many turns, drawn from the same kind of shift.
+const ALL_SIZES: &[usize] = &[50, 100, 200, 400];
+
+const TABLE: &[Rows] = &[
+    (
+        &READ,
+        &[
+            ("", usual_sheet, ALL_SIZES),
+            ("w", widest_sheet, &[400]),
+            ("d", driven_sheet, &[400]),
+            ("maps *", random_maps, &[400]),
+        ],
+    ),
+    (
+        &PLAN,
+        &[
+            ("", usual_sheet, ALL_SIZES),
+            ("w", widest_sheet, &[400]),
+            ("d", driven_sheet, &[400]),
+            ("slope", one_slope, &[400]),
+            ("steps *", most_steps, &[400]),
+        ],
+    ),
+    (
+        &PLAN_SAME_ORDER,
+        &[("", usual_sheet, &[400]), ("steps *", most_steps, &[400])],
+    ),
+    (
+        &CHECK,
+        &[
+            ("", usual_sheet, ALL_SIZES),
+            ("w", widest_sheet, &[400]),
+            ("d", driven_sheet, &[400]),
+            ("slope", one_slope, &[400]),
+            ("steps *", most_steps, &[400]),
+        ],
+    ),
+    (
+        &LIST,
+        &[
+            ("", usual_sheet, ALL_SIZES),
+            ("w", widest_sheet, &[400]),
+            ("d", driven_sheet, &[400]),
+            ("slope", one_slope, &[400]),
+            ("steps *", most_steps, &[400]),
+        ],
+    ),
+    (
+        &WRITE,
+        &[
+            ("sorted", widest_sheet, &[200, 400]),
+            ("falling", widest_falling, &[400]),
+            ("equal", equal_turns, &[400]),
+            ("random *", widest_shuffled, &[400]),
+        ],
+    ),
+    (&DRAW, &[("*", widest_sheet, &[200, 400])]),
+    (
+        &KEEP,
+        &[
+            ("", usual_sheet, &[200, 400]),
+            ("maps *", random_maps, &[400]),
+        ],
+    ),
+    (
+        &RESTORE,
+        &[
+            ("", usual_sheet, &[200, 400]),
+            ("maps *", random_maps, &[400]),
+        ],
+    ),
+    (
+        &ASSIGN,
+        &[
+            ("", usual_sheet, &[200, 400]),
+            ("w", widest_sheet, &[400]),
+            ("equal *", equal_turns, &[400]),
+        ],
+    ),
+    (
+        &BEST,
+        &[
+            ("k=16", single_of_16, &[60, 120]),
+            ("k=4", single_of_4, &[120]),
+            ("k=1 *", single_of_1, &[120]),
+        ],
+    ),
+    (
+        &IMPROVE,
+        &[("", usual_sheet, &[32]), ("*", usual_sheet, &[64])],
+    ),
+    (
+        &PLAY,
+        &[
+            ("", usual_sheet, &[200, 400]),
+            ("w *", widest_sheet, &[400]),
+        ],
+    ),
+    (&PLAY_BY_MINUTE, &[("w *", widest_sheet, &[400])]),
+    (&CHARGE, &[("", usual_sheet, &[200, 400])]),
+    (&CHARGE_SMALL, &[("*", usual_sheet, &[400])]),
+    (&CHARGE_TOGETHER, &[("*", usual_sheet, &[400])]),
+];
+
+/// Jobs for sheets of so many turns, all of one kind.
 fn jobs(rng: &mut Rng, kind: Kind, turns: usize) -> Vec<Job> {
     let job = |_| {
         let shift = kind(rng, turns);
@@ -379,104 +516,34 @@ fn jobs(rng: &mut Rng, kind: Kind, turns: usize) -> Vec<Job> {
     (0..SHEETS).map(job).collect()
 }
 
-/// The mean of a number, over all jobs.
-fn mean(jobs: &[Job], number: fn(&Job) -> usize) -> usize {
-    jobs.iter().map(number).sum::<usize>() / jobs.len()
-}
-
 /// The numbers of turns and steps; of the steps the mean.
-fn size(jobs: &[Job]) -> String {
-    format!(
-        "n={} m={}",
-        jobs[0].numbers.len() / FIELDS,
-        mean(jobs, Job::steps)
-    )
+fn size(jobs: &[Job], kind: &str) -> String {
+    let steps = jobs.iter().map(Job::steps).sum::<usize>() / jobs.len();
+    format!("n={} m={steps} {kind}", jobs[0].numbers.len() / FIELDS)
 }
 
 fn main() {
-    let mut rng = Rng::new(7);
-    let mut usual = [50, 100, 200, 400].map(|turns| jobs(&mut rng, usual_sheet, turns));
-    let shift = shapes::shift(&mut rng, shapes::A_STEP_A_TURN, 400);
-    let mut most_steps = [Job::new(&mut rng, &shift)];
-    assert_eq!(most_steps[0].steps(), 400);
-    let mut widest = jobs(&mut rng, widest_sheet, 400);
-    let mut driven = jobs(&mut rng, driven_sheet, 400);
-
-    println!("times of one call in microseconds; n is the number of turns, m of steps,");
-    println!("g of groomers that do all turns, k of groomers that the turns name, v of visits at most;");
-    println!("12 groomers and 80 slopes; w: 16 groomers, 120 slopes, sorted; d: with drivers");
-    println!("plan o: the reference makes its steps in the same order as the library;");
-    println!("play o: the reference goes minute by minute");
-    println!("                      library             reference");
-    println!("entry   sheet              best    median        best    median   ratio  growth");
-    for entry in ENTRIES.iter().chain([&PLAN_SAME_ORDER]) {
-        let mut before: Option<f64> = None;
-        for jobs in &mut usual {
-            let times = measure_all(entry, jobs);
-            let growth = before.map(|before| times[0].median / before);
-            print_row(entry.name, &size(jobs), times, growth);
-            before = Some(times[0].median);
-        }
-        let times = measure_all(entry, &mut most_steps);
-        print_row(entry.name, &size(&most_steps), times, None);
-        let times = measure_all(entry, &mut widest);
-        print_row(entry.name, &(size(&widest) + " w"), times, None);
-        let times = measure_all(entry, &mut driven);
-        print_row(entry.name, &(size(&driven) + " d"), times, None);
-    }
-    for (order, kind) in ORDERS {
-        let mut before: Option<f64> = None;
-        for turns in [200, 400] {
-            let times = measure_all(&WRITE, &mut jobs(&mut rng, kind, turns));
-            let growth = before.map(|before| times[0].median / before);
-            print_row(WRITE.name, &format!("n={turns} {order}"), times, growth);
-            before = Some(times[0].median);
-        }
-    }
-    for (groomers, kind) in SIMPLE {
-        let mut before: Option<f64> = None;
-        for turns in [60, 120] {
-            let mut jobs = jobs(&mut rng, kind, turns);
-            let times = measure_all(&BEST, &mut jobs);
-            let growth = before.map(|before| times[0].median / before);
-            print_row(BEST.name, &format!("n={turns} {groomers}"), times, growth);
-            before = Some(times[0].median);
-        }
-    }
-    for turns in [32, 64] {
-        let times = measure_all(&IMPROVE, &mut jobs(&mut rng, usual_sheet, turns));
-        print_row(IMPROVE.name, &format!("n={turns} v={VISITS}"), times, None);
-    }
-    let mut before: Option<f64> = None;
-    for turns in [200, 400] {
-        let times = measure_all(&DRAW, &mut jobs(&mut rng, usual_sheet, turns));
-        let growth = before.map(|before| times[0].median / before);
-        print_row(DRAW.name, &format!("n={turns}"), times, growth);
-        before = Some(times[0].median);
-    }
-    for entry in KEPT.iter().chain(&PLAY).chain([&CHARGE]) {
-        let mut before: Option<f64> = None;
-        for turns in [200, 400] {
-            let times = measure_all(entry, &mut jobs(&mut rng, usual_sheet, turns));
-            let growth = before.map(|before| times[0].median / before);
-            print_row(entry.name, &format!("n={turns}"), times, growth);
-            before = Some(times[0].median);
-        }
-    }
-    for kind in CROWDS {
-        let mut before: Option<f64> = None;
-        for turns in [200, 400] {
-            let mut jobs = jobs(&mut rng, kind, turns);
-            let groomers = mean(&jobs, Job::groomers);
-            let times = measure_all(&ASSIGN, &mut jobs);
-            let growth = before.map(|before| times[0].median / before);
-            print_row(
-                ASSIGN.name,
-                &format!("n={turns} g={groomers}"),
-                times,
-                growth,
-            );
-            before = Some(times[0].median);
+    let named: Vec<String> = env::args().skip(1).collect();
+    let wanted = |name: &str| named.is_empty() || named.iter().any(|word| word == name);
+    println!("times of one call in microseconds, over {SHEETS} sheets; n is the number of turns, m of steps;");
+    println!("12 groomers and 80 slopes; w: 16 groomers, 120 slopes, sorted; d: with drivers; k: so many groomers;");
+    println!("improve: at most {VISITS} visits; plan o: the reference makes its steps in the same order;");
+    println!("play o: the reference goes minute by minute; charge s: small draws, charge a: and all windows overlap; *: the slowest known");
+    println!("                            library             reference");
+    println!(
+        "entry     sheet                  best    median        best    median   ratio  growth"
+    );
+    for (entry, rows) in TABLE.iter().filter(|(entry, _)| wanted(entry.name)) {
+        for (name, kind, sizes) in *rows {
+            let mut rng = Rng::new(7);
+            let mut before: Option<f64> = None;
+            for turns in *sizes {
+                let mut jobs = jobs(&mut rng, *kind, *turns);
+                let times = measure(entry, &mut jobs);
+                let growth = before.map(|before| times[0].median / before);
+                print_row(entry.name, &size(&jobs, name), times, growth);
+                before = Some(times[0].median);
+            }
         }
     }
 }
