@@ -129,12 +129,11 @@ const LIST: Entry = Entry {
     reference: |job| fast::listing(&job.sheet, &mut job.bytes).is_ok(),
 };
 
-/// The planner beside one that makes its steps in the same order as it does:
-/// removes what is spent, looks for the earliest end, subtracts.
-const PLAN_SAME_ORDER: Entry = Entry {
-    name: "plan o",
+/// The planner beside one that makes no list of the open turns at each pick.
+const PLAN_FREE: Entry = Entry {
+    name: "plan f",
     library: |job| slopeboard::plan(&job.sheet, &mut job.bytes).is_ok(),
-    reference: |job| fast::plan_as_printed(&job.sheet, &mut job.bytes).is_ok(),
+    reference: |job| fast::plan_without_list(&job.sheet, &mut job.bytes).is_ok(),
 };
 
 /// The entry whose time goes by the order of the turns.
@@ -427,7 +426,7 @@ const TABLE: &[Rows] = &[
         ],
     ),
     (
-        &PLAN_SAME_ORDER,
+        &PLAN_FREE,
         &[("", usual_sheet, &[400]), ("steps *", most_steps, &[400])],
     ),
     (
@@ -527,7 +526,7 @@ fn main() {
     let wanted = |name: &str| named.is_empty() || named.iter().any(|word| word == name);
     println!("times of one call in microseconds, over {SHEETS} sheets; n is the number of turns, m of steps;");
     println!("12 groomers and 80 slopes; w: 16 groomers, 120 slopes, sorted; d: with drivers; k: so many groomers;");
-    println!("improve: at most {VISITS} visits; plan o: the reference makes its steps in the same order;");
+    println!("improve: at most {VISITS} visits; plan f: the reference makes no list at each pick;");
     println!("play o: the reference goes minute by minute; charge s: small draws, charge a: and all windows overlap; *: the slowest known");
     println!("                            library             reference");
     println!(

@@ -1,7 +1,7 @@
 //! The check of a board against its sheet.
 
 use super::board::{each_step, is_marked, view, Step};
-use super::plan::{charge_and_count, full_worths};
+use super::columns::Columns;
 use super::refusal;
 use super::sheet::{no_turns, parse};
 use super::turns::{Selection, Turn};
@@ -55,35 +55,23 @@ fn check_choice(turns: &[Turn], map: &[u8]) -> Result<u32, u8> {
 /// Follows the steps, checks each and that none is missing. Gives their tally
 /// and their ceiling.
 fn check_steps(turns: &[Turn], steps: &[u8]) -> Result<(u32, u32), u8> {
-    let mut residuals = full_worths(turns);
-    let residuals = &mut residuals[..turns.len()];
+    let mut columns = Columns::new(turns);
+    let places = columns.places();
     let (mut tally, mut ceiling) = (0, 0);
-    for step in each_step(steps) {
-        if !step_is_right(turns, residuals, step) {
+    let mut from = 0;
+    for Step { turn, amount } in each_step(steps) {
+        from = columns.first_open(from);
+        let place = places[..turns.len()].get(usize::from(turn));
+        let at = usize::from(*place.ok_or(refusal::BAD_STEP)?);
+        let left = columns.residual(at);
+        if left <= 0 || left != i32::from(amount) || columns.is_any_earlier(from, at) {
             return Err(refusal::BAD_STEP);
         }
-        let picked = &turns[usize::from(step.turn)];
-        let times = charge_and_count(turns, residuals, picked, i32::from(step.amount));
-        tally += u32::from(step.amount);
-        ceiling += times * u32::from(step.amount);
+        tally += u32::from(amount);
+        ceiling += columns.charge::<true>(from, at, left) * u32::from(amount);
     }
-    if residuals.iter().any(|&residual| residual > 0) {
+    if columns.first_open(from) < turns.len() {
         return Err(refusal::TURN_LEFT_OPEN);
     }
     Ok((tally, ceiling))
-}
-
-/// Whether the step takes all that is left of an open turn, and neither its
-/// groomer nor its driver has an open turn that ends before it.
-fn step_is_right(turns: &[Turn], residuals: &[i32], step: Step) -> bool {
-    let number = usize::from(step.turn);
-    let Some(picked) = turns.get(number) else {
-        return false;
-    };
-    let residual = residuals[number];
-    residual > 0
-        && residual == i32::from(step.amount)
-        && !turns.iter().zip(residuals).any(|(turn, &left)| {
-            (left > 0) & turn.share_groomer_or_driver(picked) & (turn.end() < picked.end())
-        })
 }

@@ -47,16 +47,6 @@ impl Turn {
         u32::from(self.start) + u32::from(self.length)
     }
 
-    /// The groups of this turn's step that the other turn is in, a bit each:
-    /// of this slope, too close on this groomer, too close with this driver.
-    pub fn groups_with(&self, other: &Turn) -> u8 {
-        let close = self.is_close(other);
-        let driver = (self.driver == other.driver) & (self.driver != 0);
-        u8::from(self.slope == other.slope)
-            | u8::from((self.groomer == other.groomer) & close) << 1
-            | u8::from(driver & close) << 2
-    }
-
     /// Whether the turns need one groomer or one driver.
     pub fn share_groomer_or_driver(&self, other: &Turn) -> bool {
         (self.groomer == other.groomer) | ((self.driver == other.driver) & (self.driver != 0))

@@ -81,10 +81,10 @@ pub fn write(groomers: u32, slopes: u32, table: &[u16], sheet: &mut [u8]) -> Res
 pub fn plan(sheet: &[u8], board: &mut [u8]) -> Result<usize, u8> {
     let before = board.to_vec();
     let answer = written(sheet, board, [naive::plan, fast::plan]);
-    // The planner in the printed order writes the same.
+    // The planner that makes no list writes the same.
     let mut other = before;
     assert_eq!(
-        fast::plan_as_printed(sheet, &mut other),
+        fast::plan_without_list(sheet, &mut other),
         answer,
         "{sheet:?}"
     );
