@@ -21,13 +21,9 @@
  *   answer is 0 (or false) and no lent buffer has changed. Where several numbers would fit,
  *   the order under each function says which is given.
  * - On success, the places of a lent buffer past the last one written hold what they held before.
- * - All working space is on the caller's stack. No function calls itself but the search of slopeboard_improve,
- *   which goes one level deeper for each of at most 64 turns. In bytes, read off the compiled code:
- *   slopeboard_play 22,408, slopeboard_charge 22,208, slopeboard_list 20,304, slopeboard_improve 19,312,
- *   slopeboard_best 13,024, slopeboard_plan 12,608, slopeboard_check 11,528, slopeboard_draw 11,528,
- *   slopeboard_assign 10,608, slopeboard_write 6,664, slopeboard_keep 5,336, slopeboard_read and
- *   slopeboard_read_short 4,936, slopeboard_restore 4,864, each of the others fewer than 100. What memcpy and
- *   memset need comes on top.
+ * - All working space is on the caller's stack: at most SLOPEBOARD_STACK_.. bytes, one number for each function
+ *   below. No function calls itself but the search of slopeboard_improve, which goes one level deeper for each of
+ *   at most 64 turns.
  *
  * In sheets and boards, a number of several bytes begins with its high byte. Turns are numbered from 0
  * in the order of the sheet, slopes and groomers from 1.
@@ -111,6 +107,28 @@ enum {
  * most 45, since worth and tally are at most 120 * 60,000 and the ceiling is at most three times that. So
  * 120 * 30 - 108 + 9 * 10 + 7 * 11 + 45. */
 #define SLOPEBOARD_MOST_TEXT_BYTES 4096
+
+/* The stack that each function needs, in bytes: read off the compiled code of this archive, with the arguments
+ * that are not in registers, and with what is written below the stack pointer, as the ABI allows. What memcpy and
+ * memset need beyond their return address comes on top. */
+#define SLOPEBOARD_STACK_ASSIGN 10736
+#define SLOPEBOARD_STACK_BEST 13152
+#define SLOPEBOARD_STACK_CHARGE 22336
+#define SLOPEBOARD_STACK_CHECK 11580
+#define SLOPEBOARD_STACK_COUNT 8
+#define SLOPEBOARD_STACK_DRAW 11648
+#define SLOPEBOARD_STACK_IMPROVE 19312
+#define SLOPEBOARD_STACK_IS_CHOSEN 8
+#define SLOPEBOARD_STACK_KEEP 5404
+#define SLOPEBOARD_STACK_LIST 20432
+#define SLOPEBOARD_STACK_OPEN 8
+#define SLOPEBOARD_STACK_PLAN 12736
+#define SLOPEBOARD_STACK_PLAY 22476
+#define SLOPEBOARD_STACK_READ 5004
+#define SLOPEBOARD_STACK_READ_SHORT 5004
+#define SLOPEBOARD_STACK_RESTORE 4872
+#define SLOPEBOARD_STACK_STEPS 16
+#define SLOPEBOARD_STACK_WRITE 6784
 
 typedef struct {
     uint8_t refusal;

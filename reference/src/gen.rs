@@ -2,12 +2,13 @@
 //! gives the same bytes.
 
 use crate::limits::{
-    DRIVE_OVER, FIELDS, LAST_END, MAX_DRIVER, MAX_GROOMERS, MAX_SLOPES, MAX_TURNS, MAX_WORTH,
+    DRIVE_OVER, LAST_END, MOST_DRIVER, MOST_GROOMERS, MOST_SLOPES, MOST_TURNS, MOST_WORTH,
+    NUMBERS_PER_TURN,
 };
 
 /// A turn as a turn table has it: slope, groomer, start, length, worth,
 /// driver.
-pub type Row = [u16; FIELDS];
+pub type Row = [u16; NUMBERS_PER_TURN];
 
 /// Bytes before the first record.
 pub const HEADER_LEN: usize = 7;
@@ -99,7 +100,7 @@ impl Drivers {
 
     fn some(rng: &mut Rng) -> Drivers {
         Drivers {
-            count: rng.pick(&[1, 2, 3, 10, u32::from(MAX_DRIVER)]),
+            count: rng.pick(&[1, 2, 3, 10, u32::from(MOST_DRIVER)]),
             without: rng.pick(&[0, 30, 70]),
         }
     }
@@ -116,7 +117,7 @@ impl Drivers {
         }
         // The highest numbers as well, however few drivers there are.
         let from = if rng.percent(5) {
-            u32::from(MAX_DRIVER) - self.count
+            u32::from(MOST_DRIVER) - self.count
         } else {
             0
         };
@@ -126,14 +127,14 @@ impl Drivers {
 
 /// A shift that every reader must take. Half of them name drivers.
 pub fn shift(rng: &mut Rng, turns: usize) -> Shift {
-    let few_slopes = (turns as u32 / 3).clamp(1, MAX_SLOPES);
+    let few_slopes = (turns as u32 / 3).clamp(1, MOST_SLOPES);
     let most_slopes = if rng.percent(70) {
         few_slopes
     } else {
-        MAX_SLOPES
+        MOST_SLOPES
     };
     let mut shift = Shift {
-        groomers: rng.between(1, MAX_GROOMERS) as u8,
+        groomers: rng.between(1, MOST_GROOMERS) as u8,
         slopes: rng.between(1, most_slopes) as u8,
         turns: Vec::with_capacity(turns),
     };
@@ -179,9 +180,9 @@ fn fresh_turn(rng: &mut Rng, shift: &Shift) -> Row {
         }
     };
     let worth = match rng.below(12) {
-        0 => u32::from(MAX_WORTH),
+        0 => u32::from(MOST_WORTH),
         1 => 1,
-        2..=4 => rng.between(1, u32::from(MAX_WORTH)),
+        2..=4 => rng.between(1, u32::from(MOST_WORTH)),
         _ => rng.between(1, 300),
     };
     let last = rng.percent(10);
@@ -274,8 +275,8 @@ pub fn typical(rng: &mut Rng, turns: usize) -> Encoded {
 /// A number of turns: mostly few, at times many, at times the most allowed.
 pub fn turn_count(rng: &mut Rng) -> usize {
     match rng.below(100) {
-        0 | 1 => MAX_TURNS,
-        2..=11 => rng.between(100, MAX_TURNS as u32) as usize,
+        0 | 1 => MOST_TURNS,
+        2..=11 => rng.between(100, MOST_TURNS as u32) as usize,
         12..=50 => rng.between(20, 100) as usize,
         _ => rng.between(1, 20) as usize,
     }
@@ -472,10 +473,10 @@ pub fn turns_claimed(sheet: &[u8]) -> usize {
         return 0;
     }
     let turns = usize::from(u16::from_be_bytes([sheet[5], sheet[6]]));
-    turns.min(MAX_TURNS)
+    turns.min(MOST_TURNS)
 }
 
 /// Numbers that a reader of these bytes may want in its table.
 pub fn places_wanted(sheet: &[u8]) -> usize {
-    turns_claimed(sheet) * FIELDS
+    turns_claimed(sheet) * NUMBERS_PER_TURN
 }

@@ -3,7 +3,7 @@
 //! the driver.
 
 use crate::gen::{self, Rng, Row, HEADER_LEN};
-use crate::limits::{LAST_END, MAX_UNITS, MAX_VEHICLES, MAX_WORTH};
+use crate::limits::{LAST_END, MOST_UNITS, MOST_VEHICLES, MOST_WORTH};
 
 /// The content of a charging sheet before it becomes bytes. The values need
 /// not be such that anyone takes them.
@@ -21,14 +21,14 @@ pub const SHAPES: u32 = 6;
 pub fn hall(rng: &mut Rng, shape: u32, windows: usize) -> Hall {
     let units = match rng.below(6) {
         0 => rng.between(1, 3),
-        1 => u32::from(MAX_UNITS),
-        2 => u32::from(MAX_UNITS) - 1,
-        _ => rng.between(1, MAX_UNITS.into()),
+        1 => u32::from(MOST_UNITS),
+        2 => u32::from(MOST_UNITS) - 1,
+        _ => rng.between(1, MOST_UNITS.into()),
     };
     let vehicles = match rng.below(4) {
-        0 => u32::from(MAX_VEHICLES),
+        0 => u32::from(MOST_VEHICLES),
         1 => rng.between(1, 4),
-        _ => rng.between(1, MAX_VEHICLES.into()),
+        _ => rng.between(1, MOST_VEHICLES.into()),
     };
     // The last end, and the longest window.
     let (last_end, longest) = match shape {
@@ -39,7 +39,7 @@ pub fn hall(rng: &mut Rng, shape: u32, windows: usize) -> Hall {
         4 => (100, 40),
         _ => (LAST_END, 90),
     };
-    let worth = rng.pick(&[3, 50, 1000, u32::from(MAX_WORTH)]);
+    let worth = rng.pick(&[3, 50, 1000, u32::from(MOST_WORTH)]);
     let draws = rng.below(4);
     let ends = rng.percent(20);
     let window = |_| {
@@ -83,17 +83,17 @@ pub fn usual(rng: &mut Rng, windows: usize) -> Hall {
     let window = |_| {
         let length = rng.between(30, 90);
         [
-            rng.between(1, MAX_VEHICLES.into()) as u16,
-            rng.between(1, MAX_UNITS.into()) as u16,
+            rng.between(1, MOST_VEHICLES.into()) as u16,
+            rng.between(1, MOST_UNITS.into()) as u16,
             rng.below(LAST_END - length + 1) as u16,
             length as u16,
-            rng.between(1, MAX_WORTH.into()) as u16,
+            rng.between(1, MOST_WORTH.into()) as u16,
             0,
         ]
     };
     Hall {
-        units: MAX_UNITS as u8,
-        vehicles: MAX_VEHICLES as u8,
+        units: MOST_UNITS as u8,
+        vehicles: MOST_VEHICLES as u8,
         windows: (0..windows).map(window).collect(),
     }
 }
@@ -103,7 +103,7 @@ pub fn usual(rng: &mut Rng, windows: usize) -> Hall {
 pub fn small_draws(rng: &mut Rng, windows: usize) -> Hall {
     let mut hall = usual(rng, windows);
     for [_, draw, ..] in &mut hall.windows {
-        *draw = rng.between(1, u32::from(MAX_UNITS) / 8) as u16;
+        *draw = rng.between(1, u32::from(MOST_UNITS) / 8) as u16;
     }
     hall
 }
@@ -124,7 +124,7 @@ pub fn small(rng: &mut Rng, most: u32) -> Hall {
     let shape = rng.pick(&[1, 2, 4]);
     let mut hall = hall(rng, shape, windows);
     if rng.percent(50) {
-        hall.vehicles = MAX_VEHICLES as u8;
+        hall.vehicles = MOST_VEHICLES as u8;
         for (window, vehicle) in hall.windows.iter_mut().zip(1..) {
             window[0] = vehicle;
         }

@@ -1,7 +1,9 @@
 //! Seeded shifts of named shapes, all of which a reader must take.
 
 use crate::gen::{self, Drivers, Rng, Row, Shift};
-use crate::limits::{DRIVE_OVER, FIELDS, LAST_END, MAX_GROOMERS, MAX_SLOPES, MAX_TURNS, MAX_WORTH};
+use crate::limits::{
+    DRIVE_OVER, LAST_END, MOST_GROOMERS, MOST_SLOPES, MOST_TURNS, MOST_WORTH, NUMBERS_PER_TURN,
+};
 
 /// How many shapes there are.
 pub const SHAPES: u32 = 10;
@@ -61,17 +63,17 @@ fn with_a_driver_a_groomer(rng: &mut Rng, mut shift: Shift) -> Shift {
 fn drawn_by_shape(rng: &mut Rng, shape: u32, turns: usize) -> Shift {
     match shape {
         1 => drawn(rng, turns, [2, 12], [LAST_END, 1, 400], 300),
-        2 => drawn(rng, turns, [1, MAX_SLOPES], [LAST_END, 1, 90], 500),
-        3 => drawn(rng, turns, [MAX_GROOMERS, 1], [LAST_END, 1, 90], 500),
+        2 => drawn(rng, turns, [1, MOST_SLOPES], [LAST_END, 1, 90], 500),
+        3 => drawn(rng, turns, [MOST_GROOMERS, 1], [LAST_END, 1, 90], 500),
         ALL_EQUAL => all_equal(rng, turns),
         5 => one_after_the_other(rng, turns),
         A_STEP_A_TURN => {
-            let slopes = (turns as u32 / 4).clamp(MAX_GROOMERS, MAX_SLOPES);
+            let slopes = (turns as u32 / 4).clamp(MOST_GROOMERS, MOST_SLOPES);
             a_step_a_turn(rng, turns, slopes)
         }
         EQUAL_ENDS => equal_ends(rng, turns),
         8 => drawn(rng, turns, [3, 8], [40, 1, 8], 3),
-        9 => drawn(rng, turns, [2, 30], [200, 1, 60], u32::from(MAX_WORTH)),
+        9 => drawn(rng, turns, [2, 30], [200, 1, 60], u32::from(MOST_WORTH)),
         _ => gen::shift(rng, turns),
     }
 }
@@ -94,8 +96,8 @@ pub fn usual_with_drivers(rng: &mut Rng, turns: usize) -> Shift {
 /// A shift with the most groomers and slopes, no short turn, and worths of
 /// every size.
 pub fn widest(rng: &mut Rng, turns: usize) -> Shift {
-    let counts = [MAX_GROOMERS, MAX_SLOPES];
-    drawn(rng, turns, counts, [LAST_END, 30, 90], MAX_WORTH.into())
+    let counts = [MOST_GROOMERS, MOST_SLOPES];
+    drawn(rng, turns, counts, [LAST_END, 30, 90], MOST_WORTH.into())
 }
 
 /// Up to so many turns on few slopes and in few minutes, so that conflicts of
@@ -103,7 +105,7 @@ pub fn widest(rng: &mut Rng, turns: usize) -> Shift {
 /// the shifts name drivers.
 pub fn small(rng: &mut Rng, most: u32) -> Shift {
     let counts = [rng.between(1, 3), rng.between(1, 6)];
-    let worth = rng.pick(&[3, 20, u32::from(MAX_WORTH)]);
+    let worth = rng.pick(&[3, 20, u32::from(MOST_WORTH)]);
     let turns = rng.between(0, most) as usize;
     let shift = drawn(rng, turns, counts, [45, 1, 10], worth);
     let (named, drivers) = (rng.percent(50), rng.pick(&[1, 1, 2, 3]));
@@ -151,7 +153,7 @@ pub fn simple(rng: &mut Rng, shift: &Shift) -> Shift {
         turn[5] = 0;
     }
     if rng.percent(50) {
-        shift.slopes = MAX_SLOPES as u8;
+        shift.slopes = MOST_SLOPES as u8;
     }
     shift
 }
@@ -159,12 +161,12 @@ pub fn simple(rng: &mut Rng, shift: &Shift) -> Shift {
 /// A shift in which few turns come again and again, some of them with all
 /// values but one alike.
 pub fn few_kinds(rng: &mut Rng, turns: usize) -> Shift {
-    let kinds = drawn(rng, 3, [4, 9], [LAST_END, 1, 120], MAX_WORTH.into());
+    let kinds = drawn(rng, 3, [4, 9], [LAST_END, 1, 120], MOST_WORTH.into());
     let drivers = Drivers::drawn(rng);
     let mut kinds = with_drivers(rng, kinds, drivers);
     for kind in 0..3 {
         let mut other = kinds.turns[kind];
-        let field = rng.below(FIELDS as u32) as usize;
+        let field = rng.below(NUMBERS_PER_TURN as u32) as usize;
         other[field] -= u16::from(other[field] > 1);
         kinds.turns.push(other);
     }
@@ -224,7 +226,7 @@ fn drawn(rng: &mut Rng, turns: usize, counts: [u32; 2], times: [u32; 3], worth: 
 }
 
 fn all_equal(rng: &mut Rng, turns: usize) -> Shift {
-    let one = drawn(rng, 1, [4, 9], [LAST_END, 1, 120], u32::from(MAX_WORTH));
+    let one = drawn(rng, 1, [4, 9], [LAST_END, 1, 120], u32::from(MOST_WORTH));
     Shift {
         turns: one.turns.repeat(turns),
         ..one
@@ -235,9 +237,9 @@ fn all_equal(rng: &mut Rng, turns: usize) -> Shift {
 /// shift goes; then they start over. It has just the time to drive over, a
 /// minute less or more, or none.
 fn one_after_the_other(rng: &mut Rng, turns: usize) -> Shift {
-    let groomers = rng.between(1, MAX_GROOMERS);
-    let slopes = rng.between(1, MAX_SLOPES);
-    let mut next = [0; MAX_GROOMERS as usize + 1];
+    let groomers = rng.between(1, MOST_GROOMERS);
+    let slopes = rng.between(1, MOST_SLOPES);
+    let mut next = [0; MOST_GROOMERS as usize + 1];
     let turn = |number: u32| -> Row {
         let groomer = number % groomers + 1;
         let start = &mut next[groomer as usize];
@@ -268,23 +270,23 @@ fn one_after_the_other(rng: &mut Rng, turns: usize) -> Shift {
 /// end, and on each slope the worths rise with the ends: so every turn is
 /// still open when its end is the earliest.
 pub fn a_step_a_turn(rng: &mut Rng, turns: usize, slopes: u32) -> Shift {
-    let each = turns.max(1).div_ceil(MAX_GROOMERS as usize) as u32;
+    let each = turns.max(1).div_ceil(MOST_GROOMERS as usize) as u32;
     let from_start_to_start = LAST_END / each;
     let length = from_start_to_start - DRIVE_OVER;
     let worth = rng.between(1, 1000);
     let turn = |number: u32| {
         [
             (number % slopes + 1) as u16,
-            (number % MAX_GROOMERS + 1) as u16,
-            (number / MAX_GROOMERS * from_start_to_start) as u16,
+            (number % MOST_GROOMERS + 1) as u16,
+            (number / MOST_GROOMERS * from_start_to_start) as u16,
             length as u16,
             (worth + number) as u16,
             0,
         ]
     };
-    assert!(turns <= MAX_TURNS);
+    assert!(turns <= MOST_TURNS);
     Shift {
-        groomers: MAX_GROOMERS as u8,
+        groomers: MOST_GROOMERS as u8,
         slopes: slopes as u8,
         turns: (0..turns as u32).map(turn).collect(),
     }
@@ -293,8 +295,8 @@ pub fn a_step_a_turn(rng: &mut Rng, turns: usize, slopes: u32) -> Shift {
 /// All turns on one slope, each ending after the one before and worth more:
 /// every step touches all that is open, and leaves it open.
 pub fn rising_on_one_slope(rng: &mut Rng, turns: usize) -> Shift {
-    assert!(turns <= MAX_TURNS);
-    let mut shift = drawn(rng, turns, [MAX_GROOMERS, 1], [LAST_END, 30, 90], 1);
+    assert!(turns <= MOST_TURNS);
+    let mut shift = drawn(rng, turns, [MOST_GROOMERS, 1], [LAST_END, 30, 90], 1);
     let mut worth = 0;
     for (turn, number) in shift.turns.iter_mut().zip(0..) {
         let end = 90 + 2 * number;

@@ -6,7 +6,7 @@ mod both;
 use both::{check, listing, plan, read, write};
 use slopeboard_reference::boards::{self, Draft};
 use slopeboard_reference::gen::{self, Rng, Shift};
-use slopeboard_reference::limits::FIELDS;
+use slopeboard_reference::limits::NUMBERS_PER_TURN;
 use slopeboard_reference::naive::planning::{take, worths};
 use slopeboard_reference::naive::turns::{turns_of, Turn};
 use slopeboard_reference::naive::{best_worth, open, steps, times_the_tally};
@@ -193,7 +193,7 @@ fn shapes_of_all_sizes_agree() {
         };
         let shift = shapes::shift(&mut rng, round % shapes::SHAPES, turns as usize);
         let sheet = gen::encode(&mut rng, &shift, 10).bytes;
-        let wanted = FIELDS * shift.turns.len();
+        let wanted = NUMBERS_PER_TURN * shift.turns.len();
         for places in [wanted, wanted + 1, wanted.saturating_sub(1)] {
             let _ = read(&sheet, &mut vec![0xA5A5; places]);
         }
@@ -249,7 +249,7 @@ fn written_sheets_are_short_and_read_back() {
         let mut out = vec![0; sheet.len()];
         // It fits the length of any sheet with the turns in this order.
         let len = write(groomers, slopes, &table, &mut out).unwrap();
-        let mut again = vec![0; turns * FIELDS];
+        let mut again = vec![0; turns * NUMBERS_PER_TURN];
         let counts = read(&out[..len], &mut again).unwrap();
         assert_eq!((counts.groomers, counts.slopes), (groomers, slopes));
         assert_eq!(again, shift.turns.concat());
@@ -269,7 +269,7 @@ fn generated_shifts_are_accepted_as_meant() {
         let turns = gen::turn_count(&mut rng);
         let shift = gen::shift(&mut rng, turns);
         let encoded = gen::encode(&mut rng, &shift, 50);
-        let mut table = vec![0; turns * FIELDS];
+        let mut table = vec![0; turns * NUMBERS_PER_TURN];
         let counts = read(&encoded.bytes, &mut table).unwrap();
         assert_eq!(counts.groomers, u32::from(shift.groomers));
         assert_eq!(counts.slopes, u32::from(shift.slopes));

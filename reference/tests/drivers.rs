@@ -35,11 +35,12 @@ fn records(turns: u8, bytes: &[&[u8]]) -> Vec<u8> {
 }
 
 /// The fields of a good record before its driver.
-const FIELDS: [u8; 8] = [1, 1, 0, 0, 0, 1, 0, 1];
+const NUMBERS_PER_TURN: [u8; 8] = [1, 1, 0, 0, 0, 1, 0, 1];
 
 #[test]
 fn drivers_are_read() {
-    let one = |map: u8, driver: &[u8]| drivers_of(&records(1, &[&[map], &FIELDS, driver]));
+    let one =
+        |map: u8, driver: &[u8]| drivers_of(&records(1, &[&[map], &NUMBERS_PER_TURN, driver]));
     assert_eq!(one(0x1F, &[]), Ok(vec![0]));
     assert_eq!(one(0x3F, &[0]), Ok(vec![0]));
     assert_eq!(one(0x3F, &[1]), Ok(vec![1]));
@@ -57,10 +58,10 @@ fn drivers_are_read() {
 fn later_records_keep_or_change_the_driver() {
     let after =
         |first: &[u8], map: u8, more: &[u8]| drivers_of(&records(2, &[first, &[map], more]));
-    let named = [&[0x3F][..], &FIELDS, &[7]].concat();
-    let unnamed = [&[0x1F][..], &FIELDS].concat();
+    let named = [&[0x3F][..], &NUMBERS_PER_TURN, &[7]].concat();
+    let unnamed = [&[0x1F][..], &NUMBERS_PER_TURN].concat();
     assert_eq!(after(&named, 0, &[]), Ok(vec![7, 7]));
-    assert_eq!(after(&named, 0x1F, &FIELDS), Ok(vec![7, 7]));
+    assert_eq!(after(&named, 0x1F, &NUMBERS_PER_TURN), Ok(vec![7, 7]));
     assert_eq!(after(&named, 0x20, &[7]), Ok(vec![7, 7]));
     assert_eq!(after(&named, 0x20, &[0]), Ok(vec![7, 0]));
     assert_eq!(after(&unnamed, 0x20, &[9]), Ok(vec![0, 9]));
@@ -76,7 +77,7 @@ fn later_records_keep_or_change_the_driver() {
     assert_eq!(after(&named, 0x21, &[4, 2]), Err(6));
     assert_eq!(after(&named, 0x30, &[0, 1, 2]), Ok(vec![7, 2]));
     // A first map of 3F alone does not make up for what else is missing.
-    assert_eq!(after(&unnamed, 0x3F, &FIELDS), Err(1));
+    assert_eq!(after(&unnamed, 0x3F, &NUMBERS_PER_TURN), Err(1));
 }
 
 #[test]
@@ -113,11 +114,11 @@ fn drivers_are_written() {
     assert_eq!(written(&[with(1)]).len(), 7 + 10);
     // The least driver first; a driver that stays is not written again.
     let sheet = written(&[with(40), with(0), with(7), with(7)]);
-    let expected = records(4, &[&[0x1F], &FIELDS, &[0x20, 7, 0, 0x20, 40]]);
+    let expected = records(4, &[&[0x1F], &NUMBERS_PER_TURN, &[0x20, 7, 0, 0x20, 40]]);
     assert_eq!(sheet[5..], expected[5..]);
     // Back to no driver.
     let sheet = written(&[with(3), [2, 1, 0, 1, 1, 0]]);
-    let expected = records(2, &[&[0x3F], &FIELDS, &[3, 0x21, 2, 0]]);
+    let expected = records(2, &[&[0x3F], &NUMBERS_PER_TURN, &[3, 0x21, 2, 0]]);
     assert_eq!(sheet[5..], expected[5..]);
     for driver in [41, 255, 256, 296, 65_535] {
         assert_eq!(write(1, 1, &with(driver), &mut [0; 20]), Err(19));

@@ -5,7 +5,7 @@ mod both;
 
 use both::{read, write};
 use slopeboard_reference::gen::{self, Rng, Row, Shift};
-use slopeboard_reference::limits::FIELDS;
+use slopeboard_reference::limits::NUMBERS_PER_TURN;
 use slopeboard_reference::shapes;
 
 /// The worked example's turns.
@@ -36,7 +36,7 @@ fn written(shift: &Shift) -> Vec<u8> {
 fn turns_of(sheet: &[u8]) -> Vec<Row> {
     let mut table = vec![0; gen::places_wanted(sheet)];
     read(sheet, &mut table).unwrap();
-    let rows = table.chunks(FIELDS);
+    let rows = table.chunks(NUMBERS_PER_TURN);
     rows.map(|row| row.try_into().unwrap()).collect()
 }
 
@@ -105,10 +105,10 @@ fn every_order_of_a_table_gives_one_sheet() {
 
 #[test]
 fn each_field_decides_where_those_before_it_are_equal() {
-    let least = [1; FIELDS];
-    for field in 0..FIELDS {
+    let least = [1; NUMBERS_PER_TURN];
+    for field in 0..NUMBERS_PER_TURN {
         // Greater in this field and less in all behind it.
-        let (mut lesser, mut greater) = ([2; FIELDS], least);
+        let (mut lesser, mut greater) = ([2; NUMBERS_PER_TURN], least);
         lesser[..field].fill(3);
         greater[..field].fill(3);
         greater[field] = 3;

@@ -37,6 +37,9 @@ pub const MOST_SEARCHED_TURNS: usize = 64;
 /// The greatest seed that [`draw`] takes; the least is 1.
 pub const MOST_SEED: u64 = 2_147_483_646;
 pub const MOST_GROOMERS: usize = 16;
+pub const MOST_SLOPES: usize = 120;
+/// The highest number of a driver.
+pub const MOST_DRIVER: u16 = 40;
 /// The longest delay that [`play`] takes, in minutes.
 pub const MOST_DELAY: u16 = 120;
 /// The turn in hand of a groomer that works on none.

@@ -34,7 +34,7 @@ pub enum Refusal {
     /// The bytes are not those of a board (for this sheet).
     MalformedBoard = 12,
     /// Two chosen turns exclude each other.
-    Conflict = 13,
+    ChosenConflict = 13,
     /// A turn could be chosen in addition.
     NotMaximal = 14,
     /// A step is not right at its place.
@@ -75,7 +75,7 @@ const ALL: [Refusal; 25] = [
     Refusal::TrailingBytes,
     Refusal::BufferTooSmall,
     Refusal::MalformedBoard,
-    Refusal::Conflict,
+    Refusal::ChosenConflict,
     Refusal::NotMaximal,
     Refusal::WrongStep,
     Refusal::TurnLeftOpen,

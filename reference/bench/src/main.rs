@@ -2,7 +2,7 @@
 //! a table. It judges nothing: what differs is for the comparison to find.
 //!
 //! ```text
-//! SLOPEBOARD_LIB_DIR=$PWD/target/staticlib cargo run --release --manifest-path reference/bench/Cargo.toml
+//! SLOPEBOARD_LIB_DIR=$PWD/target/staticlib cargo run --release -p bench
 //! ```
 //!
 //! With words behind it, only the entries so named are timed.
@@ -24,7 +24,7 @@ use std::hint::black_box;
 use std::time::{Duration, Instant};
 
 use slopeboard_reference::gen::{self, Rng, Shift};
-use slopeboard_reference::limits::{FIELDS, LAST_END, MAX_DELAY, MAX_GROOMERS};
+use slopeboard_reference::limits::{LAST_END, MOST_DELAY, MOST_GROOMERS, NUMBERS_PER_TURN};
 use slopeboard_reference::{fast, halls, naive, shapes};
 
 /// How many different sheets a row goes over.
@@ -53,8 +53,8 @@ struct Job {
     seed: u64,
     numbers: Vec<u16>,
     bytes: Vec<u8>,
-    list: [slopeboard::Standing; MAX_GROOMERS as usize],
-    other_list: [fast::Standing; MAX_GROOMERS as usize],
+    list: [slopeboard::Standing; MOST_GROOMERS as usize],
+    other_list: [fast::Standing; MOST_GROOMERS as usize],
 }
 
 impl Job {
@@ -72,7 +72,7 @@ impl Job {
         let full_hall = halls::all_together(rng, shift.turns.len());
         let full_hall = halls::encode(rng, &full_hall, 0).bytes;
         let seed = 1 + u64::from(rng.below(2_147_483_646));
-        let delay = |_| rng.between(0, MAX_DELAY.into()) as u16;
+        let delay = |_| rng.between(0, MOST_DELAY.into()) as u16;
         let delays = shift.turns.iter().map(delay);
         Job {
             groomers: shift.groomers.into(),
@@ -86,7 +86,7 @@ impl Job {
             small_hall,
             full_hall,
             seed,
-            numbers: vec![0; FIELDS * shift.turns.len()],
+            numbers: vec![0; NUMBERS_PER_TURN * shift.turns.len()],
             bytes: vec![0; slopeboard::MOST_TEXT_BYTES],
             list: Default::default(),
             other_list: Default::default(),
@@ -172,11 +172,11 @@ const IMPROVE: Entry = Entry {
 const DRAW: Entry = Entry {
     name: "draw",
     library: |job| {
-        let turns = (job.table.len() / FIELDS) as u32;
+        let turns = (job.table.len() / NUMBERS_PER_TURN) as u32;
         slopeboard::draw(job.seed, job.groomers, job.slopes, turns, &mut job.bytes).is_ok()
     },
     reference: |job| {
-        let turns = (job.table.len() / FIELDS) as u32;
+        let turns = (job.table.len() / NUMBERS_PER_TURN) as u32;
         fast::draw(job.seed, job.groomers, job.slopes, turns, &mut job.bytes).is_ok()
     },
 };
@@ -301,7 +301,7 @@ fn drawn(rng: &mut Rng, turns: usize, [groomers, slopes]: [u8; 2]) -> Shift {
     let counts = (groomers.into(), slopes.into(), turns as u32);
     let len = fast::draw(seed, counts.0, counts.1, counts.2, &mut sheet);
     let sheet = &sheet[..len.expect("the counts are allowed")];
-    let mut table = vec![[0; FIELDS]; turns];
+    let mut table = vec![[0; NUMBERS_PER_TURN]; turns];
     fast::read(sheet, table.as_flattened_mut()).expect("a drawn sheet is accepted");
     Shift {
         groomers,
@@ -518,7 +518,10 @@ fn jobs(rng: &mut Rng, kind: Kind, turns: usize) -> Vec<Job> {
 /// The numbers of turns and steps; of the steps the mean.
 fn size(jobs: &[Job], kind: &str) -> String {
     let steps = jobs.iter().map(Job::steps).sum::<usize>() / jobs.len();
-    format!("n={} m={steps} {kind}", jobs[0].numbers.len() / FIELDS)
+    format!(
+        "n={} m={steps} {kind}",
+        jobs[0].numbers.len() / NUMBERS_PER_TURN
+    )
 }
 
 fn main() {

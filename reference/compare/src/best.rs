@@ -18,8 +18,8 @@ const SIMPLE_SHEETS: u32 = 60_000;
 const OTHER_SHEETS: u32 = 4000;
 
 /// Compares the two versions on all sheets.
-pub fn run() -> bool {
-    let mut rng = Rng::new(2035);
+pub fn run(seed: u64) -> bool {
+    let mut rng = Rng::new(seed);
     let mut run = Run {
         report: Report::new("best"),
         lent: Lent::default(),

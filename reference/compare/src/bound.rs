@@ -18,9 +18,9 @@ use crate::sheets;
 const SHEETS: u32 = 9000;
 
 /// Tries the promise on many boards, right ones and others.
-pub fn run() -> bool {
+pub fn run(seed: u64) -> bool {
     let mut run = Run {
-        rng: Rng::new(2030),
+        rng: Rng::new(seed),
         report: Report::new("bound"),
     };
     for _ in 0..SHEETS {

@@ -11,9 +11,9 @@ use crate::placed::Placed;
 use crate::report::Report;
 
 /// Compares the two versions on all halls.
-pub fn run() -> bool {
+pub fn run(seed: u64) -> bool {
     let mut run = Run {
-        rng: Rng::new(2041),
+        rng: Rng::new(seed),
         report: Report::new("charge"),
         lent: Lent::default(),
         placed: Placed::default(),

@@ -10,9 +10,9 @@ use crate::placed::Placed;
 use crate::report::{show, Report};
 
 /// Compares the two checks on all pairs of sheet and board.
-pub fn run() -> bool {
+pub fn run(seed: u64) -> bool {
     let mut run = Run {
-        rng: Rng::new(2029),
+        rng: Rng::new(seed),
         report: Report::new("check"),
         sheet: Placed::default(),
         board: Placed::default(),

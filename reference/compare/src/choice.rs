@@ -9,9 +9,9 @@ use crate::report::{show, Report};
 
 /// Compares the two versions on all boards, and on turn numbers below, at and
 /// above the board's own.
-pub fn run() -> bool {
+pub fn run(seed: u64) -> bool {
     let mut run = Run {
-        rng: Rng::new(2031),
+        rng: Rng::new(seed),
         counts: Report::new("count"),
         turns: Report::new("is_chosen"),
         placed: Placed::default(),

@@ -50,9 +50,9 @@ const COUNTS: [u32; 13] = [
 const TURNS: [u32; 7] = [0, 1, 400, 401, 65_536, 65_937, u32::MAX];
 
 /// Compares the two versions on all inputs.
-pub fn run() -> bool {
+pub fn run(seed: u64) -> bool {
     let mut run = Run {
-        rng: Rng::new(2036),
+        rng: Rng::new(seed),
         report: Report::new("draw"),
         lent: Lent::default(),
     };

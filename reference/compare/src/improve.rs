@@ -20,8 +20,8 @@ const LARGE_SHEETS: u32 = 3000;
 const TOO_LARGE: u32 = 1200;
 
 /// Compares the two versions on all sheets.
-pub fn run() -> bool {
-    let mut rng = Rng::new(2037);
+pub fn run(seed: u64) -> bool {
+    let mut rng = Rng::new(seed);
     let mut run = Run {
         report: Report::new("improve"),
         lent: Lent::default(),

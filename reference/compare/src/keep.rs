@@ -10,16 +10,16 @@ use crate::report::{show, Report};
 use crate::sheets;
 
 /// Compares the two versions of keeping on all sheets.
-pub fn run() -> bool {
-    let mut rng = Rng::new(2038);
+pub fn run(seed: u64) -> bool {
+    let mut rng = Rng::new(seed);
     let mut run = Run::new("keep", naive::keep, [foreign::keep, foreign::restore]);
     sheets::each(&mut rng, |rng, sheet| run.rooms(rng, sheet));
     run.report.finish((1..=11).chain([19]))
 }
 
 /// Compares the two versions of restoring on all kept forms.
-pub fn run_restore() -> bool {
-    let mut rng = Rng::new(2039);
+pub fn run_restore(seed: u64) -> bool {
+    let mut rng = Rng::new(seed);
     let ways = [foreign::restore, foreign::keep];
     let mut run = Run::new("restore", naive::restore, ways);
     run.shaped(&mut rng);

@@ -17,8 +17,8 @@ const LONGEST: usize = 3704;
 const LONGEST_SHEETS: u32 = 300;
 
 /// Compares the two listings on all sheets.
-pub fn run() -> bool {
-    let mut rng = Rng::new(2028);
+pub fn run(seed: u64) -> bool {
+    let mut rng = Rng::new(seed);
     let mut run = Run {
         report: Report::new("list"),
         lent: Lent::default(),

@@ -3,6 +3,10 @@
 //!
 //! Each entry of the library has a module of its own with a `run` that says
 //! whether all went well.
+//!
+//! With a number of seconds and a seed it goes on for so long, over inputs that
+//! no other seed has, and prints the calls by entry and refusal at the end: for
+//! a night, say.
 
 mod best;
 mod bound;
@@ -25,32 +29,71 @@ mod report;
 mod sheets;
 mod write;
 
+use slopeboard_reference::gen::Rng;
+use std::env;
 use std::process::ExitCode;
+use std::time::{Duration, Instant};
+
+/// Each entry's comparison, and the seed of its inputs.
+const ENTRIES: [(fn(u64) -> bool, u64); 17] = [
+    (read::run, 2024),
+    (read::run_short, 2034),
+    (write::run, 2025),
+    (open::run, 2026),
+    (choice::run, 2031),
+    (plan::run, 2027),
+    (check::run, 2029),
+    (bound::run, 2030),
+    (list::run, 2028),
+    (partition::run, 2032),
+    (best::run, 2035),
+    (improve::run, 2037),
+    (draw::run, 2036),
+    (keep::run, 2038),
+    (keep::run_restore, 2039),
+    (play::run, 2040),
+    (charge::run, 2041),
+];
+
+/// All entries once, on the inputs of the gate.
+fn once() -> bool {
+    ENTRIES
+        .iter()
+        .fold(true, |good, (run, seed)| run(*seed) & good)
+}
+
+/// All entries again and again, on ever other inputs, until the time is over
+/// or something differs.
+fn lasting(time: Duration, seed: u64) -> bool {
+    let begun = Instant::now();
+    report::be_short();
+    let mut seeds = Rng::new(seed);
+    let mut good = true;
+    while good && begun.elapsed() < time {
+        for (run, _) in ENTRIES {
+            let seed = seeds.draw();
+            let fine = run(seed);
+            if !fine {
+                println!("compare: the inputs were those of seed {seed}");
+            }
+            good &= fine;
+        }
+    }
+    report::print_totals();
+    good
+}
 
 fn main() -> ExitCode {
-    let entries: &[fn() -> bool] = &[
-        read::run,
-        read::run_short,
-        write::run,
-        open::run,
-        choice::run,
-        plan::run,
-        check::run,
-        bound::run,
-        list::run,
-        partition::run,
-        best::run,
-        improve::run,
-        draw::run,
-        keep::run,
-        keep::run_restore,
-        play::run,
-        charge::run,
-    ];
-    let mut good = true;
-    for run in entries {
-        good &= run();
-    }
+    let words: Vec<String> = env::args().skip(1).collect();
+    let numbers: Result<Vec<u64>, _> = words.iter().map(|word| word.parse()).collect();
+    let good = match numbers.as_deref() {
+        Ok([]) => once(),
+        Ok(&[seconds, seed]) => lasting(Duration::from_secs(seconds), seed),
+        _ => {
+            eprintln!("usage: compare [SECONDS SEED]");
+            false
+        }
+    };
     if good {
         ExitCode::SUCCESS
     } else {

@@ -8,9 +8,9 @@ use crate::placed::Placed;
 use crate::report::{show, Report};
 
 /// Compares the two versions on all boards.
-pub fn run() -> bool {
+pub fn run(seed: u64) -> bool {
     let mut run = Run {
-        rng: Rng::new(2026),
+        rng: Rng::new(seed),
         report: Report::new("open"),
         placed: Placed::default(),
     };

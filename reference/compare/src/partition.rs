@@ -20,8 +20,8 @@ const LONG_SHEETS: u32 = 210;
 const FEW_TURNS: usize = 60;
 
 /// Compares the two versions on all sheets.
-pub fn run() -> bool {
-    let mut rng = Rng::new(2032);
+pub fn run(seed: u64) -> bool {
+    let mut rng = Rng::new(seed);
     let mut run = Run {
         report: Report::new("assign"),
         lent: Lent::default(),

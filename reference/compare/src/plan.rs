@@ -12,8 +12,8 @@ use crate::report::Report;
 use crate::sheets;
 
 /// Compares the two planners on all sheets.
-pub fn run() -> bool {
-    let mut rng = Rng::new(2027);
+pub fn run(seed: u64) -> bool {
+    let mut rng = Rng::new(seed);
     let mut run = Run {
         report: Report::new("plan"),
         lent: Lent::default(),

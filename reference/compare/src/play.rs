@@ -13,9 +13,9 @@ use crate::placed::Placed;
 use crate::report::Report;
 
 /// Compares the two versions on all inputs.
-pub fn run() -> bool {
+pub fn run(seed: u64) -> bool {
     let mut run = Run {
-        rng: Rng::new(2040),
+        rng: Rng::new(seed),
         report: Report::new("play"),
         lent: Lent::default(),
         sheet: Placed::default(),

@@ -1,5 +1,9 @@
 //! Counts what happened to an entry's inputs and judges the whole run.
 
+use std::collections::BTreeMap;
+use std::sync::atomic::{AtomicBool, Ordering};
+use std::sync::Mutex;
+
 /// Highest refusal number.
 const LAST_REFUSAL: usize = 25;
 
@@ -15,9 +19,40 @@ const LEAST_ACCEPTED: u64 = 45;
 /// How many differences are printed in full.
 const SHOWN: u64 = 5;
 
+/// Inputs by refusal.
+type Bins = [u64; LAST_REFUSAL + 1];
+
+/// Of all runs so far, by entry.
+static TOTALS: Mutex<BTreeMap<&str, Bins>> = Mutex::new(BTreeMap::new());
+
+/// Whether a run that was good prints nothing.
+static SHORT: AtomicBool = AtomicBool::new(false);
+
+/// From now on a run prints its faults alone.
+pub fn be_short() {
+    SHORT.store(true, Ordering::Relaxed);
+}
+
+/// Prints how many inputs all runs had.
+pub fn print_totals() {
+    let totals = TOTALS.lock().expect("nothing fails while it is held");
+    for (entry, bins) in totals.iter() {
+        println!("{entry}: {} inputs", bins.iter().sum::<u64>());
+        print_bins(entry, bins);
+    }
+}
+
+fn print_bins(entry: &str, bins: &Bins) {
+    for (number, count) in bins.iter().enumerate() {
+        if number == 0 || *count > 0 {
+            println!("{entry}: refusal {number:2}: {count:7}");
+        }
+    }
+}
+
 pub struct Report {
     entry: &'static str,
-    bins: [u64; LAST_REFUSAL + 1],
+    bins: Bins,
     /// Named properties of inputs that must occur, with their counts.
     properties: Vec<(&'static str, u64)>,
     differences: u64,
@@ -59,23 +94,31 @@ impl Report {
     /// refusals must have been seen often enough.
     pub fn finish(self, refusals: impl IntoIterator<Item = u8>) -> bool {
         let entry = self.entry;
-        for (number, count) in self.bins.iter().enumerate() {
-            if number == 0 || *count > 0 {
-                println!("{entry}: refusal {number:2}: {count:7}");
+        self.add_to_totals();
+        let short = SHORT.load(Ordering::Relaxed);
+        if !short {
+            print_bins(entry, &self.bins);
+            for (name, count) in &self.properties {
+                println!("{entry}: {name}: {count}");
             }
-        }
-        for (name, count) in &self.properties {
-            println!("{entry}: {name}: {count}");
         }
         let faults = self.faults(refusals);
         for fault in &faults {
             println!("compare: FAILED {entry}: {fault}");
         }
-        if faults.is_empty() {
+        if faults.is_empty() && !short {
             let (inputs, accepted) = (self.inputs(), self.bins[0]);
             println!("compare: {entry} {inputs} inputs, {accepted} accepted, 0 differences");
         }
         faults.is_empty()
+    }
+
+    fn add_to_totals(&self) {
+        let mut totals = TOTALS.lock().expect("nothing fails while it is held");
+        let sums = totals.entry(self.entry).or_insert([0; LAST_REFUSAL + 1]);
+        for (sum, count) in sums.iter_mut().zip(self.bins) {
+            *sum += count;
+        }
     }
 
     fn inputs(&self) -> u64 {

@@ -1,7 +1,7 @@
 //! Writing a sheet.
 
 use slopeboard_reference::gen::{self, Rng, Row, Shift};
-use slopeboard_reference::limits::FIELDS;
+use slopeboard_reference::limits::NUMBERS_PER_TURN;
 use slopeboard_reference::{naive, shapes};
 
 use crate::bytes::{answer, Lent};
@@ -32,7 +32,7 @@ const COUNTS: [u32; 17] = [
 
 /// Values of each field at, under and over its bounds, for 2 groomers and 3
 /// slopes.
-const VALUES: [&[u16]; FIELDS] = [
+const VALUES: [&[u16]; NUMBERS_PER_TURN] = [
     &[0, 1, 2, 3, 4, 255, 256, 257, 259, 65_535],
     &[0, 1, 2, 3, 255, 256, 257, 258, 65_535],
     &[0, 1, 899, 900, 901, 959, 960, 961, 64_576, 65_475, 65_535],
@@ -42,9 +42,9 @@ const VALUES: [&[u16]; FIELDS] = [
 ];
 
 /// Compares the two writers on all inputs.
-pub fn run() -> bool {
+pub fn run(seed: u64) -> bool {
     let mut run = Run {
-        rng: Rng::new(2025),
+        rng: Rng::new(seed),
         report: Report::new("write"),
         lent: Lent::default(),
         show: Vec::new(),
@@ -136,7 +136,7 @@ impl Run {
             let mut shift = gen::shift(&mut self.rng, turns);
             let places = self.rng.shuffled(turns);
             for &place in &places[..2] {
-                let field = self.rng.below(FIELDS as u32) as usize;
+                let field = self.rng.below(NUMBERS_PER_TURN as u32) as usize;
                 shift.turns[place][field] = self.rng.pick(VALUES[field]);
             }
             let (groomers, slopes) = (shift.groomers.into(), shift.slopes.into());
@@ -158,7 +158,12 @@ impl Run {
     fn counts(&mut self) {
         for groomers in COUNTS {
             for slopes in COUNTS {
-                for table in [&[][..], &[1, 1, 0, 1, 1, 0], &[0; 5], &[0; FIELDS]] {
+                for table in [
+                    &[][..],
+                    &[1, 1, 0, 1, 1, 0],
+                    &[0; 5],
+                    &[0; NUMBERS_PER_TURN],
+                ] {
                     for room in [0, 6, 7, 8, 15, 16, 17] {
                         self.case(groomers, slopes, table, room);
                     }
@@ -186,10 +191,15 @@ impl Run {
             let table = shift.turns.concat();
             let slopes = self.rng.pick(&[120, 120, 0]);
             for turns in [399, 400, 401, 402] {
-                let len = self.case(16, slopes, &table[..turns * FIELDS], 4010);
-                self.case(16, slopes, &table[..turns * FIELDS], len);
-                self.case(16, slopes, &table[..turns * FIELDS], len.saturating_sub(1));
-                let part = (turns * FIELDS + round % FIELDS).min(table.len());
+                let len = self.case(16, slopes, &table[..turns * NUMBERS_PER_TURN], 4010);
+                self.case(16, slopes, &table[..turns * NUMBERS_PER_TURN], len);
+                self.case(
+                    16,
+                    slopes,
+                    &table[..turns * NUMBERS_PER_TURN],
+                    len.saturating_sub(1),
+                );
+                let part = (turns * NUMBERS_PER_TURN + round % NUMBERS_PER_TURN).min(table.len());
                 self.case(16, slopes, &table[..part], 4010);
             }
         }
@@ -199,8 +209,8 @@ impl Run {
     /// second of two and in the first of two.
     fn bounds(&mut self) {
         let inner = [1, 1, 900, 60, 100, 0];
-        for first in 0..FIELDS {
-            for second in first..FIELDS {
+        for first in 0..NUMBERS_PER_TURN {
+            for second in first..NUMBERS_PER_TURN {
                 for &a in VALUES[first] {
                     for &b in VALUES[second] {
                         let mut turn = inner;
@@ -230,7 +240,7 @@ impl Run {
             let mut table = shift.turns.concat();
             for _ in 0..self.rng.below(4) {
                 let place = self.rng.below(table.len() as u32) as usize;
-                table[place] = self.rng.pick(VALUES[place % FIELDS]);
+                table[place] = self.rng.pick(VALUES[place % NUMBERS_PER_TURN]);
             }
             table.truncate(table.len() - self.rng.pick(&[0, 0, 0, 0, 0, 0, 1, 5, 6]));
             let groomers = self.rng.pick(&[u32::from(shift.groomers), 16, 16, 16, 17]);
@@ -257,10 +267,10 @@ impl Run {
         let calls = (ours, theirs);
         let answer = self.lent.compare(rng, report, calls, room, &self.show);
         if answer.refusal == 0 {
-            let turns = table.len() / FIELDS;
+            let turns = table.len() / NUMBERS_PER_TURN;
             self.report.property("written with 0 turns", turns == 0);
             self.report.property("written with 400 turns", turns == 400);
-            let drivers = || table.chunks_exact(FIELDS).map(|row| row[5]);
+            let drivers = || table.chunks_exact(NUMBERS_PER_TURN).map(|row| row[5]);
             let named = drivers().any(|driver| driver > 0);
             self.report.property("written with drivers", named);
             let plain = turns > 0 && !named;

@@ -10,8 +10,8 @@
 //! repository, with the entries that the crate runs:
 //!
 //! ```text
-//! cargo run --release --manifest-path reference/Cargo.toml --bin corpus -- crates/corpus read write plan open check list count chosen assign short best improve draw keep restore charge
-//! cargo run --release --manifest-path reference/Cargo.toml --bin corpus -- tests/play play
+//! cargo run --release -p slopeboard-reference --bin corpus -- crates/corpus read write plan open check list count chosen assign short best improve draw keep restore charge
+//! cargo run --release -p slopeboard-reference --bin corpus -- tests/play play
 //! ```
 //!
 //! A case is five bytes and an input. Byte 0 is the entry's number, bytes 1

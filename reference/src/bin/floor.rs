@@ -2,7 +2,7 @@
 //! version has it, to a file.
 //!
 //! ```text
-//! cargo run --release --manifest-path reference/Cargo.toml --bin floor -- tests/shop-floor.text
+//! cargo run --release -p slopeboard-reference --bin floor -- tests/shop-floor.text
 //! ```
 
 use std::process::ExitCode;

@@ -3,7 +3,7 @@
 //! `NAME.text`, as the naive version has it.
 //!
 //! ```text
-//! cargo run --release --manifest-path reference/Cargo.toml --bin runs -- tests/slopes
+//! cargo run --release -p slopeboard-reference --bin runs -- tests/slopes
 //! ```
 
 use std::path::Path;

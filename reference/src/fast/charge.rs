@@ -4,7 +4,7 @@ use super::board::{map_len, mark_chosen};
 use super::refusal;
 use super::sheet::{no_turns, parse_record, TurnArray, HEADER_LEN};
 use super::turns::Turn;
-use crate::limits::{LAST_END, MAX_TURNS, MAX_UNITS, MAX_VEHICLES, MAX_WORTH};
+use crate::limits::{LAST_END, MOST_TURNS, MOST_UNITS, MOST_VEHICLES, MOST_WORTH};
 
 const MAGIC: [u8; 3] = *b"GRE";
 /// The bit of a shift's map that no window's map has.
@@ -39,17 +39,17 @@ fn parse(sheet: &[u8], windows: &mut TurnArray) -> Result<(u32, usize), u8> {
         return Err(refusal::BAD_MAGIC);
     }
     let (units, vehicles) = (u16::from(header[3]), u16::from(header[4]));
-    if !(1..=MAX_UNITS).contains(&units) || !(1..=MAX_VEHICLES).contains(&vehicles) {
+    if !(1..=MOST_UNITS).contains(&units) || !(1..=MOST_VEHICLES).contains(&vehicles) {
         return Err(refusal::BAD_COUNTS);
     }
     let count = usize::from(u16::from_be_bytes([header[5], header[6]]));
-    if count > MAX_TURNS {
+    if count > MOST_TURNS {
         return Err(refusal::TOO_MANY_TURNS);
     }
     let mut previous = None;
     for place in &mut windows[..count] {
         if rest.first().is_some_and(|map| map & HAS_DRIVER != 0) {
-            return Err(refusal::BAD_FIELD_MAP);
+            return Err(refusal::BAD_MAP);
         }
         let (window, later) = parse_record(rest, previous)?;
         judge(&window, units, vehicles)?;
@@ -74,7 +74,7 @@ fn judge(window: &Turn, units: u16, vehicles: u16) -> Result<(), u8> {
     if window.length == 0 || window.end() > LAST_END {
         return Err(refusal::BAD_TIME);
     }
-    if window.worth == 0 || window.worth > MAX_WORTH {
+    if window.worth == 0 || window.worth > MOST_WORTH {
         return Err(refusal::BAD_WORTH);
     }
     Ok(())
@@ -82,7 +82,7 @@ fn judge(window: &Turn, units: u16, vehicles: u16) -> Result<(), u8> {
 
 /// What the windows of one kind come to.
 struct Plan {
-    map: [u8; MAX_TURNS / 8],
+    map: [u8; MOST_TURNS / 8],
     worth: u32,
 }
 
@@ -90,9 +90,9 @@ struct Plan {
 /// draw is not.
 fn plan<const LARGE: bool>(windows: &[Turn], units: u32) -> Plan {
     let is_own = |window: &Turn| (2 * u32::from(window.groomer) > units) == LARGE;
-    let mut residuals = [0; MAX_TURNS];
+    let mut residuals = [0; MOST_TURNS];
     let residuals = &mut residuals[..windows.len()];
-    let mut order = [0u16; MAX_TURNS];
+    let mut order = [0u16; MOST_TURNS];
     let mut own = 0;
     for (number, window) in windows.iter().enumerate() {
         if is_own(window) {
@@ -105,7 +105,7 @@ fn plan<const LARGE: bool>(windows: &[Turn], units: u32) -> Plan {
     let end = |number: u16| windows[usize::from(number)].end();
     // In turn order among equal ends.
     order.sort_by_key(|&number| end(number));
-    let mut steps = [0u16; MAX_TURNS];
+    let mut steps = [0u16; MOST_TURNS];
     let mut made = 0;
     for stretch in order.chunk_by(|&a, &b| end(a) == end(b)) {
         // A step may change what is left of the others by different parts, so
@@ -117,7 +117,7 @@ fn plan<const LARGE: bool>(windows: &[Turn], units: u32) -> Plan {
         }
     }
     let mut selection = Selection::new(units);
-    let mut map = [0; MAX_TURNS / 8];
+    let mut map = [0; MOST_TURNS / 8];
     let own = (0..windows.len()).filter(|&number| is_own(&windows[number]));
     for number in steps[..made].iter().rev().map(|&step| usize::from(step)) {
         if selection.add(&windows[number]) {

@@ -19,14 +19,14 @@ pub fn check(sheet: &[u8], board: &[u8]) -> Result<Sums, u8> {
     let mut turns = no_turns();
     let header = parse(sheet, &mut turns)?;
     let turns = &turns[..usize::from(header.turns)];
-    let board = view(board).ok_or(refusal::BAD_BOARD)?;
+    let board = view(board).ok_or(refusal::MALFORMED_BOARD)?;
     if board.turns != turns.len() {
-        return Err(refusal::BAD_BOARD);
+        return Err(refusal::MALFORMED_BOARD);
     }
     let worth = check_choice(turns, board.map)?;
     let (tally, ceiling) = check_steps(turns, board.steps)?;
     if board.tally != tally || board.worth != worth || worth < tally {
-        return Err(refusal::BAD_SUMS);
+        return Err(refusal::WRONG_SUMS);
     }
     Ok(Sums {
         tally,
@@ -62,10 +62,10 @@ fn check_steps(turns: &[Turn], steps: &[u8]) -> Result<(u32, u32), u8> {
     for Step { turn, amount } in each_step(steps) {
         from = columns.first_open(from);
         let place = places[..turns.len()].get(usize::from(turn));
-        let at = usize::from(*place.ok_or(refusal::BAD_STEP)?);
+        let at = usize::from(*place.ok_or(refusal::WRONG_STEP)?);
         let left = columns.residual(at);
         if left <= 0 || left != i32::from(amount) || columns.is_any_earlier(from, at) {
-            return Err(refusal::BAD_STEP);
+            return Err(refusal::WRONG_STEP);
         }
         tally += u32::from(amount);
         ceiling += columns.charge::<true>(from, at, left) * u32::from(amount);

@@ -3,7 +3,7 @@
 use super::refusal;
 use super::turns::{judge_counts, Turn};
 use super::write::{key_of, write_keys};
-use crate::limits::{MAX_TURNS, MAX_WORTH};
+use crate::limits::{MOST_SEED, MOST_TURNS, MOST_WORTH};
 
 /// One less than a power of two, so that a remainder takes no division.
 const MODULUS: u32 = (1 << 31) - 1;
@@ -21,15 +21,15 @@ pub fn draw(
     turns: u32,
     out: &mut [u8],
 ) -> Result<usize, u8> {
-    if seed == 0 || seed >= u64::from(MODULUS) {
+    if !(1..=MOST_SEED).contains(&seed) {
         return Err(refusal::BAD_SEED);
     }
     judge_counts(groomers, slopes)?;
-    if turns as usize > MAX_TURNS {
+    if turns as usize > MOST_TURNS {
         return Err(refusal::TOO_MANY_TURNS);
     }
     let mut draws = Draws(seed as u32);
-    let mut keys = [0; MAX_TURNS];
+    let mut keys = [0; MOST_TURNS];
     let keys = &mut keys[..turns as usize];
     for key in keys.iter_mut() {
         *key = key_of(&Turn {
@@ -37,7 +37,7 @@ pub fn draw(
             groomer: 1 + draws.below(groomers),
             start: draws.below(STARTS),
             length: length_of(draws.below(100)),
-            worth: 1 + draws.below(u32::from(MAX_WORTH)),
+            worth: 1 + draws.below(u32::from(MOST_WORTH)),
             driver: 0,
         });
     }

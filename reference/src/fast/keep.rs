@@ -4,12 +4,12 @@ use super::refusal;
 use super::sheet::{fields_len, map_fits, no_turns, parse, parse_header, MAGIC};
 use super::sheet::{HEADER_LEN, MOST_LEN};
 use super::turns::Turn;
-use crate::limits::{FIELDS, MAX_TURNS};
+use crate::limits::{MOST_TURNS, NUMBERS_PER_TURN};
 
 const KEPT_MAGIC: [u8; 3] = *b"GRC";
 
 /// Bytes of each field.
-const WIDTHS: [usize; FIELDS] = [1, 1, 2, 2, 2, 1];
+const WIDTHS: [usize; NUMBERS_PER_TURN] = [1, 1, 2, 2, 2, 1];
 
 /// Writes the kept form of a sheet, which is as long as the sheet, and gives
 /// its length.
@@ -44,12 +44,12 @@ pub fn keep(sheet: &[u8], kept: &mut [u8]) -> Result<usize, u8> {
 pub fn restore(kept: &[u8], sheet: &mut [u8]) -> Result<usize, u8> {
     let (header, rest) = parse_header(kept, KEPT_MAGIC)?;
     let turns = usize::from(header.turns);
-    if turns > MAX_TURNS {
+    if turns > MOST_TURNS {
         return Err(refusal::TOO_MANY_TURNS);
     }
     let (maps, columns) = rest.split_at_checked(turns).ok_or(refusal::TRUNCATED)?;
     if !maps_fit(maps) {
-        return Err(refusal::BAD_FIELD_MAP);
+        return Err(refusal::BAD_MAP);
     }
     let wanted = maps.iter().map(|&map| fields_len(map)).sum();
     if columns.len() < wanted {
@@ -63,7 +63,7 @@ pub fn restore(kept: &[u8], sheet: &mut [u8]) -> Result<usize, u8> {
     built[..3].copy_from_slice(&MAGIC);
     built[3..HEADER_LEN].copy_from_slice(&kept[3..HEADER_LEN]);
     let mut places = column_starts(maps);
-    let mut values = [0; FIELDS];
+    let mut values = [0; NUMBERS_PER_TURN];
     let mut at = HEADER_LEN;
     for &map in maps {
         built[at] = map;
@@ -94,8 +94,8 @@ fn maps_fit(maps: &[u8]) -> bool {
 }
 
 /// Where each field's column begins behind the maps.
-fn column_starts(maps: &[u8]) -> [usize; FIELDS] {
-    let mut sizes = [0; FIELDS];
+fn column_starts(maps: &[u8]) -> [usize; NUMBERS_PER_TURN] {
+    let mut sizes = [0; NUMBERS_PER_TURN];
     for &map in maps {
         for (field, size) in sizes.iter_mut().enumerate() {
             *size += WIDTHS[field] * usize::from(map >> field & 1);

@@ -7,7 +7,7 @@ use super::check::check;
 use super::refusal;
 use super::sheet::{no_turns, parse};
 use super::turns::Turn;
-use crate::limits::{DRIVE_OVER, LAST_END, MAX_DELAY, MAX_GROOMERS, MAX_SLOPES};
+use crate::limits::{DRIVE_OVER, LAST_END, MOST_DELAY, MOST_GROOMERS, MOST_SLOPES, NO_TURN};
 
 /// What a groomer has done, and the turn in its hand.
 #[derive(Clone, Copy, Debug, Default, PartialEq, Eq)]
@@ -19,13 +19,11 @@ pub struct Standing {
     pub turn: u16,
 }
 
-pub const NO_TURN: u16 = u16::MAX;
-
 /// A board ready to be played: its chosen turns by groomer and start.
 struct Game {
     groomers: usize,
     /// One turn a slope can be chosen.
-    rounds: [Work; MAX_SLOPES as usize],
+    rounds: [Work; MOST_SLOPES as usize],
     count: usize,
 }
 
@@ -66,8 +64,8 @@ impl Game {
         let mut turns = no_turns();
         let header = parse(sheet, &mut turns)?;
         let turns = &turns[..usize::from(header.turns)];
-        let board = view(board).ok_or(refusal::BAD_BOARD)?;
-        if delays.len() != turns.len() || delays.iter().any(|&delay| delay > MAX_DELAY) {
+        let board = view(board).ok_or(refusal::MALFORMED_BOARD)?;
+        if delays.len() != turns.len() || delays.iter().any(|&delay| delay > MOST_DELAY) {
             return Err(refusal::BAD_DELAYS);
         }
         let groomers = usize::from(header.groomers);
@@ -76,7 +74,7 @@ impl Game {
         }
         let mut game = Game {
             groomers,
-            rounds: [Work::default(); MAX_SLOPES as usize],
+            rounds: [Work::default(); MOST_SLOPES as usize],
             count: 0,
         };
         for (number, (turn, &delay)) in turns.iter().zip(delays).enumerate() {
@@ -112,7 +110,7 @@ pub fn play(sheet: &[u8], board: &[u8], delays: &[u16], list: &mut [Standing]) -
         ..FRESH
     });
     // By groomer, the first minute in which its next turn can begin.
-    let mut free = [0; MAX_GROOMERS as usize];
+    let mut free = [0; MOST_GROOMERS as usize];
     for work in game.rounds() {
         let standing = &mut list[work.groomer()];
         let from = work.start().max(free[work.groomer()]);
@@ -153,7 +151,7 @@ pub fn play_by_minute(
     let rounds = game.rounds();
     let list = &mut list[..game.groomers];
     list.fill(FRESH);
-    let mut places = [Place::default(); MAX_GROOMERS as usize];
+    let mut places = [Place::default(); MOST_GROOMERS as usize];
     for (groomer, place) in places[..game.groomers].iter_mut().enumerate() {
         place.next = rounds.partition_point(|work| work.groomer() < groomer);
         place.end = rounds.partition_point(|work| work.groomer() <= groomer);

@@ -9,7 +9,7 @@ pub const BAD_COUNTS: u8 = 3;
 /// The sheet has over 400 turns.
 pub const TOO_MANY_TURNS: u8 = 4;
 /// A record's map has an unknown bit, or the first record lacks a field.
-pub const BAD_FIELD_MAP: u8 = 5;
+pub const BAD_MAP: u8 = 5;
 /// A turn's slope is not one of the sheet's.
 pub const BAD_SLOPE: u8 = 6;
 /// A turn's groomer is not one of the sheet's.
@@ -23,17 +23,17 @@ pub const TRAILING_BYTES: u8 = 10;
 /// The caller's buffer cannot take the answer.
 pub const BUFFER_TOO_SMALL: u8 = 11;
 /// The board's bytes do not have the shape of a board (for this sheet).
-pub const BAD_BOARD: u8 = 12;
+pub const MALFORMED_BOARD: u8 = 12;
 /// Two chosen turns are in conflict.
 pub const CHOSEN_CONFLICT: u8 = 13;
 /// A turn could still be added to the chosen ones.
 pub const NOT_MAXIMAL: u8 = 14;
 /// A step names a wrong turn or a wrong amount, or comes too early.
-pub const BAD_STEP: u8 = 15;
+pub const WRONG_STEP: u8 = 15;
 /// The steps leave a turn open.
 pub const TURN_LEFT_OPEN: u8 = 16;
 /// The board's tally or worth is wrong, or the worth is less than the tally.
-pub const BAD_SUMS: u8 = 17;
+pub const WRONG_SUMS: u8 = 17;
 /// A turn table does not consist of whole turns.
 pub const PARTIAL_TURN: u8 = 18;
 /// A turn's driver is above 40.

@@ -2,12 +2,12 @@
 
 use super::refusal;
 use super::turns::{judge_counts, Turn};
-use crate::limits::{FIELDS, MAX_SHORT_TURNS, MAX_TURNS};
+use crate::limits::{MOST_SHORT_TURNS, MOST_TURNS, NUMBERS_PER_TURN};
 
 pub const MAGIC: [u8; 3] = *b"GRM";
 pub const HEADER_LEN: usize = 7;
 /// Bytes of the longest sheet: a map and nine bytes for each turn.
-pub const MOST_LEN: usize = HEADER_LEN + 10 * MAX_TURNS;
+pub const MOST_LEN: usize = HEADER_LEN + 10 * MOST_TURNS;
 
 const HAS_SLOPE: u8 = 1;
 const HAS_GROOMER: u8 = 1 << 1;
@@ -28,10 +28,10 @@ pub struct Header {
 }
 
 /// Room for the turns of any accepted sheet.
-pub type TurnArray = [Turn; MAX_TURNS];
+pub type TurnArray = [Turn; MOST_TURNS];
 
 pub fn no_turns() -> TurnArray {
-    [Turn::default(); MAX_TURNS]
+    [Turn::default(); MOST_TURNS]
 }
 
 /// Reads a sheet into a turn table. The table is written only on success, and
@@ -42,19 +42,22 @@ pub fn read(sheet: &[u8], table: &mut [u16]) -> Result<Header, u8> {
     put_table(header, &turns, table)
 }
 
-/// Reads a sheet of at most [`MAX_SHORT_TURNS`] turns into a turn table.
+/// Reads a sheet of at most [`MOST_SHORT_TURNS`] turns into a turn table.
 pub fn read_short(sheet: &[u8], table: &mut [u16]) -> Result<Header, u8> {
-    let mut turns = [Turn::default(); MAX_SHORT_TURNS];
+    let mut turns = [Turn::default(); MOST_SHORT_TURNS];
     let header = parse_within(sheet, &mut turns, refusal::TOO_MANY_FOR_SCREEN)?;
     put_table(header, &turns, table)
 }
 
 fn put_table(header: Header, turns: &[Turn], table: &mut [u16]) -> Result<Header, u8> {
     let count = usize::from(header.turns);
-    if table.len() < count * FIELDS {
+    if table.len() < count * NUMBERS_PER_TURN {
         return Err(refusal::BUFFER_TOO_SMALL);
     }
-    for (place, turn) in table.chunks_exact_mut(FIELDS).zip(&turns[..count]) {
+    for (place, turn) in table
+        .chunks_exact_mut(NUMBERS_PER_TURN)
+        .zip(&turns[..count])
+    {
         place.copy_from_slice(&turn.fields());
     }
     Ok(header)
@@ -111,7 +114,7 @@ pub fn parse_header(sheet: &[u8], magic: [u8; 3]) -> Result<(Header, &[u8]), u8>
 pub fn parse_record(bytes: &[u8], previous: Option<Turn>) -> Result<(Turn, &[u8]), u8> {
     let (&map, after) = bytes.split_first().ok_or(refusal::TRUNCATED)?;
     if !map_fits(map, previous.is_none()) {
-        return Err(refusal::BAD_FIELD_MAP);
+        return Err(refusal::BAD_MAP);
     }
     let size = fields_len(map);
     if after.len() < size {

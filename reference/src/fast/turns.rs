@@ -2,7 +2,7 @@
 
 use super::refusal;
 use crate::limits::{
-    DRIVE_OVER, FIELDS, LAST_END, MAX_DRIVER, MAX_GROOMERS, MAX_SLOPES, MAX_WORTH,
+    DRIVE_OVER, LAST_END, MOST_DRIVER, MOST_GROOMERS, MOST_SLOPES, MOST_WORTH, NUMBERS_PER_TURN,
 };
 
 /// One turn; the fields stand in the order of the turn table.
@@ -30,7 +30,7 @@ impl Turn {
         }
     }
 
-    pub fn fields(&self) -> [u16; FIELDS] {
+    pub fn fields(&self) -> [u16; NUMBERS_PER_TURN] {
         [
             self.slope,
             self.groomer,
@@ -82,10 +82,10 @@ impl Turn {
         if self.length == 0 || self.end() > LAST_END {
             return Err(refusal::BAD_TIME);
         }
-        if self.worth == 0 || self.worth > MAX_WORTH {
+        if self.worth == 0 || self.worth > MOST_WORTH {
             return Err(refusal::BAD_WORTH);
         }
-        if self.driver > MAX_DRIVER {
+        if self.driver > MOST_DRIVER {
             return Err(refusal::BAD_DRIVER);
         }
         Ok(())
@@ -94,8 +94,8 @@ impl Turn {
 
 /// Judges the two counts of a sheet's header.
 pub fn judge_counts(groomers: u32, slopes: u32) -> Result<(), u8> {
-    let groomers_fit = (1..=MAX_GROOMERS).contains(&groomers);
-    let slopes_fit = (1..=MAX_SLOPES).contains(&slopes);
+    let groomers_fit = (1..=MOST_GROOMERS).contains(&groomers);
+    let slopes_fit = (1..=MOST_SLOPES).contains(&slopes);
     if groomers_fit && slopes_fit {
         Ok(())
     } else {
@@ -108,16 +108,16 @@ pub fn judge_counts(groomers: u32, slopes: u32) -> Result<(), u8> {
 /// of conflict.
 pub struct Selection {
     /// By slope number; most turns that do not fit fail on this.
-    slope_taken: [bool; MAX_SLOPES as usize + 1],
-    turns: [Turn; MAX_SLOPES as usize],
+    slope_taken: [bool; MOST_SLOPES as usize + 1],
+    turns: [Turn; MOST_SLOPES as usize],
     count: usize,
 }
 
 impl Selection {
     pub fn new() -> Selection {
         Selection {
-            slope_taken: [false; MAX_SLOPES as usize + 1],
-            turns: [Turn::default(); MAX_SLOPES as usize],
+            slope_taken: [false; MOST_SLOPES as usize + 1],
+            turns: [Turn::default(); MOST_SLOPES as usize],
             count: 0,
         }
     }

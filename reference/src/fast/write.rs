@@ -3,22 +3,22 @@
 use super::refusal;
 use super::sheet::{HEADER_LEN, MAGIC, MOST_LEN};
 use super::turns::{judge_counts, Turn};
-use crate::limits::{FIELDS, MAX_TURNS};
+use crate::limits::{MOST_TURNS, NUMBERS_PER_TURN};
 
 /// Writes the sheet of a table's turns, sorted by their values, and gives its
 /// length.
 pub fn write(groomers: u32, slopes: u32, table: &[u16], out: &mut [u8]) -> Result<usize, u8> {
-    if !table.len().is_multiple_of(FIELDS) {
+    if !table.len().is_multiple_of(NUMBERS_PER_TURN) {
         return Err(refusal::PARTIAL_TURN);
     }
     judge_counts(groomers, slopes)?;
-    let count = table.len() / FIELDS;
-    if count > MAX_TURNS {
+    let count = table.len() / NUMBERS_PER_TURN;
+    if count > MOST_TURNS {
         return Err(refusal::TOO_MANY_TURNS);
     }
-    let mut keys = [0; MAX_TURNS];
+    let mut keys = [0; MOST_TURNS];
     let keys = &mut keys[..count];
-    for (key, row) in keys.iter_mut().zip(table.chunks_exact(FIELDS)) {
+    for (key, row) in keys.iter_mut().zip(table.chunks_exact(NUMBERS_PER_TURN)) {
         let turn = Turn::of(row);
         turn.judge(groomers, slopes)?;
         *key = key_of(&turn);
@@ -52,7 +52,7 @@ pub fn key_of(turn: &Turn) -> u64 {
 
 /// Where each field stands in a key: how far to shift it down, its bits, and
 /// the bytes that it takes in a record.
-const PLACES: [(u32, u64, usize); FIELDS] = [
+const PLACES: [(u32, u64, usize); NUMBERS_PER_TURN] = [
     (56, 0xFF, 1),
     (50, 0x3F, 1),
     (40, 0x3FF, 2),

@@ -1,10 +1,12 @@
-//! Prints how much stack each exported function needs, in bytes, as read off
-//! the compiled library: its own frame with the return address, and the
-//! deepest of the library's functions below it. What memset and memcpy of the
-//! C library need comes on top.
+//! Prints how much stack each exported function needs, in bytes, as the header
+//! has it, read off the compiled library: the arguments that are not in
+//! registers, its own frame with the return address,
+//! and the deepest of the library's functions below it, with what that one
+//! writes below the stack pointer. What memset and memcpy of the C library need
+//! comes on top.
 //!
 //! ```text
-//! SLOPEBOARD_LIB_DIR=$PWD/target/staticlib cargo run --release --manifest-path reference/bench/Cargo.toml --bin stack
+//! SLOPEBOARD_LIB_DIR=$PWD/target/staticlib cargo run --release -p bench --bin stack
 //! ```
 
 use std::collections::{BTreeMap, BTreeSet};
@@ -15,6 +17,8 @@ use std::process::{Command, ExitCode};
 struct Function {
     /// Bytes that it takes itself, with the address it returns to.
     frame: usize,
+    /// Bytes that it uses below the stack pointer; the ABI grants 128.
+    below: usize,
     /// The functions whose addresses it uses.
     callees: Vec<String>,
 }
@@ -40,6 +44,17 @@ fn taken(line: &str) -> usize {
     }
 }
 
+/// The bytes below the stack pointer that an instruction uses.
+fn used_below(line: &str) -> usize {
+    let Some((front, _)) = line.split_once("(%rsp") else {
+        return 0;
+    };
+    let Some((_, digits)) = front.rsplit_once("-0x") else {
+        return 0;
+    };
+    usize::from_str_radix(digits, 16).unwrap_or(0)
+}
+
 /// The function that a relocation names, if it names one.
 fn named(line: &str) -> Option<String> {
     let (_, rest) = line.split_once("R_X86_64_")?;
@@ -58,6 +73,7 @@ fn functions(listing: &str) -> BTreeMap<String, Function> {
             found.entry(name.clone()).or_default().frame = 8;
         } else if let Some(function) = found.get_mut(&name) {
             function.frame += taken(line);
+            function.below = function.below.max(used_below(line));
             function.callees.extend(named(line));
         }
     }
@@ -96,7 +112,8 @@ fn circle(found: &BTreeMap<String, Function>, name: &str) -> BTreeSet<String> {
 /// for every level.
 fn need(found: &BTreeMap<String, Function>, name: &str) -> usize {
     if !found.contains_key(name) {
-        return 0;
+        // The address that a function of the C library returns to; other names are of data.
+        return if name.starts_with("mem") { 8 } else { 0 };
     }
     let circle = circle(found, name);
     let in_circle = || circle.iter().map(|name| &found[name]);
@@ -106,8 +123,19 @@ fn need(found: &BTreeMap<String, Function>, name: &str) -> usize {
         false => 1,
     };
     let callees = in_circle().flat_map(|function| &function.callees);
-    let below = callees.filter(|callee| !circle.contains(*callee));
-    levels * frames + below.map(|callee| need(found, callee)).max().unwrap_or(0)
+    let others = callees.filter(|callee| !circle.contains(*callee));
+    let below = others.map(|callee| need(found, callee));
+    let own = in_circle().map(|function| function.below);
+    levels * frames + below.chain(own).max().unwrap_or(0)
+}
+
+/// Bytes of the arguments that the caller puts on the stack, since six go into
+/// registers: playing has eight.
+fn arguments(name: &str) -> usize {
+    match name {
+        "slopeboard_play" => 16,
+        _ => 0,
+    }
 }
 
 fn main() -> ExitCode {
@@ -122,7 +150,9 @@ fn main() -> ExitCode {
     };
     let found = functions(&String::from_utf8_lossy(&output.stdout));
     for name in found.keys().filter(|name| name.starts_with("slopeboard_")) {
-        println!("{name:20}{:>8}", need(&found, name));
+        let need = need(&found, name) + arguments(name);
+        let name = name.replace("slopeboard_", "SLOPEBOARD_STACK_");
+        println!("#define {} {need}", name.to_uppercase());
     }
     if found.is_empty() {
         eprintln!("no function in {archive}");
