@@ -9,7 +9,6 @@
 
 pub mod boards;
 pub mod fast;
-pub mod floor;
 pub mod gen;
 pub mod halls;
 pub mod kept;

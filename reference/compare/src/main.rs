@@ -15,6 +15,7 @@ mod charge;
 mod check;
 mod choice;
 mod draw;
+mod floor;
 mod foreign;
 mod improve;
 mod keep;
@@ -55,11 +56,12 @@ const ENTRIES: [(fn(u64) -> bool, u64); 17] = [
     (charge::run, 2041),
 ];
 
-/// All entries once, on the inputs of the gate.
+/// All entries once, on the inputs of the gate, and the drawn sheets.
 fn once() -> bool {
-    ENTRIES
+    let good = ENTRIES
         .iter()
-        .fold(true, |good, (run, seed)| run(*seed) & good)
+        .fold(true, |good, (run, seed)| run(*seed) & good);
+    floor::run() & good
 }
 
 /// All entries again and again, on ever other inputs, until the time is over
