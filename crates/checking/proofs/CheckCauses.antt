@@ -1,4 +1,4 @@
--- The check gives exactly the number of the first cause in its order. Assumes nothing.
+-- The check gives exactly the number of the first cause in its order, and passes a board exactly where none is there. Assumes nothing.
 use Prim.Native.Nat.{ℕ, _+_, _<_, _≤_}
 use mathlib.Core.Path.{_≡_, refl, sym, _∙_}
 use mathlib.Core.Logic.{_↔_, _⊎_, inl, inr, _≢_}
@@ -9,7 +9,8 @@ use native.Mathlib.Decide.{ℕ-discrete, decLt}
 use lib.Dec.{eqb}
 use borrow.Author.Tests.{eqb-false, ne-eqb, not-true, not-false}
 use Rattle.refusal.specs.Cause.{firstOf, There, here, later}
-use Rattle.refusal.proofs.Order.{first-stops, first-goes, none-given}
+use Rattle.refusal.proofs.Order.{first-stops, first-goes, none-given, none-iff}
+use Rattle.wire.specs.Number.{Bytes}
 use Rattle.model.specs.Turns.{Turns, conflict, PositiveLengths}
 use Rattle.model.specs.Steps.{isOpen, initial, afterSteps, tally}
 use Rattle.lists.specs.Lists.{every}
@@ -21,9 +22,10 @@ use Rattle.model.proofs.Filled.{fits-apart}
 use Rattle.model.proofs.Readings.{independent-is, maximal-is, allRight-is, noneOpen-is, sums-is}
 use Rattle.sheet.specs.Read.{turnCount, sheetCauses}
 use Rattle.sheet.specs.Accepted
-use Rattle.sheet.specs.Accepted.{SheetCause, placeOf, FirstAmong}
+use Rattle.sheet.specs.Accepted.{Accepted, SheetCause, placeOf, FirstAmong}
 use Rattle.sheet.proofs.Causes.{refused-iff, first-same, cause-there}
 use Rattle.sheet.proofs.Readings.{sheet-numbered}
+use Rattle.sheet.proofs.Accepting.{accepted-iff}
 use Rattle.board.specs.Board.{boardTurns, boardSteps, boardTally, boardWorth, boardChoice, writtenSteps}
 use Rattle.opening.specs.Open.{malformed, openOf, OpenCause}
 use Rattle.refusal.specs.Number.{malformedBoard}
@@ -31,8 +33,8 @@ use Rattle.opening.proofs.Openings.{open-refused, shut}
 use Rattle.opening.proofs.OpenCauses.{open-refused-iff}
 use Rattle.problem.specs.Problem.{sheetTurns}
 use Rattle.problem.proofs.Posed.{sheet-lengths}
-use Rattle.checking.specs.Check.{choiceCauses, stepCauses, ruleCauses, sumCauses, boardCauses, checkCauses, checkOf, BoardCause, no-board, other-count, two-conflict, room-left, step-wrong, turn-open, sums-differ, CheckCause, of-sheet, of-board, FirstCheckCause}
-use Rattle.checking.proofs.Passing.{check-number}
+use Rattle.checking.specs.Check.{choiceCauses, stepCauses, ruleCauses, sumCauses, boardCauses, checkCauses, checkOf, BoardCause, no-board, other-count, two-conflict, room-left, step-wrong, turn-open, sums-differ, CheckCause, of-sheet, of-board, FirstCheckCause, Passes, BoardKeeps}
+use Rattle.checking.proofs.Passing.{check-number, board-numbered, passes-parts, parts-pass}
 
 module _ (T : Turns) (lengths : PositiveLengths T) (b : List ℕ) where
   -- ---- each test that fails, in words
@@ -195,3 +197,31 @@ module _ (s b : List ℕ) where
   -- the check gives k exactly where the first cause has number k
   pub check-refused-iff : (k : ℕ) → (k ≡ 0 → ⊥) → (checkOf s b .refusal ≡ k) ↔ FirstCheckCause s b k
   check-refused-iff k z = (λ e. given k z (sym (check-number s b) ∙ e), λ f. check-number s b ∙ found k z f)
+
+  -- ---- no cause
+
+  -- of a sheet that is not refused: the rules are kept exactly where no cause to refuse the board is there
+  keeps-none : firstOf (sheetCauses s) ≡ 0 → BoardKeeps s b ↔ ((k r : ℕ) → BoardCause (sheetTurns s) b k r → ⊥)
+  keeps-none e = (
+    λ w k r c. listed .0 (sym (after-sheet e) ∙ (sym (check-number s b) ∙ parts-pass s b e w)) k r (cause-board (sheetTurns s) (sheet-lengths s e) b c),
+    λ n. passes-parts s b (check-number s b ∙ (after-sheet e ∙ listed .1 (λ k r h. n k r (board-cause (sheetTurns s) (sheet-lengths s e) b h)))) .1,
+  )
+    where
+      listed : (firstOf (boardCauses (sheetTurns s) b) ≡ 0) ↔ ((k r : ℕ) → There (boardCauses (sheetTurns s) b) k r → ⊥)
+      listed = none-iff (boardCauses (sheetTurns s) b) (board-numbered (sheetTurns s) b)
+
+  -- a board keeps the rules for an accepted sheet exactly where no cause from 12 to 17 is there
+  pub keeps-no-cause : Bytes s → Accepted s → BoardKeeps s b ↔ ((k r : ℕ) → BoardCause (sheetTurns s) b k r → ⊥)
+  keeps-no-cause y a = keeps-none (accepted-iff y .1 a)
+
+  -- for every list of numbers: the check gives 0 exactly where no cause is there, the sheet's or the board's
+  pub passes-no-cause : Passes s b ↔ ((k r : ℕ) → CheckCause s b k r → ⊥)
+  passes-no-cause = (λ p. passed (passes-parts s b p .0) (passes-parts s b p .1), λ n. go n (ℕ-discrete (firstOf (sheetCauses s)) 0))
+    where
+      passed : firstOf (sheetCauses s) ≡ 0 → BoardKeeps s b → (k r : ℕ) → CheckCause s b k r → ⊥
+      passed e w k r (of-sheet c) = none e c
+      passed e w k r (of-board {r = q} c) = keeps-none e .0 w k q c
+
+      go : ((k r : ℕ) → CheckCause s b k r → ⊥) → Dec (firstOf (sheetCauses s) ≡ 0) → Passes s b
+      go n (yes e) = parts-pass s b e (keeps-none e .1 (λ k r c. n k (placeOf (turnCount s) 1 + r) (of-board c)))
+      go n (no m) = let w = refused-iff s (firstOf (sheetCauses s)) m .0 refl in absurd (n (firstOf (sheetCauses s)) (w .place) (of-sheet (w .cause)))

@@ -8,7 +8,7 @@ use native.Mathlib.Omega.{arith}
 use lib.Dec.{eqb}
 use borrow.Author.Tests.{eqb-true, eq-eqb, not-false}
 use Rattle.refusal.specs.Cause.{firstOf}
-use Rattle.refusal.proofs.Order.{first-goes, clear-cons, clear-append}
+use Rattle.refusal.proofs.Order.{numbered, numbered-append, first-goes, clear-cons, clear-append}
 use Rattle.wire.specs.Number.{Bytes}
 use Rattle.model.specs.Turns.{Turns}
 use Rattle.model.specs.Steps.{initial, afterSteps}
@@ -42,6 +42,16 @@ answer-number f t w c = go (eqb f 0) refl
 pub check-number : (s b : List ℕ) → checkOf s b .refusal ≡ firstOf (checkCauses s b)
 unfolding checkOf
 check-number s b = answer-number (firstOf (checkCauses s b)) _ _ _
+
+-- every number of the check's order is above 0
+
+pub board-numbered : (T : Turns) (b : List ℕ) → numbered (boardCauses T b) ≡ true
+unfolding boardCauses ruleCauses choiceCauses stepCauses sumCauses
+board-numbered T b = refl
+
+pub check-numbered : (s b : List ℕ) → numbered (checkCauses s b) ≡ true
+unfolding checkCauses
+check-numbered s b = numbered-append (sheetCauses s) (boardCauses (sheetTurns s) b) (sheet-numbered s) (board-numbered (sheetTurns s) b)
 
 -- ---- a board without a cause
 

@@ -31,6 +31,7 @@ use Rattle.problem.specs.Problem.{sheetTurns}
 use Rattle.problem.proofs.Posed.{sheet-count, sheet-lengths}
 use Rattle.checking.specs.Check.{Passes, BoardKeeps, checkOf, checked}
 use Rattle.checking.proofs.Passing.{formed-board, parts-pass, passes-iff, passes-answer, passes-promises}
+use Rattle.checking.proofs.CheckCauses.{keeps-no-cause, passes-no-cause}
 use Rattle.planning.specs.Plan.{planCauses, plannedBoard, planOf}
 use Rattle.planning.proofs.PlanCauses.{plan-number, plan-accepted-iff}
 use Rattle.planning.proofs.Planned.{planned-back}
@@ -90,6 +91,8 @@ claim s b y =
     record {
       reading = λ a. let r = sheet-reads garage garage-sound s (a .counts) (a .turns) (a .sheet) in record { counts = r .1; turns = r .2; count = r .3 };
       exactly = passes-iff s b y;
+      keeps-no-cause = keeps-no-cause s b y;
+      passes-no-cause = passes-no-cause s b;
       answers = passes-answer s b;
       ours = λ a. planned-passes s (accepted-iff y .1 a);
       plans = plan-accepted-iff y;

@@ -1,4 +1,4 @@
--- The worked cases, through the definitions that the entries' contracts cite: one table (document 01: the starred cases; requests R-1, R-2, R-5, R-7). Assumes nothing.
+-- The starred cases, through the definitions that the entries' contracts cite: one table, in document 01's order, with today's values (document 01: the starred cases; requests R-1, R-2, R-5, R-7). Assumes nothing.
 use Prim.Native.Nat.{ℕ}
 use mathlib.Core.Path.{_≡_}
 use mathlib.Core.List.{List, [], _∷_, _++_}
@@ -14,11 +14,10 @@ use Rattle.sheet.specs.Read.{readOf, outcome, readRefused}
 use Rattle.problem.specs.Problem.{sheetTurns}
 use Rattle.writing.specs.Write.{writeOf}
 use Rattle.opening.specs.Open.{openOf, stepsPart}
-use Rattle.opening.specs.Chosen.{counted, countOf, turnChosen}
 use Rattle.checking.specs.Check.{checkOf, checked}
 use Rattle.planning.specs.Plan.{planOf}
 use Rattle.listing.specs.List.{listOf}
-use Rattle.claim.specs.Shift.{shift, shiftTable, shiftWritten, shiftBoard, shiftSteps, shiftListing, wrongWorth, leavesRoom, touchingTurns, header, emptyBoard, lateTurn, drivenTurn, drivenTable, undrivenTurn, drivenShift, twoTurns}
+use Rattle.claim.specs.Shift.{shift, shiftTable, shiftWritten, shiftBoard, shiftSteps, shiftListing, header, emptyBoard, lateTurn, wrongWorth, oneAndThree}
 
 -- lent places hold 9 before
 abbrev pub lent : ℕ → List ℕ
@@ -34,54 +33,51 @@ shiftCounts = record { groomers = 2; slopes = 3 }
 
 -- each case as an equation
 pub record WorkedCases : Type 0 where
-  -- the shift, through every entry
+  -- the shift: its sheet is read; since R-5 each turn has a driver, here 0
   pub shift-read : readOf shift (lent 26) ≡ outcome (record { refusal = 0; groomers = 2; slopes = 3; turns = 4 }) (shiftTable ++ lent 2)
+  -- the shift: its turns are written, since R-1 in another order
   pub shift-written : writeOf shiftCounts shiftTable (lent 40) ≡ record { refusal = 0; bytes = 38; lent = shiftWritten ++ lent 2 }
-  pub shift-planned : planOf shift (lent 33) ≡ record { refusal = 0; bytes = 28; lent = shiftBoard ++ lent 5 }
-  pub shift-opened : openOf shiftBoard ≡ 0
-  pub shift-steps : stepsPart shiftBoard ≡ shiftSteps
-  pub shift-counted : countOf shiftBoard ≡ counted 0 2
-  pub shift-chosen : turnChosen shiftBoard 1 ≡ true
-  pub shift-not-chosen : turnChosen shiftBoard 0 ≡ false
-  pub shift-no-turn : turnChosen shiftBoard 4 ≡ false
-  pub shift-checked : checkOf shift shiftBoard ≡ checked 0 240 240 340
-  -- its first step leaves 0, 50, -20 and 90; going back over its steps chooses 3 and 1, and filling adds none: turn 2 ends just where turn 3 starts
+  -- the shift: the first step leaves 0, 50, -20 and 90
   pub shift-stepped : afterStep shiftTurns (initial shiftTurns) (record { turn = 0; amount = 100 }) ≡ pos 0 ∷ pos 50 ∷ negsuc 19 ∷ pos 90 ∷ []
+  -- the shift: going back over the steps chooses 3 and 1
   pub shift-gone-back : goBack shiftTurns (steps shiftTurns) ≡ false ∷ true ∷ false ∷ true ∷ []
+  -- the shift: filling adds none since R-2, for turn 2 ends just where turn 3 starts
   pub shift-filled : choice shiftTurns ≡ false ∷ true ∷ false ∷ true ∷ []
+  -- the shift: its board, since R-2 with map 0A and worth 240
+  pub shift-planned : planOf shift (lent 33) ≡ record { refusal = 0; bytes = 28; lent = shiftBoard ++ lent 5 }
+  -- the shift: its board opens
+  pub shift-opened : openOf shiftBoard ≡ 0
+  -- the shift: the three steps as they stand in its board
+  pub shift-steps : stepsPart shiftBoard ≡ shiftSteps
+  -- the shift: its board passes, since R-7 with the ceiling 340
+  pub shift-checked : checkOf shift shiftBoard ≡ checked 0 240 240 340
+  -- the shift: its listing, since R-2 without turn 2, since R-7 with the ceiling
   pub shift-listed : listOf shift (lent 102) ≡ record { refusal = 0; bytes = 101; lent = shiftListing ++ lent 1 }
-  -- no bytes
+  -- no bytes: 1, of the reader, the planner and the check
   pub nothing-read : readOf [] (lent 3) ≡ outcome (readRefused 1) (lent 3)
   pub nothing-planned : planOf [] (lent 3) ≡ record { refusal = 1; bytes = 0; lent = lent 3 }
   pub nothing-checked : checkOf [] shiftBoard ≡ checked 1 0 0 0
-  -- no turns
+  -- a header of no turns: its board has 15 bytes and sums of 0, and passes
   pub empty-read : readOf (header 0 0) [] ≡ outcome (record { refusal = 0; groomers = 2; slopes = 3; turns = 0 }) []
   pub empty-planned : planOf (header 0 0) (lent 16) ≡ record { refusal = 0; bytes = 15; lent = emptyBoard ++ lent 1 }
   pub empty-checked : checkOf (header 0 0) emptyBoard ≡ checked 0 0 0 0
-  -- a header of 400 turns and no record, and one of 401
+  -- the same header with 400 turns: 1
   pub most-read : readOf (header 1 0x90) [] ≡ outcome (readRefused 1) []
   pub most-planned : planOf (header 1 0x90) [] ≡ record { refusal = 1; bytes = 0; lent = [] }
   pub most-checked : checkOf (header 1 0x90) emptyBoard ≡ checked 1 0 0 0
+  -- the same header with 401 turns: 4
   pub many-read : readOf (header 1 0x91) [] ≡ outcome (readRefused 4) []
   pub many-planned : planOf (header 1 0x91) [] ≡ record { refusal = 4; bytes = 0; lent = [] }
   pub many-checked : checkOf (header 1 0x91) emptyBoard ≡ checked 4 0 0 0
-  -- an end at minute 960, and one minute later; worth 60,000, and one more
+  -- start 900 and length 60: accepted
   pub end-read : readOf (lateTurn 60 0 1) (lent 6) ≡ outcome (record { refusal = 0; groomers = 1; slopes = 1; turns = 1 }) (1 ∷ 1 ∷ 900 ∷ 60 ∷ 1 ∷ 0 ∷ [])
+  -- start 900 and length 61: 8
   pub late-read : readOf (lateTurn 61 0 1) (lent 6) ≡ outcome (readRefused 8) (lent 6)
+  -- worth 60,000: accepted
   pub worth-read : readOf (lateTurn 60 0xEA 0x60) (lent 6) ≡ outcome (record { refusal = 0; groomers = 1; slopes = 1; turns = 1 }) (1 ∷ 1 ∷ 900 ∷ 60 ∷ 60000 ∷ 0 ∷ [])
+  -- worth 60,001: 9
   pub dear-read : readOf (lateTurn 60 0xEA 0x61) (lent 6) ≡ outcome (readRefused 9) (lent 6)
-  -- a driver: the greatest, one more, and none, for which a first map of 1F is written
-  pub driver-read : readOf (drivenTurn 40) (lent 6) ≡ outcome (record { refusal = 0; groomers = 1; slopes = 1; turns = 1 }) (drivenTable 40)
-  pub driver-refused : readOf (drivenTurn 41) (lent 6) ≡ outcome (readRefused 19) (lent 6)
-  pub no-driver-read : readOf (drivenTurn 0) (lent 6) ≡ outcome (record { refusal = 0; groomers = 1; slopes = 1; turns = 1 }) (drivenTable 0)
-  pub driver-written : writeOf (record { groomers = 1; slopes = 1 }) (drivenTable 40) (lent 17) ≡ record { refusal = 0; bytes = 17; lent = drivenTurn 40 }
-  pub no-driver-written : writeOf (record { groomers = 1; slopes = 1 }) (drivenTable 0) (lent 17) ≡ record { refusal = 0; bytes = 16; lent = undrivenTurn ++ lent 1 }
-  -- two turns that overlap, on two slopes and two groomers: with one driver the first step takes 100 from both and the second turn alone is chosen; with driver 0 both are
-  pub driven-planned : planOf (drivenShift 7) (lent 24) ≡ record { refusal = 0; bytes = 24; lent = twoTurns 150 150 2 50 }
-  pub driven-checked : checkOf (drivenShift 7) (twoTurns 150 150 2 50) ≡ checked 0 150 150 150
-  pub driven-twice : checkOf (drivenShift 7) (twoTurns 150 250 3 50) ≡ checked 13 0 0 0
-  pub undriven-planned : planOf (drivenShift 0) (lent 24) ≡ record { refusal = 0; bytes = 24; lent = twoTurns 250 250 3 150 }
-  -- other choices with the shift's steps
+  -- the shift's board, but turns 0 and 3 chosen and worth 190: 17
   pub wrong-worth : checkOf shift wrongWorth ≡ checked 17 0 0 0
-  pub leaves-room : checkOf shift leavesRoom ≡ checked 14 0 0 0
-  pub touching-turns : checkOf shift touchingTurns ≡ checked 13 0 0 0
+  -- the shift's board, but turns 1 and 3 alone chosen and worth 240: 14 before R-2, and it passes since
+  pub one-and-three : checkOf shift oneAndThree ≡ checked 0 240 240 340

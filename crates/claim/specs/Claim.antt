@@ -14,7 +14,7 @@ use Rattle.sheet.specs.Read.{countsIn, turnCount, turnsOf}
 use Rattle.sheet.specs.Accepted.{Accepted}
 use Rattle.board.specs.Board.{boardTally, boardWorth, boardLength, boardChoice, writtenSteps}
 use Rattle.problem.specs.Problem.{sheetTurns}
-use Rattle.checking.specs.Check.{Passes, BoardKeeps, checkOf, checked}
+use Rattle.checking.specs.Check.{Passes, BoardKeeps, BoardCause, CheckCause, checkOf, checked}
 use Rattle.planning.specs.Plan.{plannedBoard, planOf}
 
 -- what is read of s, and so what every set of its turns is made of, is what the reading a in words has
@@ -39,7 +39,11 @@ pub record Claim (s b : List ℕ) : Type 0 where
   pub reading : (a : Accepted s) → ReadsAs s a
   -- the check passes b for s exactly if s is accepted and b keeps the rules for it
   pub exactly : Passes s b ↔ (Accepted s × BoardKeeps s b)
-  -- and its answer is then the board's own tally and worth, and the ceiling of its steps
+  -- b keeps the rules for an accepted s exactly if no cause from 12 to 17 to refuse it is there
+  pub keeps-no-cause : Accepted s → BoardKeeps s b ↔ ((k r : ℕ) → BoardCause (sheetTurns s) b k r → ⊥)
+  -- the check gives 0 exactly if no cause to refuse s or b is there
+  pub passes-no-cause : Passes s b ↔ ((k r : ℕ) → CheckCause s b k r → ⊥)
+  -- where b passes, the check's answer is b's own tally and worth, and the ceiling of its steps
   pub answers : Passes s b → checkOf s b ≡ checked 0 (boardTally b) (boardWorth b) (ceiling (sheetTurns s) (writtenSteps b))
   -- the planner's board of an accepted sheet passes
   pub ours : Accepted s → Passes s (plannedBoard s)

@@ -12,7 +12,7 @@ use Rattle.lists.specs.Lists.{tab}
 use Rattle.lists.proofs.Bools.{and-1, and-2}
 use Rattle.refusal.specs.Number.{bufferTooSmall, badDelays}
 use Rattle.refusal.specs.Cause.{Cause, firstOf}
-use Rattle.refusal.proofs.Order.{numbered, numbered-append, first-stops, first-goes}
+use Rattle.refusal.proofs.Order.{first-stops, first-goes}
 use Rattle.turns.specs.Turn.{shiftMinutes}
 use Rattle.sheet.specs.Kind.{mostGroomers}
 use Rattle.sheet.specs.declared.answer.ReadAnswer.{ReadAnswer}
@@ -30,10 +30,10 @@ use Rattle.problem.specs.Problem.{sheetTurns}
 use Rattle.problem.specs.Load.{shiftSize, Posed}
 use Rattle.problem.proofs.Rows.{count-is}
 use Rattle.replay.specs.declared.replay.Judgement.{Judgement}
-use Rattle.checking.specs.Check.{boardCauses, ruleCauses, choiceCauses, stepCauses, sumCauses, checkCauses}
+use Rattle.checking.specs.Check.{boardCauses, checkCauses}
 use Rattle.replay.specs.Judged.{judged}
 use Rattle.replay.proofs.Faults.{judged-number}
-use Rattle.checking.proofs.Passing.{board-clear}
+use Rattle.checking.proofs.Passing.{board-clear, board-numbered, check-numbered}
 use Rattle.playing.specs.Day.{delayIn, delaysFit, dayOf}
 use Rattle.day.specs.Table.{dayTablePlaces, DelaysFit, Days}
 use Rattle.day.proofs.Rows.{fit-delays}
@@ -62,14 +62,6 @@ pub ruleset serves-cases = (serves-other, serves-same)
 append-assoc : (xs ys zs : List Cause) → (xs ++ ys) ++ zs ≡ xs ++ (ys ++ zs)
 append-assoc [] ys zs = refl
 append-assoc (x ∷ xs) ys zs = ap (λ (ws : List Cause). x ∷ ws) (append-assoc xs ys zs)
-
-pub board-numbered : (T : Turns) (b : List ℕ) → numbered (boardCauses T b) ≡ true
-unfolding boardCauses ruleCauses choiceCauses stepCauses sumCauses
-board-numbered T b = refl
-
-pub check-numbered : (s b : List ℕ) → numbered (checkCauses s b) ≡ true
-unfolding checkCauses
-check-numbered s b = numbered-append (sheetCauses s) (boardCauses (sheetTurns s) b) (sheet-numbered s) (board-numbered (sheetTurns s) b)
 
 pub check-stops : (s b delays : List ℕ) (places k : ℕ) → firstOf (checkCauses s b) ≡ k → (k ≡ 0 → ⊥) → firstOf (playCauses s b delays places) ≡ k
 unfolding playCauses

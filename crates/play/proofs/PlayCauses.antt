@@ -12,25 +12,22 @@ use borrow.Author.Tests.{eqb-true, ltb-false, not-false, eq-eqb}
 use Rattle.lists.proofs.Bools.{not-both, fails, and-1, and-2, and-of, every-not}
 use Rattle.refusal.specs.Number.{bufferTooSmall, badDelays}
 use Rattle.refusal.specs.Cause.{Cause, _when_, There, here, later, firstOf}
-use Rattle.refusal.proofs.Order.{clear-append, clear-cons, none-given}
+use Rattle.refusal.proofs.Order.{clear-append, clear-cons}
 use Rattle.wire.specs.Number.{Bytes}
 use Rattle.sheet.specs.Kind.{garage}
 use Rattle.sheet.specs.Read.{countsIn, turnCount, sheetCauses}
 use Rattle.sheet.specs.Accepted.{SheetCause, Accepted, placeOf}
 use Rattle.sheet.proofs.Causes.{cause-there}
 use Rattle.sheet.proofs.ReadCauses.{sheet-places}
-use Rattle.sheet.proofs.Readings.{sheet-numbered}
 use Rattle.model.specs.Turns.{Turns}
-use Rattle.problem.specs.Problem.{sheetTurns}
-use Rattle.problem.proofs.Posed.{sheet-lengths}
-use Rattle.checking.specs.Check.{boardCauses, checkCauses, Passes, BoardKeeps, BoardCause, CheckCause, FirstCheckCause}
-use Rattle.checking.proofs.Passing.{check-number, passes-iff}
-use Rattle.checking.proofs.CheckCauses.{cause-board, check-refused-iff}
+use Rattle.checking.specs.Check.{checkCauses, Passes, BoardKeeps, BoardCause, CheckCause, FirstCheckCause}
+use Rattle.checking.proofs.Passing.{check-number, check-numbered, passes-iff}
+use Rattle.checking.proofs.CheckCauses.{check-refused-iff, passes-no-cause}
 use Rattle.playing.specs.declared.Standing.{Standing}
 use Rattle.playing.specs.Day.{mostDelay, delayIn, delaysFit}
 use Rattle.day.proofs.Rows.{fit-delays, fit-of}
 use Rattle.play.specs.Play.{DelaysServe, PlayCause, FirstPlayCause, servesFor, lentCauses, playCauses, standingsOf, played, playRefused, playOf}
-use Rattle.play.proofs.Answers.{board-numbered, check-numbered, check-passed, check-stops, by-delays, by-places, by-none}
+use Rattle.play.proofs.Answers.{check-passed, check-stops, by-delays, by-places, by-none}
 
 pub play-number : (s b delays : List ℕ) (lent : List Standing) → playOf s b delays lent .answer .refusal ≡ firstOf (playCauses s b delays (length lent))
 unfolding playOf
@@ -63,14 +60,6 @@ sheet-place s c = omega (arith, there-short (cause-there s c), sheet-places gara
 check-place : (s b : List ℕ) {k r : ℕ} → CheckCause s b k r → r < placeOf (turnCount s) 7
 check-place s b (CheckCause.of-sheet c) = omega (arith, sheet-place s c)
 check-place s b (CheckCause.of-board c) = omega (arith, board-place c)
-
--- and none is there where the check gives none
-check-none : (s b : List ℕ) → firstOf (checkCauses s b) ≡ 0 → {k r : ℕ} → CheckCause s b k r → ⊥
-unfolding checkCauses
-check-none s b e (CheckCause.of-sheet {k} {r} c) = none-given (sheetCauses s) (clear-append (sheetCauses s) (boardCauses (sheetTurns s) b) (sheet-numbered s) e .0) (sheet-numbered s) k r (cause-there s c)
-check-none s b e (CheckCause.of-board {k} {r} c) =
-    let both = clear-append (sheetCauses s) (boardCauses (sheetTurns s) b) (sheet-numbered s) e in
-    none-given (boardCauses (sheetTurns s) b) (both .1) (board-numbered (sheetTurns s) b) k r (cause-board (sheetTurns s) (sheet-lengths s (both .0)) b c)
 
 module _ (s b delays : List ℕ) where
   -- ---- the test of the delays is the words
@@ -120,7 +109,7 @@ module _ (s b delays : List ℕ) where
     given-delays e d = record { place = placeOf (turnCount s) 7; cause = not-served d; none-before = λ j r l c. before j r l c }
       where
         before : (j r : ℕ) → r < placeOf (turnCount s) 7 → PlayCause s b delays places j r → ⊥
-        before j r l (PlayCause.of-check c) = check-none s b e c
+        before j r l (PlayCause.of-check c) = passes-no-cause s b .0 (check-number s b ∙ e) j r c
         before j r l (PlayCause.other-count n) = omega arith
         before j r l (PlayCause.long-delay u m n) = omega arith
         before j r l (PlayCause.few-places n) = omega arith
@@ -129,7 +118,7 @@ module _ (s b delays : List ℕ) where
     given-places e d x = record { place = placeOf (turnCount s) 8; cause = PlayCause.few-places x; none-before = λ j r l c. before j r l c }
       where
         before : (j r : ℕ) → r < placeOf (turnCount s) 8 → PlayCause s b delays places j r → ⊥
-        before j r l (PlayCause.of-check c) = check-none s b e c
+        before j r l (PlayCause.of-check c) = passes-no-cause s b .0 (check-number s b ∙ e) j r c
         before j r l (PlayCause.other-count n) = not-both d (counted-not n)
         before j r l (PlayCause.long-delay u m n) = not-both d (long-not u m n)
         before j r l (PlayCause.few-places n) = omega arith
