@@ -185,7 +185,7 @@ typedef struct {
     uint16_t working;
     uint16_t driving;
     uint16_t standing;
-    uint16_t turn; /* worked in the minute last played, SLOPEBOARD_NO_TURN if none was */
+    uint16_t turn; /* that of the groomer's work in minute 959, SLOPEBOARD_NO_TURN if it did not work then */
 } slopeboard_standing;
 
 typedef struct {
@@ -201,7 +201,7 @@ typedef struct {
 /* Reads a sheet into a turn table: six numbers a turn, which are slope, groomer, start, length, worth and
  * driver, the last 0 where the turn names none. The answer has the counts of the sheet's header.
  *
- * Refusals, in this order: 1 for fewer than 7 bytes, 2, 3, 4; then, record by record, 1 for a missing
+ * Refusals, in this order: 1 below 7 bytes, 2, 3, 4; then, record by record, 1 for a missing
  * map, 5, 1 for missing fields, 6, 7, 8, 9, 19; then 10; then 11 if table_len is below six times the
  * turns. */
 slopeboard_read_answer slopeboard_read(const uint8_t *sheet, size_t sheet_len, uint16_t *table, size_t table_len);
@@ -303,8 +303,8 @@ slopeboard_best_answer slopeboard_best(const uint8_t *sheet, size_t sheet_len, u
  * all of that is done goes on without it. Behind the last turn, which is no visit, those taken replace the
  * best if they are worth more; the planned board is the best to begin with.
  *
- * The visits of the answer are the visits allowed or those of the whole search, whichever are fewer. If the
- * whole search ran, no set of turns in which no two exclude each other is worth more than the worth; in any
+ * The visits of the answer are the visits allowed or those of the whole search, whichever are fewer. Where
+ * the search came to its end, no set of turns in which no two exclude each other is worth more than the worth; in any
  * case none is worth more than the worth and 'above' together. More visits never find less.
  *
  * Refusals: those of slopeboard_read but 11, in their order; then 22 for more than
@@ -337,7 +337,7 @@ slopeboard_write_answer slopeboard_keep(const uint8_t *sheet, size_t sheet_len, 
 /* Writes the sheet of a kept form. Of the kept form that slopeboard_keep writes it makes the very bytes of the
  * sheet, and slopeboard_keep makes of them the kept form again, whoever wrote it.
  *
- * Refusals, in this order: 1 for fewer than 7 bytes; 2 if the bytes do not open with GRC; 3; 4; 1 for fewer
+ * Refusals, in this order: 1 below 7 bytes; 2 if the bytes do not open with GRC; 3; 4; 1 for fewer
  * maps than turns; 5 if slopeboard_read would refuse one of the maps, the first by its own rule; 1 or 10 for
  * fewer or more bytes behind the maps than these ask for; then, for one turn after another, 6, 7, 8, 9, 19;
  * then 11 if sheet_len is below the bytes of the kept form. */
@@ -370,13 +370,13 @@ slopeboard_play_answer slopeboard_play(const uint8_t *sheet, size_t sheet_len, c
  * There are two plans. One is of the windows with a draw above half of the units, as if they were turns of one
  * groomer, but with no time for driving over. The other is of the windows with smaller draws: each step is for
  * the open window that slopeboard_plan would pick and takes its amount from all open windows of that vehicle;
- * from those of other vehicles that share a minute with it, it takes 2 * draw * amount / units, rounded up, with
- * the draw of the window that it takes from. Both then choose as slopeboard_plan does, among their own windows,
- * each that may go together with those chosen before. The plan that is worth more is written, of equals that of
- * the smaller draws. No allowed set is worth more than five times its worth and, besides, the units times the
- * steps of the smaller draws.
+ * from those of other vehicles that share a minute with it, it takes 2 * draw * amount / units, upwards to a
+ * whole number, with the draw of the window that it takes from. Both then choose as slopeboard_plan does, among
+ * their own windows, each that may go together with those chosen before. The plan that is worth more is
+ * written, of equals that of the smaller draws. No allowed set is worth more than five times its worth and,
+ * besides, the units times the steps of the smaller draws.
  *
- * Refusals, in this order: 1 for fewer than 7 bytes; 2; 3 for units outside 1 to SLOPEBOARD_MOST_UNITS or
+ * Refusals, in this order: 1 below 7 bytes; 2; 3 for units outside 1 to SLOPEBOARD_MOST_UNITS or
  * vehicles outside 1 to SLOPEBOARD_MOST_VEHICLES; 4; then, record by record, 1 for a missing map, 5 for a map
  * above 1F or, in the first record, below it, 1 for missing fields, 6 for the vehicle, 25 for the draw, 8, 9;
  * then 10; then 11 if map_len is below SLOPEBOARD_MAP_BYTES of the sheet's windows. */

@@ -50,7 +50,7 @@ fn named_sets() {
 fn on_equal_worth_the_later_end_is_left_out() {
     assert_set(&[(0, 10, 5), (5, 20, 5)], 5, &[0]);
     assert_set(&[(5, 20, 5), (0, 10, 5)], 5, &[1]);
-    // One end: the higher number is left out, whichever starts first.
+    // One end: the lower number is taken, whichever starts first.
     assert_set(&[(0, 10, 5), (5, 10, 5)], 5, &[0]);
     assert_set(&[(5, 10, 5), (0, 10, 5)], 5, &[0]);
     // The middle one is worth as much as both beside it and ends before the

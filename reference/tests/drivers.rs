@@ -334,7 +334,7 @@ const OVER_TWICE: [Row; 4] = [
 const ABOVE_THE_BOARD: [Row; 3] = [[1, 1, 0, 1, 1, 1], [2, 1, 0, 1, 1, 0], [3, 2, 0, 1, 1, 1]];
 
 /// Every set of small sheets with drivers, against every kind of board that
-/// passes: three times the tally, or twice where no slope has two turns.
+/// passes: three times the tally; twice, where no slope comes again.
 #[test]
 fn three_times_the_tally_bounds_every_set() {
     let mut rng = Rng::new(62);

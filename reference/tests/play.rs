@@ -1,4 +1,4 @@
-//! A shift played through: the standings by hand, by minutes, and the refusals
+//! A board played with delays: the standings by hand, by minutes, and the refusals
 //! in their order.
 
 mod both;

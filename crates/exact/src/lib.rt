@@ -1,5 +1,5 @@
-// Shifts with one turn a slope and no drivers: the best worth, which the table of crate besttable gives, and
-// a set that earns it.
+// The best worth of a shift where no slope comes twice and no turn names a driver, which the table of crate
+// besttable gives, and a set of that worth.
 ghost use mathlib.Core.Path.{_≡_};
 ghost use lib.ListN.{length, replicate};
 ghost use Rattle.choicemap.specs.Choice.{mapBytes, mapOf};

@@ -125,7 +125,7 @@ module _ (H : Hall) where
       empty minute (yes h) = let r = chosen-some (windowCount H) (replicate n false) (drawAt H minute) h in absurd (none-chosen n (r .0) (r .2))
       empty minute (no h) = omega arith
 
-  -- the test is the words: the set with j in it is allowed just if it was without, and j stays within
+  -- the test is the words: where a choice is allowed and j is not in it, the test passes just if the choice with j is allowed too
   pub stays-is : (S : List Bool) (j : ℕ) → length S ≡ windowCount H → j < windowCount H → has S j ≡ false → AllowedChoice H S → staysAllowed H S j ≡ true ↔ AllowedChoice H (set S j true)
   stays-is S j n l f a = (λ e. admissible-allowed (set S j true) (put-admissible S j e (allowed-admissible S a)), λ b. stays (allowed-admissible (set S j true) b))
     where

@@ -18,7 +18,7 @@ use Rattle.hallmodel.specs.Plan.{turnsAmong, smallTakes, smallSteps, wor
 use Rattle.hallmodel.proofs.Takes.{takes-most, small-taking}
 use Rattle.hallmodel.proofs.Open.{OnlyKind, first-only, after-only}
 
--- from a turn that is not open nothing is taken
+-- from a closed turn nothing is taken
 pub lessened-closed : (a : ℕ) (z : ℤ) → above z ≡ false → lessened a z ≡ z
 unfolding lessened
 lessened-closed a z e = rw e

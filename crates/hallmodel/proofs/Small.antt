@@ -50,7 +50,7 @@ module _ (H : Hall) (good : HallInRange H) where
   taken = takenBy (smallTakes H)
 
   module _ (s : List ℤ) (x : Step) where
-    -- what an open window that shares a minute with J loses, if it is of another vehicle
+    -- what an open window of another vehicle loses, if it has a minute in common with J
     unfoldable portion : ℕ → ℕ
     portion t = roundedUp (2 * draw H t * x .amount) (H .units)
 
@@ -73,7 +73,7 @@ module _ (H : Hall) (good : HallInRange H) where
     -- ---- against every allowed set
 
     module _ (q : Right T s x) where
-      -- an open window that shares a minute with J charges at J's last one, since none ends before J
+      -- an open window with a minute in common with J charges at J's last one, since none ends before J
       at-last : (t : ℕ) → t < windowCount H → isOpen s t ≡ true → shareMinute H (x .turn) t ≡ true → chargesAt H (H .windows .end (x .turn) - 1) t ≡ true
       at-last t l o e =
           let h = Windows.share-lt H (x .turn) t e in

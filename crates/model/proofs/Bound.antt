@@ -165,7 +165,7 @@ module _ (T : Turns) (lengths : PositiveLengths T) {R : List ℕ} (feasible : Fe
     bound-by : (k : ℕ) → ((s : List ℤ) (x : Step) → Right T s x → sum (taken T s x) R ≤ k * x .amount) → worthOf T R ≤ k * tally xs
     bound-by k h = bound-times T R (feasible .numbers) apart-set k h right closed
 
-    -- the factor 3 of 5.2.4, two machines: every feasible set is worth at most three times the tally
+    -- the factor 3 of 5.2.4, two machines: no feasible set is worth more than thrice the tally
     pub bound-thrice : worthOf T R ≤ 3 * tally xs
     bound-thrice = bound-by 3 (three-groups T R (feasible .numbers) apart-set)
 

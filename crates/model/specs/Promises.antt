@@ -11,7 +11,7 @@ use Rattle.model.specs.Feasible.{Feasible, worthOf, OneTurnASlope}
 pub record Promises (T : Turns) (S : List Bool) (tallied worth limit : ℕ) : Type 0 where
   -- no feasible set is worth more than the ceiling
   pub within-ceiling : (R : List ℕ) → Feasible T R → worthOf T R ≤ limit
-  -- which is at least the tally and at most three times the tally, without drivers at most twice
+  -- which is at least the tally and at most three times as much, without drivers at most twice
   pub ceiling-from : tallied ≤ limit
   pub ceiling-to : limit ≤ 3 * tallied
   pub ceiling-to-twice : NoDrivers T → limit ≤ 2 * tallied

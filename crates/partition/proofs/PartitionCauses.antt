@@ -38,7 +38,7 @@ partition-refused-iff s lent k z =
     let same = first-same (partitionCauses s (length lent)) (PartitionCause s (length lent)) (partition-causes-iff s (length lent)) k z in
     (λ e. same .0 (sym (partition-number s lent) ∙ e), λ f. partition-number s lent ∙ same .1 f)
 
--- nothing is refused just if the sheet is accepted and the lent places are as many as the turns
+-- nothing is refused just if the sheet is accepted and there are at least as many lent places as turns
 pub partition-accepted-iff : {s : List ℕ} → Bytes s → (lent : List ℕ) → (partitionOf s lent .answer .refusal ≡ 0) ↔ (Accepted s × (turnCount s ≤ length lent))
 unfolding partitionCauses
 partition-accepted-iff {s} b lent =

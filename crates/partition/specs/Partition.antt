@@ -1,4 +1,4 @@
--- How many groomers to have out: any bytes as a sheet, and lent places for the turns' numbers (request R-4). Assumes nothing.
+-- Groomers for all turns: any bytes as a sheet, and lent places for the turns' numbers (request R-4). Assumes nothing.
 use Prim.Native.Nat.{ℕ}
 use mathlib.Core.Bool.{cond}
 use mathlib.Core.List.{List, [], _∷_, _++_}
@@ -12,7 +12,7 @@ use Rattle.problem.specs.Problem.{sheetTurns}
 use Rattle.partition.specs.declared.PartitionAnswer.{PartitionAnswer}
 use Rattle.numbering.specs.Numbering.{numbersOf, usedOf}
 
--- after the sheet's causes: the lent places must be as many as the turns
+-- after the sheet's causes: there must be at least as many lent places as turns
 unfoldable pub partitionCauses : List ℕ → ℕ → List Cause
 partitionCauses s places = sheetCauses s ++ bufferTooSmall when ltb places (turnCount s) ∷ []
 

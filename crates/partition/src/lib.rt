@@ -1,4 +1,4 @@
-// How many groomers to have out: each turn gets the number of the groomer who does it, where any groomer
+// Groomers for all turns: each turn gets the number of the groomer who does it, where any groomer
 // can do any turn.
 ghost use mathlib.Core.Path.{_≡_};
 ghost use Prim.Native.Nat.{_+_, _≤_, _<_};

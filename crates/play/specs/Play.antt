@@ -1,4 +1,4 @@
--- A shift played through: any bytes as a sheet, any as a board, any table of delays, and a lent list of standings (request R-13). Assumes nothing.
+-- Playing a board with delays: any bytes as a sheet, any as a board, any table of delays, and a lent list of standings (request R-13). Assumes nothing.
 use mathlib.Core.Path.{_≡_}
 use mathlib.Core.Logic.{_≢_}
 use Prim.Native.Nat.{ℕ, suc, _≤_, _<_}

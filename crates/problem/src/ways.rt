@@ -1,4 +1,6 @@
-// By which ways two turns conflict: the one place in the code that knows.
+// By which ways two turns conflict. Steps, the order of steps, choices and the search ask here. The table of
+// the best worth, whose turns have different slopes and no drivers, tests groomer and gap itself
+// (is_in_the_way of besttable).
 ghost use mathlib.Core.Path.{_≡_};
 ghost use Prim.Native.Nat.{_<_};
 ghost use Rattle.model.specs.Turns.{overlapping};

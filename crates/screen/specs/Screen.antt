@@ -1,4 +1,4 @@
--- The lift desk's short screen: the garage's sheet with fewer turns (request R-8). Assumes nothing.
+-- The lift desk's sheets: the garage's with fewer turns (request R-8). Assumes nothing.
 use Prim.Native.Nat.{ℕ}
 use mathlib.Core.List.{List}
 use Rattle.refusal.specs.Number.{tooManyForScreen}

@@ -1,7 +1,7 @@
 //! What a board that passes promises: on small sheets without drivers, no
 //! choice of turns without a conflict is worth more than twice its tally, and
 //! none is worth more than the board where no slope has two turns. With
-//! drivers it is three times the tally, or twice where no slope has two turns.
+//! drivers the factors are 3 and, where no slope has two turns, 2.
 //! And none is worth more than the ceiling, which keeps to these bounds itself.
 //! Tried out on every choice; the judge's check and planner have no part in it.
 

@@ -42,7 +42,7 @@ fn board_of(rng: &mut Rng, turns: u16, steps: u16, map: &[u8]) -> Vec<u8> {
     board
 }
 
-/// A map with any bits. Those past the last turn are clear.
+/// A map with any bits for the turns, and none behind these.
 fn drawn_map(rng: &mut Rng, turns: u16) -> Vec<u8> {
     let dense = rng.pick(&[0, 5, 50, 95, 100]);
     let mut map = vec![0; usize::from(turns).div_ceil(8)];

@@ -1,4 +1,4 @@
-//! A shift played through with delays, in two ways: by the turns, as fast as
+//! A board played with delays, in two ways: by the turns, as fast as
 //! can be, and minute by minute over the caller's list, for a bench of like
 //! with like.
 
@@ -139,8 +139,8 @@ struct Place {
     drive: u32,
 }
 
-/// The same, minute by minute: each groomer's standing moves by one minute a
-/// step.
+/// The same, minute by minute: a step takes each groomer's standing one minute
+/// further.
 pub fn play_by_minute(
     sheet: &[u8],
     board: &[u8],

@@ -82,7 +82,7 @@ pub fn steps(board: &[u8]) -> &[u8] {
     }
 }
 
-/// The number of chosen turns, which is the count of ones in the choice map.
+/// How many turns are chosen: as many as the choice map has ones.
 pub fn count(board: &[u8]) -> Result<u32, u8> {
     let board = opened(board)?;
     let mut ones = 0;

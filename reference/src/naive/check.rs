@@ -54,8 +54,8 @@ fn check_choice(turns: &[Turn], chosen: &[bool]) -> Result<(), u8> {
     Ok(())
 }
 
-/// Refusals 15, a step that is not right, and 16, a turn that is open after
-/// the last step.
+/// Refusals 15, a step that is not right, and 16, a turn that all the steps
+/// leave open.
 fn check_steps(turns: &[Turn], steps: &[(usize, i64)]) -> Result<(), u8> {
     let mut left = worths(turns);
     for &(turn, amount) in steps {

@@ -95,7 +95,7 @@ fn accept_kept(bytes: &[u8]) -> Result<Vec<Record>, u8> {
     Ok(records)
 }
 
-/// Refusal 5: a map with bit 6 or 7, or a first map that lacks another field
+/// Refusal 5: bit 6 or 7 stands in a map, or the first one lacks another field
 /// than the driver.
 fn judge_maps(maps: &[u8]) -> Result<(), u8> {
     for turn in 0..maps.len() {

@@ -16,9 +16,9 @@ pub fn assign(sheet: &[u8], places: &mut [u16]) -> Result<u16, u8> {
     Ok(used(&groomers))
 }
 
-/// The groomer of each turn. The turns are gone through by start, those with
-/// one start by turn number; each gets the smallest number, from 1, that
-/// leaves ten minutes between it and every turn which has that number.
+/// The groomer of each turn. Numbers are given out in the order of the starts,
+/// of equal ones the lower turn first. A turn gets the first of 1, 2, 3, .. of
+/// whose turns so far none is too close to it.
 pub fn assigned(turns: &[Turn]) -> Vec<u16> {
     let mut groomers: Vec<Option<u16>> = vec![None; turns.len()];
     for turn in by_start(turns) {
@@ -59,8 +59,8 @@ pub fn used(groomers: &[u16]) -> u16 {
     seen.len() as u16
 }
 
-/// The greatest number of turns that hold one minute together, each of them
-/// lengthened by ten minutes.
+/// How many turns are under way at once where most are, if every turn lasted
+/// ten minutes more.
 pub fn most_at_once(turns: &[Turn]) -> u16 {
     let longer = |turn: &Turn| Turn {
         length: turn.length + 10,

@@ -15,8 +15,8 @@ pub struct Standing {
     pub turn: u16,
 }
 
-/// A turn as it comes to be worked: from one minute up to, but not including,
-/// another.
+/// A turn as it comes to be worked: from a minute on, and no more in the minute
+/// named last.
 #[derive(Clone, Copy, Debug, PartialEq, Eq)]
 pub struct Span {
     pub turn: usize,
@@ -45,9 +45,9 @@ pub fn play(sheet: &[u8], board: &[u8], delays: &[u16], list: &mut [Standing]) -
     Ok(sheet.groomers as u16)
 }
 
-/// A groomer's chosen turns by start. Each is begun in its planned minute or,
-/// if that is later, ten minutes after the one before was finished, and takes
-/// its length and its delay.
+/// When a groomer works on each of its chosen turns, in the order of their
+/// starts: never before the start, nor before ten minutes have gone since the
+/// turn before was done; as long as the turn's length and its delay together.
 pub fn spans(turns: &[Turn], chosen: &[bool], delays: &[u16], groomer: u32) -> Vec<Span> {
     let mut round: Vec<usize> = (0..turns.len()).collect();
     round.retain(|&turn| chosen[turn] && turns[turn].groomer == groomer);
@@ -64,8 +64,8 @@ pub fn spans(turns: &[Turn], chosen: &[bool], delays: &[u16], groomer: u32) -> V
     spans
 }
 
-/// Minutes 0 to 959: in each the groomer works, or drives over, which it does
-/// in the ten minutes after a turn, or stands.
+/// Minutes 0 to 959. In each the groomer works; or it drives over, which every
+/// turn is followed by for ten minutes; or it stands.
 pub fn played(spans: &[Span]) -> Standing {
     let mut list = Standing {
         working: 0,

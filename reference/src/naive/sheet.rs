@@ -91,8 +91,8 @@ pub fn record<'a>(bytes: &'a [u8], before: Option<&Turn>) -> Result<(Turn, &'a [
     if before.is_none() && map != 0x1F && map != 0x3F {
         return Err(5);
     }
-    // A field whose bit is clear keeps the value of the record before. Only
-    // the driver can be such a field of the first record: it is 0 then.
+    // What the map leaves out is as in the record before. The first record can
+    // leave out the driver alone, which is 0 then.
     let mut values = before.map_or([0; 6], Turn::values);
     let mut place = 1;
     for field in 0..6 {

@@ -41,8 +41,8 @@ impl Turn {
         self.start + self.length
     }
 
-    /// Whether this minute is one from the start up to, but not including,
-    /// the end.
+    /// Whether the turn is under way in this minute. In the minute of its end
+    /// it is not.
     pub fn holds(&self, minute: u32) -> bool {
         self.start <= minute && minute < self.end()
     }
@@ -55,7 +55,7 @@ pub fn turns_of(table: &[u16]) -> Vec<Turn> {
         .collect()
 }
 
-/// Refusal 3: groomers or slopes outside their range.
+/// Refusal 3: the groomers, or the slopes, are none or too many.
 pub fn judge_counts(groomers: u32, slopes: u32) -> Result<(), u8> {
     if !(1..=16).contains(&groomers) || !(1..=120).contains(&slopes) {
         return Err(3);
@@ -89,7 +89,8 @@ pub fn share_a_minute(a: &Turn, b: &Turn) -> bool {
     (a.start..a.end()).any(|minute| b.holds(minute))
 }
 
-/// Whether the first turn starts 0 to 9 minutes after the end of the second.
+/// Whether the second turn's end is followed by the first's start with fewer
+/// than ten minutes between.
 pub fn starts_soon_after(a: &Turn, b: &Turn) -> bool {
     (0..=9).any(|minutes| a.start == b.end() + minutes)
 }
@@ -115,9 +116,8 @@ pub fn too_close_on_driver(a: &Turn, b: &Turn) -> bool {
     same_driver(a, b) && too_close(a, b)
 }
 
-/// Whether the turns with these numbers conflict: they are two, and they have
-/// the same slope, or the same groomer or driver and too little time between
-/// them.
+/// Whether the turns with these numbers conflict: they are two, on one slope,
+/// or of one groomer or driver with too little time between them.
 pub fn conflict(turns: &[Turn], a: usize, b: usize) -> bool {
     let (x, y) = (&turns[a], &turns[b]);
     let on_slope = x.slope == y.slope;

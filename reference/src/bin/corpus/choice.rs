@@ -66,8 +66,8 @@ fn chosen_case(corpus: &mut Corpus, board: &[u8], turn: usize) {
     corpus.push(CHOSEN, turn, board, &line);
 }
 
-/// The example's board under every choice, with a bit past the last turn,
-/// and with harm to what makes it a board.
+/// The example's board under every choice, with a bit that is no turn's, and
+/// with harm to what makes it a board.
 fn example_boards() -> Vec<Vec<u8>> {
     let maps = (0..16).chain([0x10, 0x1A, 0x40, 0x8A, 0xFF]);
     let maps = maps.map(|map| (15, map));
