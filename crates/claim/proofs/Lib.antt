@@ -1,3 +1,4 @@
 pub mod Worked
 pub mod Claimed
+pub mod Listed
 pub mod Confirming

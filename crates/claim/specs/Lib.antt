@@ -3,3 +3,4 @@ pub mod Cases
 pub mod Further
 pub mod Claim
 pub mod Confirm
+pub mod Listed

@@ -1,5 +1,5 @@
 -- The steps' part by its cases. Assumes nothing.
-use Prim.Native.Nat.{ℕ, _-_, _*_, _≤_}
+use Prim.Native.Nat.{ℕ, _+_, _-_, _*_, _≤_}
 use mathlib.Core.Path.{_≡_, refl}
 use mathlib.Core.List.{List, []}
 use mathlib.Core.Bool.{Bool, true, false, cond}
@@ -37,5 +37,20 @@ module _ (b : List ℕ) {r : ℕ} (e : r ≡ openOf b) where
     part-at =
         let w : length b - stepSize * boardSteps b ≡ stepsPlace (boardTurns b) = omega (arith, formed-length b (opened b e z)) in
         rw (opened b e z, steps-length, w)
+
+-- ---- where the part lies that opening hands back: o is the place of the board's first byte
+
+module _ (b : List ℕ) {r : Bool} (e : r ≡ malformed b) (o : ℕ) where
+  pub place-none : r ≡ true → o ≡ o + stepsPartAt b .start
+  unfolding stepsPartAt
+  place-none t = rw (← e, t) (omega arith)
+
+  pub place-is : {n place : ℕ} → r ≡ false → n ≡ boardTurns b → place ≡ stepsPlace n → place + o ≡ o + stepsPartAt b .start
+  unfolding stepsPartAt
+  place-is {n} {place} f p s = rw (← e, f, ← p, ← s) (omega arith)
+
+pub ruleset place-cases = (place-none, place-is)
+
+-- ---- the same by place and length
 
 pub ruleset part-cases = (steps-none, steps-inside, part-at)

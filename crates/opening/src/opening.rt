@@ -6,6 +6,7 @@ ghost use lib.ListN.{length};
 ghost use Rattle.choicemap.specs.Choice.{mapBytes};
 ghost use Rattle.board.specs.Board.{boardHeader, boardTurns, boardMap};
 ghost use Rattle.opening.specs.Open.{badSizes, malformed, openOf, stepsPart};
+ghost use Rattle.opening.specs.Part.{stepsPartAt, LiesAt};
 ghost use Rattle.opening.specs.Chosen.{countOf, turnChosen};
 use board::HEADER_BYTES;
 use board::board_bytes;
@@ -66,6 +67,7 @@ pub fn open(b: &[u8]) -> u8
 // The part of the board's bytes that holds its steps, empty where it does not open.
 pub fn steps(b: &[u8]) -> &[u8]
     ensures { λ r. ⌜ now r ≡ stepsPart (now (b .entry)) ⌝ }
+    ensures { λ r. ⌜ LiesAt r (b .entry) (stepsPartAt (now (b .entry)) .start) ⌝ }
 {
     if is_malformed(b) {
         return &b[..0];

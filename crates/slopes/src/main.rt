@@ -2,7 +2,7 @@
 ghost use mathlib.Core.Path.{_≡_};
 ghost use Prim.Native.Nat.{_≤_};
 ghost use lib.ListN.{length, take};
-ghost use Rattle.listing.specs.Limits.{listingBytes};
+ghost use Rattle.listing.specs.Limits.{inputBytes, listingBytes};
 ghost use Rattle.slopes.specs.Printed.{printed};
 use libc::STDIN_FILENO;
 use libc::STDOUT_FILENO;
@@ -25,10 +25,18 @@ fn answer(sheet: &[u8], text: &mut [u8]) -> usize
     listing::refused_line(&mut *text, a.refusal)
 }
 
-// A read that fails counts as the end of the input.
+// Fills the front of these bytes from standard input, all of them where as many come; returns how
+// many came. A read that fails counts as the end of the input.
+fn gather(sheet: &mut [u8]) -> usize
+    requires { ⌜ length (now sheet) ≡ inputBytes ⌝ }
+    ensures { λ r. ⌜ r ≤ length (now (sheet .exit)) ⌝ }
+{
+    io::read_full(STDIN_FILENO, &mut *sheet)
+}
+
 fn main() {
     let mut sheet = [0u8; INPUT_BYTES];
-    let got = io::read_full(STDIN_FILENO, &mut sheet);
+    let got = gather(&mut sheet);
     let mut text = [0u8; TEXT_BYTES];
     let bytes = answer(&sheet[..got], &mut text);
     io::write_all(STDOUT_FILENO, &text[..bytes]);

@@ -1,4 +1,6 @@
+use mathlib.Core.Path.{refl}
 use Rattle.opening.proofs.Openings.{part-cases}
+use Rattle.opening.proofs.Parts.{place-cases}
 use borrow.Author.Needs.{needs}
 use Rattle.opening.proofs.opening.steps.Statement.{statement}
 use Rattle.opening.proofs.opening.steps.Tie as tie
@@ -10,7 +12,7 @@ slice-aggregate-result : tie.Need-slice-aggregate-result
 slice-aggregate-result c = search needs
 
 returns : tie.Need-returns
-returns c = search (needs, part-cases)
+returns c = (search (needs, part-cases), (refl, search (needs, place-cases)))
 
 turns-requires : tie.Need-turns-requires
 turns-requires c κs = search (needs, part-cases)
@@ -28,7 +30,7 @@ part-result-end : tie.Need-part-result-end
 part-result-end c = search needs
 
 returns-2 : tie.Need-returns-2
-returns-2 c = search (needs, part-cases)
+returns-2 c = (search (needs, part-cases), (refl, search (needs, place-cases)))
 
 pub steps-spec : {M : Type 1} → statement M
 steps-spec =

@@ -16,7 +16,7 @@ sub-t7 : tie.Need-sub-t7
 sub-t7 c = search (needs, part-cases)
 
 returns-2 : tie.Need-returns-2
-returns-2 c = let p = part-at _ (c .before .before .open .ensures) (c .before .if1 .left) (c .steps .ensures) in (p, part-named _ p)
+returns-2 c = let p = part-at _ (c .before .before .open .ensures) (c .before .if1 .left) (c .steps .ensures .0) in (p, part-named _ p)
 
 pub steps-at-spec : {M : Type 1} → statement M
 steps-at-spec = tie.close (tie.spec open-requires returns steps-requires sub-t7 returns-2)

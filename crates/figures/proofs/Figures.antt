@@ -1,0 +1,107 @@
+-- The numbers are those: each equation is computed. Assumes nothing.
+use Prim.Native.Nat.{_%_}
+use mathlib.Core.Path.{refl, sym}
+use Rattle.turns.specs.Turn.{outsideRange}
+use Rattle.sheet.specs.Kind.{garage, withTurns}
+use Rattle.sheet.specs.Record.{widthOf}
+use Rattle.screen.specs.Screen.{liftDesk}
+use Rattle.archive.specs.Kept.{archive}
+use Rattle.problem.specs.Problem.{problemOf, sheetTurns}
+use Rattle.trial.specs.Draw.{nextDraw, turnDrawn}
+use Rattle.trial.proofs.Draws.{ten-thousandth}
+use Rattle.trial.proofs.Drawings.{length-first, length-second, length-third, length-fourth}
+use Rattle.hall.specs.Charge.{chargingSheet}
+use Rattle.figures.specs.Figures.{Figures}
+
+pub figures : Figures
+unfolding outsideRange garage withTurns widthOf liftDesk archive problemOf sheetTurns nextDraw turnDrawn chargingSheet
+figures =
+    record {
+      groomers = refl;
+      slopes = refl;
+      turns = refl;
+      minutes = refl;
+      worth = refl;
+      driver = refl;
+      from-one = λ most. refl;
+      gap = refl;
+      sheet-gap = λ s. refl;
+      sheet-mark = refl;
+      board-mark = refl;
+      kept-mark = refl;
+      charging-mark = refl;
+      header = refl;
+      header-counts = λ s. refl;
+      header-turns = λ s. refl;
+      first-map = refl;
+      full-map = refl;
+      slope-bytes = refl;
+      groomer-bytes = refl;
+      start-bytes = refl;
+      length-bytes = refl;
+      worth-bytes = refl;
+      driver-bytes = refl;
+      row = refl;
+      garage-kind = refl;
+      lift-desk-kind = refl;
+      kept-kind = refl;
+      charging-kind = refl;
+      board-header = refl;
+      board-turns = refl;
+      board-steps = refl;
+      board-tally = refl;
+      board-worth = refl;
+      map-bytes = λ n. refl;
+      step-bytes = refl;
+      board-bytes = λ n m. refl;
+      screen = refl;
+      searched = refl;
+      delay = refl;
+      driving-over = refl;
+      no-turn = refl;
+      units = refl;
+      vehicles = refl;
+      hall-gap = refl;
+      next-draw = λ x. refl;
+      seed = refl;
+      ten-thousandth = ten-thousandth;
+      draws = refl;
+      drawn-slope = λ counts a b c d e. refl;
+      drawn-groomer = λ counts a b c d e. refl;
+      drawn-start = λ counts a b c d e. refl;
+      drawn-worth = λ counts a b c d e. refl;
+      drawn-driver = λ counts a b c d e. refl;
+      to-39 = λ counts a b c d e h. sym (length-first (d % 100) h);
+      to-69 = λ counts a b c d e h k. sym (length-second (d % 100) h k);
+      to-89 = λ counts a b c d e h k. sym (length-third (d % 100) h k);
+      to-99 = λ counts a b c d e h. sym (length-fourth (d % 100) h);
+      factor = λ p. p .twice;
+      driven-factor = λ p. p .thrice;
+      driven-one-turn = λ p. p .twice-one-turn;
+      hall-factor = λ p. p .hall-bound;
+      truncated-is = refl;
+      bad-magic-is = refl;
+      bad-counts-is = refl;
+      too-many-turns-is = refl;
+      bad-map-is = refl;
+      bad-slope-is = refl;
+      bad-groomer-is = refl;
+      bad-time-is = refl;
+      bad-worth-is = refl;
+      trailing-bytes-is = refl;
+      buffer-too-small-is = refl;
+      malformed-board-is = refl;
+      chosen-conflict-is = refl;
+      not-maximal-is = refl;
+      wrong-step-is = refl;
+      turn-left-open-is = refl;
+      wrong-sums-is = refl;
+      partial-turn-is = refl;
+      bad-driver-is = refl;
+      too-many-for-screen-is = refl;
+      not-single-turns-is = refl;
+      too-many-to-search-is = refl;
+      bad-seed-is = refl;
+      bad-delays-is = refl;
+      bad-draw-is = refl;
+    }

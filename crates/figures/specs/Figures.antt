@@ -1,0 +1,167 @@
+-- The numbers that the format's description fixes, on one page: each is an equation of a definition with a literal (documents 01 and 02). Assumes nothing.
+use Prim.Native.Nat.{ℕ, _+_, _*_, _/_, _%_, _≤_}
+use mathlib.Core.Path.{_≡_}
+use mathlib.Core.Bool.{Bool, true}
+use mathlib.Core.List.{List, [], _∷_}
+use lib.ListN.{length}
+use Rattle.refusal.specs.Number.{truncated, badMagic, badCounts, tooManyTurns, badMap, badSlope, badGroomer, badTime, badWorth, trailingBytes, bufferTooSmall, malformedBoard, chosenConflict, notMaximal, wrongStep, turnLeftOpen, wrongSums, partialTurn, badDriver, tooManyForScreen, notSingleTurns, tooManyToSearch, badSeed, badDelays, badDraw}
+use Rattle.wire.specs.Number.{valueAt}
+use Rattle.wire.specs.Mark.{sheetMark, boardMark, keptMark, chargingMark}
+use Rattle.turns.specs.declared.Counts.{Counts}
+use Rattle.turns.specs.Turn.{shiftMinutes, mostWorth, mostDriver, rowNumbers, outsideRange}
+use Rattle.sheet.specs.Kind.{firstMap, fullMap, mostGroomers, mostSlopes, mostTurns, garage}
+use Rattle.sheet.specs.Record.{widthOf}
+use Rattle.sheet.specs.Read.{headerBytes, countsIn, turnCount}
+use Rattle.screen.specs.Screen.{screenTurns, liftDesk}
+use Rattle.archive.specs.Kept.{archive}
+use Rattle.choicemap.specs.Choice.{mapBytes}
+use Rattle.board.specs.Board.{turnsPlace, stepCountPlace, tallyPlace, worthPlace, boardHeader, stepSize, boardLength}
+use Rattle.problem.specs.Problem.{shiftGap, sheetTurns}
+use Rattle.model.specs.Turns.{Turns, NoDrivers}
+use Rattle.model.specs.Feasible.{Feasible, worthOf, OneTurnASlope}
+use Rattle.model.specs.Promises.{Promises}
+use Rattle.improve.specs.Improve.{mostSearched}
+use Rattle.trial.specs.Draw.{mostDraw, nextDraw, drawNumber, turnDraws, turnDrawn}
+use Rattle.playing.specs.Day.{overMinutes, mostDelay}
+use Rattle.playing.specs.Standing.{noTurnInHand}
+use Rattle.hallmodel.specs.Hall.{mostUnits, mostVehicles, hallGap, Hall, Allowed}
+use Rattle.hallmodel.specs.Plan.{smallSteps, hallWorth}
+use Rattle.hallmodel.specs.Promises.{worthOfWindows, HallPromises}
+use Rattle.hall.specs.Charge.{chargingSheet}
+
+pub record Figures : Type 0 where
+  -- ---- turns
+
+  -- a sheet has up to 16 groomers, 120 slopes and 400 turns
+  pub groomers : mostGroomers ≡ 16
+  pub slopes : mostSlopes ≡ 120
+  pub turns : mostTurns ≡ 400
+  -- a turn has ended by minute 960, and is worth up to 60,000; a driver's number is up to 40
+  pub minutes : shiftMinutes ≡ 960
+  pub worth : mostWorth ≡ 60000
+  pub driver : mostDriver ≡ 40
+  -- groomers, slopes and worths are counted from 1: 0 is out of their range
+  pub from-one : (most : ℕ) → outsideRange 0 most ≡ true
+  -- ten free minutes between two turns of a groomer or of a driver, on every sheet
+  pub gap : shiftGap ≡ 10
+  pub sheet-gap : (s : List ℕ) → sheetTurns s .gap ≡ 10
+  -- ---- the sheet
+
+  -- the marks: GRM, GRB, GRC, GRE
+  pub sheet-mark : sheetMark ≡ 0x47 ∷ 0x52 ∷ 0x4D ∷ []
+  pub board-mark : boardMark ≡ 0x47 ∷ 0x52 ∷ 0x42 ∷ []
+  pub kept-mark : keptMark ≡ 0x47 ∷ 0x52 ∷ 0x43 ∷ []
+  pub charging-mark : chargingMark ≡ 0x47 ∷ 0x52 ∷ 0x45 ∷ []
+  -- a header of 7 bytes: behind the mark a byte of groomers, a byte of slopes, two bytes of turns
+  pub header : headerBytes ≡ 7
+  pub header-counts : (s : List ℕ) → countsIn s ≡ record { groomers = valueAt s 3 1; slopes = valueAt s 4 1 }
+  pub header-turns : (s : List ℕ) → turnCount s ≡ valueAt s 5 2
+  -- the map of a first record that names no driver, and of one with every field
+  pub first-map : firstMap ≡ 0x1F
+  pub full-map : fullMap ≡ 0x3F
+  -- the bits of a map, from the lowest: slope, groomer, start, length, worth, driver; how many bytes each stands for
+  pub slope-bytes : widthOf 1 ≡ 1
+  pub groomer-bytes : widthOf 2 ≡ 1
+  pub start-bytes : widthOf 4 ≡ 2
+  pub length-bytes : widthOf 8 ≡ 2
+  pub worth-bytes : widthOf 16 ≡ 2
+  pub driver-bytes : widthOf 32 ≡ 1
+  -- a turn has six numbers in a table
+  pub row : rowNumbers ≡ 6
+  -- the four kinds of sheet: mark, greatest counts, maps, and the refusals of counts, turns, slope and groomer. The garage's
+  pub garage-kind :
+      garage
+      ≡ record { mark = 0x47 ∷ 0x52 ∷ 0x4D ∷ []; most = record { groomers = 16; slopes = 120; turns = 400 }; maps = record { first = 0x1F; full = 0x3F }; refusals = record { counts = 3; turns = 4; slope = 6; groomer = 7 } }
+  -- the lift desk's
+  pub lift-desk-kind :
+      liftDesk
+      ≡ record { mark = 0x47 ∷ 0x52 ∷ 0x4D ∷ []; most = record { groomers = 16; slopes = 120; turns = 96 }; maps = record { first = 0x1F; full = 0x3F }; refusals = record { counts = 3; turns = 20; slope = 6; groomer = 7 } }
+  -- the one that is kept by column
+  pub kept-kind :
+      archive
+      ≡ record { mark = 0x47 ∷ 0x52 ∷ 0x43 ∷ []; most = record { groomers = 16; slopes = 120; turns = 400 }; maps = record { first = 0x1F; full = 0x3F }; refusals = record { counts = 3; turns = 4; slope = 6; groomer = 7 } }
+  -- the hall's: units and vehicles stand for groomers and slopes
+  pub charging-kind :
+      chargingSheet
+      ≡ record { mark = 0x47 ∷ 0x52 ∷ 0x45 ∷ []; most = record { groomers = 48; slopes = 60; turns = 400 }; maps = record { first = 0x1F; full = 0x1F }; refusals = record { counts = 3; turns = 4; slope = 6; groomer = 25 } }
+  -- ---- the board
+
+  -- a header of 15 bytes: behind the mark turns and steps, two bytes each, then tally and worth, four bytes each
+  pub board-header : boardHeader ≡ 15
+  pub board-turns : turnsPlace ≡ 3
+  pub board-steps : stepCountPlace ≡ 5
+  pub board-tally : tallyPlace ≡ 7
+  pub board-worth : worthPlace ≡ 11
+  -- then a bit a turn, in whole bytes, and four bytes a step
+  pub map-bytes : (n : ℕ) → mapBytes n ≡ (n + 7) / 8
+  pub step-bytes : stepSize ≡ 4
+  pub board-bytes : (n m : ℕ) → boardLength n m ≡ 15 + (n + 7) / 8 + 4 * m
+  -- ---- the other parts
+
+  -- the lift desk's screen shows 96 turns; 64 turns are searched
+  pub screen : screenTurns ≡ 96
+  pub searched : mostSearched ≡ 64
+  -- a delay is up to 120 minutes, driving over takes ten, and 65,535 in hand is no turn
+  pub delay : mostDelay ≡ 120
+  pub driving-over : overMinutes ≡ 10
+  pub no-turn : noTurnInHand ≡ 65535
+  -- a hall has up to 48 units and 60 vehicles, and no free minutes between windows
+  pub units : mostUnits ≡ 48
+  pub vehicles : mostVehicles ≡ 60
+  pub hall-gap : hallGap ≡ 0
+  -- ---- drawn sheets
+
+  -- the generator, the greatest seed, and the ten-thousandth draw from seed 1
+  pub next-draw : (x : ℕ) → nextDraw x ≡ 16807 * x % 2147483647
+  pub seed : mostDraw ≡ 2147483646
+  pub ten-thousandth : drawNumber 10000 1 ≡ 1043618065
+  -- a turn uses five draws
+  pub draws : turnDraws ≡ 5
+  -- of them slope and groomer are numbers from 1 to their counts, the start is one of 841, and the worth a number from 1 to 60,000
+  pub drawn-slope : (counts : Counts) (a b c d e : ℕ) → turnDrawn counts a b c d e .slope ≡ 1 + a % counts .slopes
+  pub drawn-groomer : (counts : Counts) (a b c d e : ℕ) → turnDrawn counts a b c d e .groomer ≡ 1 + b % counts .groomers
+  pub drawn-start : (counts : Counts) (a b c d e : ℕ) → turnDrawn counts a b c d e .start ≡ c % 841
+  pub drawn-worth : (counts : Counts) (a b c d e : ℕ) → turnDrawn counts a b c d e .worth ≡ 1 + e % 60000
+  -- the driver is none
+  pub drawn-driver : (counts : Counts) (a b c d e : ℕ) → turnDrawn counts a b c d e .driver ≡ 0
+  -- the length goes by the draw's remainder by 100
+  pub to-39 : (counts : Counts) (a b c d e : ℕ) → d % 100 ≤ 39 → turnDrawn counts a b c d e .length ≡ 30
+  pub to-69 : (counts : Counts) (a b c d e : ℕ) → 40 ≤ d % 100 → d % 100 ≤ 69 → turnDrawn counts a b c d e .length ≡ 45
+  pub to-89 : (counts : Counts) (a b c d e : ℕ) → 70 ≤ d % 100 → d % 100 ≤ 89 → turnDrawn counts a b c d e .length ≡ 60
+  pub to-99 : (counts : Counts) (a b c d e : ℕ) → 90 ≤ d % 100 → turnDrawn counts a b c d e .length ≡ 90
+  -- ---- the factors in the promises
+
+  -- without drivers no feasible set is worth more than twice the tally
+  pub factor : {T : Turns} {S : List Bool} {tallied worth limit : ℕ} → Promises T S tallied worth limit → NoDrivers T → (R : List ℕ) → Feasible T R → worthOf T R ≤ 2 * tallied
+  -- with drivers, than three times the tally, or twice where no slope has two turns
+  pub driven-factor : {T : Turns} {S : List Bool} {tallied worth limit : ℕ} → Promises T S tallied worth limit → (R : List ℕ) → Feasible T R → worthOf T R ≤ 3 * tallied
+  pub driven-one-turn : {T : Turns} {S : List Bool} {tallied worth limit : ℕ} → Promises T S tallied worth limit → OneTurnASlope T → (R : List ℕ) → Feasible T R → worthOf T R ≤ 2 * tallied
+  -- no allowed set of windows is worth more than five times the hall's plan, and the units for each step of the small draws
+  pub hall-factor : {H : Hall} → HallPromises H → (R : List ℕ) → Allowed H R → worthOfWindows H R ≤ 5 * hallWorth H + H .units * length (smallSteps H)
+  -- ---- the refusals
+
+  pub truncated-is : truncated ≡ 1
+  pub bad-magic-is : badMagic ≡ 2
+  pub bad-counts-is : badCounts ≡ 3
+  pub too-many-turns-is : tooManyTurns ≡ 4
+  pub bad-map-is : badMap ≡ 5
+  pub bad-slope-is : badSlope ≡ 6
+  pub bad-groomer-is : badGroomer ≡ 7
+  pub bad-time-is : badTime ≡ 8
+  pub bad-worth-is : badWorth ≡ 9
+  pub trailing-bytes-is : trailingBytes ≡ 10
+  pub buffer-too-small-is : bufferTooSmall ≡ 11
+  pub malformed-board-is : malformedBoard ≡ 12
+  pub chosen-conflict-is : chosenConflict ≡ 13
+  pub not-maximal-is : notMaximal ≡ 14
+  pub wrong-step-is : wrongStep ≡ 15
+  pub turn-left-open-is : turnLeftOpen ≡ 16
+  pub wrong-sums-is : wrongSums ≡ 17
+  pub partial-turn-is : partialTurn ≡ 18
+  pub bad-driver-is : badDriver ≡ 19
+  pub too-many-for-screen-is : tooManyForScreen ≡ 20
+  pub not-single-turns-is : notSingleTurns ≡ 21
+  pub too-many-to-search-is : tooManyToSearch ≡ 22
+  pub bad-seed-is : badSeed ≡ 23
+  pub bad-delays-is : badDelays ≡ 24
+  pub bad-draw-is : badDraw ≡ 25
