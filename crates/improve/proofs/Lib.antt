@@ -2,3 +2,4 @@ pub mod StartCases
 pub mod AnswerCases
 pub mod ImproveCauses
 pub mod Sheets
+pub mod Worked

@@ -5,31 +5,30 @@ use mathlib.Core.Bool.{Bool, true}
 use mathlib.Core.List.{List}
 use Prim.Native.Nat.{ℕ, _+_, _^_, _≤_, _<_}
 use lib.ListN.{length, take, drop}
-use Rattle.model.specs.Turns.{Turns}
 use Rattle.model.specs.Pick.{steps}
-use Rattle.model.specs.Choice.{chosen}
+use Rattle.model.specs.Choice.{chosen, choice}
 use Rattle.model.specs.Rules.{Independent}
 use Rattle.model.specs.Feasible.{Feasible, worthOf}
 use Rattle.model.specs.Ceiling.{ceiling}
-use Rattle.searching.specs.Sets.{wholeVisits}
+use Rattle.searching.specs.Sets.{wholeVisits, Compares}
 use Rattle.searching.specs.Promises.{SearchPromises}
 use Rattle.sheet.specs.Read.{turnCount}
-use Rattle.choicemap.specs.Choice.{mapBytes, mapOf}
-use Rattle.board.specs.Board.{boardWorth, boardMap}
+use Rattle.choicemap.specs.Choice.{mapBytes, mapOf, choiceIn}
+use Rattle.board.specs.Board.{boardWorth, boardMap, boardChoice}
 use Rattle.problem.specs.Problem.{sheetTurns}
 use Rattle.planning.specs.Plan.{plannedBoard}
 use Rattle.search.specs.Words.{wordBits}
 use Rattle.improve.specs.Improve.{improvedFor, improveOf}
 
--- ---- as statements
+-- the first of the lent bytes then, which have a bit for each turn
+abbrev pub answeredMap : List ℕ → ℕ → List ℕ → List ℕ
+answeredMap s limit lent = take (mapBytes (turnCount s)) (improveOf s limit lent .lent)
 
--- a map is that of a set of turns without conflict, which earns so much
-pub record MapOfSet (T : Turns) (worth : ℕ) (map : List ℕ) : Type 0 where
-  pub set : List Bool
-  pub places : length set ≡ T .count
-  pub apart : Independent T set
-  pub earns : chosen (T .count) set (T .worth) ≡ worth
-  pub map-is : map ≡ mapOf set
+-- the turns whose bits are set there
+abbrev pub answeredChoice : List ℕ → ℕ → List ℕ → List Bool
+answeredChoice s limit lent = choiceIn (turnCount s) (answeredMap s limit lent)
+
+-- ---- as statements
 
 pub record ImprovedSheet (s : List ℕ) (limit : ℕ) (lent : List ℕ) : Type 0 where
   -- the answer is what the search finds
@@ -49,16 +48,28 @@ pub record ImprovedSheet (s : List ℕ) (limit : ℕ) (lent : List ℕ) : Type 0
   pub ran-whole : (improveOf s limit lent .whole ≡ true) ↔ (wholeVisits (sheetTurns s) ≤ limit)
   -- then no feasible set earns more than the worth
   pub greatest : improveOf s limit lent .whole ≡ true → (R : List ℕ) → Feasible (sheetTurns s) R → worthOf (sheetTurns s) R ≤ improveOf s limit lent .worth
-  -- a greater limit earns at least as much
-  pub larger : (more : ℕ) → limit ≤ more → improveOf s limit lent .worth ≤ improveOf s more lent .worth
-  -- the lent bytes begin with the map of a set without conflict that earns the worth
-  pub mapped : MapOfSet (sheetTurns s) (improveOf s limit lent .worth) (take (mapBytes (turnCount s)) (improveOf s limit lent .lent))
+  -- the lent bytes hold a map
+  pub room : mapBytes (turnCount s) ≤ length lent
+  -- a greater limit earns at least as much, into whatever lent bytes that hold a map
+  pub larger : (more : ℕ) → limit ≤ more → (place : List ℕ) → mapBytes (turnCount s) ≤ length place → improveOf s limit lent .worth ≤ improveOf s more place .worth
+  -- there is a place for each turn, and no two turns whose bits are set conflict
+  pub places : length (answeredChoice s limit lent) ≡ sheetTurns s .count
+  pub apart : Independent (sheetTurns s) (answeredChoice s limit lent)
+  -- they earn the worth
+  pub earns : chosen (sheetTurns s .count) (answeredChoice s limit lent) (sheetTurns s .worth) ≡ improveOf s limit lent .worth
+  -- the first bytes are their map: no other bit is set there
+  pub map : answeredMap s limit lent ≡ mapOf (answeredChoice s limit lent)
   -- the bytes behind the map stay as they were
   pub behind : drop (mapBytes (turnCount s)) (improveOf s limit lent .lent) ≡ drop (mapBytes (turnCount s)) lent
   -- the planned board is worth no more
   pub no-less : boardWorth (plannedBoard s) ≤ improveOf s limit lent .worth
+  -- its turns are compared first, then the sets that the limit pays for, one after another; the worth and the turns are what that finds
+  pub starts : boardChoice (plannedBoard s) ≡ choice (sheetTurns s)
+  pub compares : Compares (sheetTurns s) limit (improveOf s limit lent .worth) (answeredChoice s limit lent)
+  -- where nothing of greater worth is found, the map is the planned board's
+  pub plan-kept : improveOf s limit lent .worth ≤ boardWorth (plannedBoard s) → answeredMap s limit lent ≡ boardMap (plannedBoard s)
 
 -- the answer has the planned board's set
 pub record PlanComesBack (s : List ℕ) (limit : ℕ) (lent : List ℕ) : Type 0 where
   pub worth-is : improveOf s limit lent .worth ≡ boardWorth (plannedBoard s)
-  pub map-is : take (mapBytes (turnCount s)) (improveOf s limit lent .lent) ≡ boardMap (plannedBoard s)
+  pub map-is : answeredMap s limit lent ≡ boardMap (plannedBoard s)

@@ -1,4 +1,5 @@
 pub mod Searches
 pub mod Promised
 pub mod Costs
+pub mod Firsts
 pub mod Sets

@@ -17,6 +17,7 @@ use Rattle.model.proofs.Minutes
 use Rattle.model.proofs.Readings.{apart-reads}
 use Rattle.searching.specs.Search.{Progress, worthOfChoice, compared, visited, cutShort, searchFrom, noneTaken, fromPlan, searchAll}
 use Rattle.searching.specs.Sets.{setsFrom, setsOf, oneMore, visitCosts, paidFor, setsWithin, comparedAll, ListedSet, here, there, SetOf, ComesBefore, SetsInOrder, empty, leads, Compares}
+use Rattle.searching.proofs.Firsts.{listed-some, compared-first}
 use Rattle.searching.proofs.Promised.{whole-visits}
 use Rattle.searching.proofs.Costs.{total, paid-none, paid-more, paid-few, paid-past, paid-within, paid-all, costs-with, costs-without, costs-last, costs-length, costs-total}
 use Rattle.searching.proofs.Searches.{compared-cases, sets-with, sets-without, visitsFrom, visits-none, search-visits, search-none, search-ind, Begins, begins-fits, begins-with, begins-without}
@@ -39,10 +40,6 @@ listed-left Bs (there h) = there (listed-left Bs h)
 listed-right : {U : List Bool} (As : List (List Bool)) {Bs : List (List Bool)} → ListedSet U Bs → ListedSet U (As ++ Bs)
 listed-right [] h = h
 listed-right (A ∷ As) h = there (listed-right As h)
-
-listed-some : {U : List Bool} {As : List (List Bool)} → ListedSet U As → 1 ≤ length As
-listed-some here = omega arith
-listed-some (there h) = omega arith
 
 order-both : {As Bs : List (List Bool)} → SetsInOrder As → SetsInOrder Bs → ((U W : List Bool) → ListedSet U As → ListedSet W Bs → ComesBefore U W) → SetsInOrder (As ++ Bs)
 order-both empty b h = b
@@ -299,17 +296,20 @@ module _ (T : Turns) where
       (reaches-visited _ _ x _ z (reaches-with left t S (visited x) ih jh (decLt (x .visits - 1) (visitsFrom T left (suc t) (set S t true))))))
       (λ left t S x z f jh. rw (sets-without T left t S f, costs-without T left t S f) (reaches-visited _ _ x _ z (jh (visited x))))
 
-  pub search-compares : (limit : ℕ) → Compares T limit
+  pub search-compares : PositiveLengths T → (limit : ℕ) → Compares T limit (searchAll T limit .worth) (searchAll T limit .best)
   unfolding searchAll setsOf setsWithin
-  search-compares limit =
+  search-compares lengths limit =
       let r = search-reaches (T .count) 0 (noneTaken T) (fromPlan T limit) in
       let size = costs-length T (T .count) 0 (noneTaken T) in
       let cost = costs-total T (T .count) 0 (noneTaken T) ∙ whole-visits T in
       record {
+        sets = sets-are T lengths (T .count) (omega arith);
+        ordered = sets-ordered T lengths (T .count) (omega arith);
         all = λ l. take-all (paidFor limit (visitCosts T (T .count) 0 (noneTaken T))) (setsFrom T (T .count) 0 (noneTaken T))
             (omega (arith, size, paid-all limit (visitCosts T (T .count) 0 (noneTaken T)) (omega (arith, cost))));
         worth-is = r .worth-is;
         best-is = r .best-is;
+        first-most = rw (r .best-is) (compared-first T (take (paidFor limit (visitCosts T (T .count) 0 (noneTaken T))) (setsFrom T (T .count) 0 (noneTaken T))) (fromPlan T limit) refl);
         costs = size;
         cost-all = cost;
       }
