@@ -140,6 +140,7 @@ pub record Figures : Type 0 where
   pub hall-factor : {H : Hall} → HallPromises H → (R : List ℕ) → Allowed H R → worthOfWindows H R ≤ 5 * hallWorth H + H .units * length (smallSteps H)
   -- ---- the refusals
 
+  -- each by its name; what it is given for stands beside its definition
   pub truncated-is : truncated ≡ 1
   pub bad-magic-is : badMagic ≡ 2
   pub bad-counts-is : badCounts ≡ 3
