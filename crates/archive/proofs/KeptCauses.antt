@@ -11,8 +11,9 @@ use lib.ListN.{length, getD, length-append}
 use borrow.Author.Tests.{ltb-true, lt-ltb}
 use Rattle.refusal.specs.Number.{truncated, badMap, trailingBytes, bufferTooSmall}
 use Rattle.refusal.specs.Cause.{Cause, _when_, There, here, later, firstOf}
+use Rattle.refusal.specs.Written.{kept}
 use Rattle.refusal.proofs.Order.{none-iff}
-use Rattle.refusal.proofs.Written.{number-first, enough-iff}
+use Rattle.refusal.proofs.Written.{kept-first, number-first, enough-iff}
 use Rattle.refusal.proofs.Places.{causeAt, there-at, at-there, there-left, there-right, there-split}
 use Rattle.wire.specs.Number.{Bytes}
 use Rattle.turns.specs.declared.Turn.{Turn}
@@ -261,6 +262,15 @@ restore-number k lent = number-first (restoreCauses k (length lent)) (restoredOf
 pub keep-number : (s lent : List ℕ) → keepOf s lent .refusal ≡ firstOf (keepCauses s (length lent))
 unfolding keepOf
 keep-number s lent = number-first (keepCauses s (length lent)) (keptOf s) lent
+
+-- a refusal leaves the lent bytes as they were, and says that none is written: of keeping, and of restoring
+pub keep-unchanged : (s lent : List ℕ) → (keepOf s lent .refusal ≡ 0 → ⊥) → keepOf s lent ≡ kept (keepOf s lent .refusal) lent
+unfolding keepOf
+keep-unchanged s lent n = kept-first (keepCauses s (length lent)) (keptOf s) lent (keepOf s lent .refusal) (sym (keep-number s lent)) n
+
+pub restore-unchanged : (k lent : List ℕ) → (restoreOf k lent .refusal ≡ 0 → ⊥) → restoreOf k lent ≡ kept (restoreOf k lent .refusal) lent
+unfolding restoreOf
+restore-unchanged k lent n = kept-first (restoreCauses k (length lent)) (restoredOf k) lent (restoreOf k lent .refusal) (sym (restore-number k lent)) n
 
 -- restoring gives j exactly where the first cause has number j
 pub restore-refused-iff : (k lent : List ℕ) (j : ℕ) → (j ≡ 0 → ⊥) → (restoreOf k lent .refusal ≡ j) ↔ FirstRestoreCause k (length lent) j

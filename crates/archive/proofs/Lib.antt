@@ -4,3 +4,4 @@ pub mod KeptCauses
 pub mod RoundTrip
 pub mod KeepCases
 pub mod RestoreCases
+pub mod Worked

@@ -154,32 +154,32 @@ pub restore-writes : (k lent : List ℕ) → AcceptedKept k → length k ≤ len
 unfolding restoreOf restoreCauses
 restore-writes k lent a h = wrote-enough (keptCauses k) (length k) (restoredOf k) lent (kept-numbered k) (kept-clear k a) h
 
--- what keeping wrote is restored to the sheet's very bytes
-pub keep-then-restore : (s lent : List ℕ) → Accepted s → length s ≤ length lent → restoreOf (keptOf s) lent ≡ wrote s lent
-keep-then-restore s lent a h = restore-writes (keptOf s) lent (keep-accepted s a) (omega (arith, keep-length s a)) ∙ ap (λ (x : List ℕ). wrote x lent) (keep-back s a)
+-- the kept form of an accepted sheet is restored to the sheet's very bytes
+kept-restores : (s lent : List ℕ) → Accepted s → length s ≤ length lent → restoreOf (keptOf s) lent ≡ wrote s lent
+kept-restores s lent a h = restore-writes (keptOf s) lent (keep-accepted s a) (omega (arith, keep-length s a)) ∙ ap (λ (x : List ℕ). wrote x lent) (keep-back s a)
 
--- and what restoring wrote is kept as the very bytes of the kept form
-pub restore-then-keep : (k lent : List ℕ) → AcceptedKept k → length k ≤ length lent → keepOf (restoredOf k) lent ≡ wrote k lent
-restore-then-keep k lent a h = keep-writes (restoredOf k) lent (restore-accepted k a) (omega (arith, restore-length k a)) ∙ ap (λ (x : List ℕ). wrote x lent) (restore-back k a)
+-- and the sheet of an accepted kept form is kept as the form's very bytes
+restored-keeps : (k lent : List ℕ) → AcceptedKept k → length k ≤ length lent → keepOf (restoredOf k) lent ≡ wrote k lent
+restored-keeps k lent a h = keep-writes (restoredOf k) lent (restore-accepted k a) (omega (arith, restore-length k a)) ∙ ap (λ (x : List ℕ). wrote x lent) (restore-back k a)
 
 -- ---- the entries one after the other
 
--- what keeping wrote where it refused nothing, whatever the lent bytes were
+-- the bytes that keeping says it wrote, where it refused nothing, are the kept form, whatever the lent bytes were
 pub keep-written : (s lent : List ℕ) → keepOf s lent .refusal ≡ 0 → take (keepOf s lent .bytes) (keepOf s lent .lent) ≡ keptOf s
 unfolding keepOf
 keep-written s lent e = rw (wrote-all (keepCauses s (length lent)) (keptOf s) lent (sym (keep-number s lent) ∙ e)) (take-append-seam _ _)
 
--- and what restoring wrote
+-- those that restoring says it wrote are the sheet
 pub restore-written : (k lent : List ℕ) → restoreOf k lent .refusal ≡ 0 → take (restoreOf k lent .bytes) (restoreOf k lent .lent) ≡ restoredOf k
 unfolding restoreOf
 restore-written k lent e = rw (wrote-all (restoreCauses k (length lent)) (restoredOf k) lent (sym (restore-number k lent) ∙ e)) (take-append-seam _ _)
 
--- the bytes that keeping wrote, restored into any lent bytes that are enough, are the sheet again, and the rest stays
-pub keep-written-restores : {s : List ℕ} → Bytes s → (lent other : List ℕ) → keepOf s lent .refusal ≡ 0 → length s ≤ length other
+-- the bytes that keeping says it wrote, restored into any lent bytes that are enough, are the sheet again, and the rest stays
+pub keep-then-restore : {s : List ℕ} → Bytes s → (lent other : List ℕ) → keepOf s lent .refusal ≡ 0 → length s ≤ length other
     → restoreOf (take (keepOf s lent .bytes) (keepOf s lent .lent)) other ≡ wrote s other
-keep-written-restores {s} b lent other e h = rw (keep-written s lent e) (keep-then-restore s other (keep-accepted-iff b lent .0 e .0) h)
+keep-then-restore {s} b lent other e h = rw (keep-written s lent e) (kept-restores s other (keep-accepted-iff b lent .0 e .0) h)
 
--- and the bytes that restoring wrote, kept, are the kept form again
-pub restore-written-keeps : {k : List ℕ} → Bytes k → (lent other : List ℕ) → restoreOf k lent .refusal ≡ 0 → length k ≤ length other
+-- and those that restoring says it wrote, kept, are the kept form again
+pub restore-then-keep : {k : List ℕ} → Bytes k → (lent other : List ℕ) → restoreOf k lent .refusal ≡ 0 → length k ≤ length other
     → keepOf (take (restoreOf k lent .bytes) (restoreOf k lent .lent)) other ≡ wrote k other
-restore-written-keeps {k} b lent other e h = rw (restore-written k lent e) (restore-then-keep k other (restore-accepted-iff b lent .0 e .0) h)
+restore-then-keep {k} b lent other e h = rw (restore-written k lent e) (restored-keeps k other (restore-accepted-iff b lent .0 e .0) h)

@@ -1,3 +1,4 @@
 pub mod Kept
 pub mod Archive
 pub mod AcceptedKept
+pub mod Cases

@@ -1,3 +1,4 @@
 pub mod ColumnCases
 pub mod Across
 pub mod Resolved
+pub mod Worked

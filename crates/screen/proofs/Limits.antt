@@ -1,17 +1,18 @@
--- Two limits on turns: what both readers accept they read alike, a sheet within both gets one answer, and what the smaller accepts the larger accepts. First for any two limits of any kind, then for the garage's and the screen's. Assumes nothing.
+-- Two limits on turns: what both readers accept they read alike, a sheet within both gets one answer, and what the smaller accepts the larger accepts. For any two limits of any kind, then for the garage's and the screen's. Assumes nothing.
 use Prim.Native.Nat.{ℕ, _*_, _≤_, _<_}
-use mathlib.Core.Path.{_≡_, refl, sym, _∙_}
+use mathlib.Core.Path.{_≡_, refl, sym, _∙_, ap}
 use mathlib.Core.Logic.{_≢_, _↔_}
 use mathlib.Core.List.{List}
 use native.Mathlib.Omega.{arith}
-use lib.ListN.{length}
+use lib.ListN.{length, take, drop}
+use lib.Seq.{take-at, drop-at}
 use Rattle.refusal.specs.Number.{tooManyTurns, tooManyForScreen}
 use Rattle.refusal.specs.Cause.{firstOf}
 use Rattle.wire.specs.Number.{Bytes}
 use Rattle.turns.specs.Turn.{rowNumbers}
 use Rattle.sheet.specs.declared.kind.Kind.{Kind}
 use Rattle.sheet.specs.Kind.{garage, withTurns, mostTurns, Sound, ThreeBytes}
-use Rattle.sheet.specs.Read.{turnCount, causesFor, sheetCauses, Outcome, readCausesFor, readFor, readOf}
+use Rattle.sheet.specs.Read.{turnCount, tableOf, causesFor, sheetCauses, Outcome, outcome, atFront, readAnswer, readCausesFor, readFor, readOf}
 use Rattle.sheet.specs.Accepted.{AcceptedFor, CauseFor, short-header, other-mark, groomer-count, slope-count, turn-count, no-map, wrong-map, short-fields, slope, groomer, time, worth, driver, bytes-behind, LentCauseFor, of-sheet, too-small, ReadCauseFor, FirstAmong}
 use Rattle.sheet.proofs.Alike.{same-refusal, same-reading}
 use Rattle.sheet.proofs.SoundKinds.{garage-sound}
@@ -19,8 +20,24 @@ use Rattle.sheet.proofs.Accepting.{accepted-iff-for, read-accepted-iff-for}
 use Rattle.refusal.proofs.Order.{clear-append}
 use Rattle.sheet.proofs.Readings.{causes-numbered}
 use Rattle.sheet.proofs.ReadCauses.{read-number-for, read-refused-iff-for}
+use Rattle.sheet.proofs.Tables.{table-length}
 use Rattle.sheet.proofs.Unrefused.{legal-header}
-use Rattle.screen.specs.Screen.{screenTurns, liftDesk, readShortOf, AcceptedShort, FirstShortCause}
+use Rattle.screen.specs.Screen.{screenTurns, liftDesk, readShortOf, AcceptedShort, FirstShortCause, ReadAlike}
+
+-- ---- any two kinds
+
+-- what a reader does not refuse it gives as it stands in the bytes
+read-whole : (K : Kind) (s lent : List ℕ) → readFor K s lent .answer .refusal ≡ 0 → readFor K s lent ≡ outcome (readAnswer s) (atFront (tableOf s) lent)
+unfolding readFor
+read-whole K s lent e = let z : firstOf (readCausesFor K s (length lent)) ≡ 0 = sym (read-number-for K s lent) ∙ e in rw z
+
+read-alike : (J K : Kind) (s a b : List ℕ) → readFor J s a .answer .refusal ≡ 0 → readFor K s b .answer .refusal ≡ 0 → ReadAlike (readFor J s a) (readFor K s b) a b
+read-alike J K s a b e f =
+    let n = table-length s in
+    let front : (lent : List ℕ) → take (rowNumbers * turnCount s) (atFront (tableOf s) lent) ≡ tableOf s = λ lent. take-at (tableOf s) _ (rowNumbers * turnCount s) n in
+    let behind : (lent : List ℕ) → drop (rowNumbers * turnCount s) (atFront (tableOf s) lent) ≡ drop (rowNumbers * turnCount s) lent =
+    λ lent. drop-at (tableOf s) _ (rowNumbers * turnCount s) n ∙ ap (λ (k : ℕ). drop k lent) n in
+    rw (read-whole J s a e, read-whole K s b f) (record { one-answer = refl; same-rows = front a ∙ sym (front b); first-behind = behind a; second-behind = behind b })
 
 -- ---- any two limits
 
@@ -40,10 +57,10 @@ module _ (K : Kind) (m x n y : ℕ) (s : List ℕ) where
       let clear = clear-append (causesFor (withTurns K k z) s) _ (causes-numbered (withTurns K k z) (sound .numbers) s) (sym (read-number-for (withTurns K k z) s lent) ∙ e) in
       legal-header (withTurns K k z) sound s (clear .0) .turns-to
 
-  -- a sheet that neither refuses gives the same answer and table in both
-  pub both-alike : Sound (withTurns K m x) → Sound (withTurns K n y) → (lent : List ℕ) → readFor (withTurns K m x) s lent .answer .refusal ≡ 0 → readFor (withTurns K n y) s lent .answer .refusal ≡ 0
-      → readFor (withTurns K m x) s lent ≡ readFor (withTurns K n y) s lent
-  both-alike a b lent e f = within-both (few-accepted m x a lent e) (few-accepted n y b lent f) lent
+  -- a sheet that neither refuses, each with a lent table of its own, gives one answer and the same turns in both
+  pub both-alike : (a b : List ℕ) → readFor (withTurns K m x) s a .answer .refusal ≡ 0 → readFor (withTurns K n y) s b .answer .refusal ≡ 0
+      → ReadAlike (readFor (withTurns K m x) s a) (readFor (withTurns K n y) s b) a b
+  both-alike = read-alike (withTurns K m x) (withTurns K n y) s
 
   -- what the smaller accepts the larger accepts
   pub smaller-larger : Sound (withTurns K m x) → m ≤ n → (lent : List ℕ) → readFor (withTurns K m x) s lent .answer .refusal ≡ 0 → readFor (withTurns K n y) s lent .answer .refusal ≡ 0
@@ -130,9 +147,14 @@ short-few : (s lent : List ℕ) → readShortOf s lent .answer .refusal ≡ 0 �
 unfolding readShortOf liftDesk withTurns readCausesFor
 short-few s lent e = legal-header (withTurns garage screenTurns tooManyForScreen) lift-desk-sound s (clear-append (causesFor liftDesk s) _ (causes-numbered liftDesk (lift-desk-sound .numbers) s) (sym (read-number-for liftDesk s lent) ∙ e) .0) .turns-to
 
--- what the screen's reader accepts gets the same answer and table from the garage's, which accepts it too
-pub short-alike : (s lent : List ℕ) → readShortOf s lent .answer .refusal ≡ 0 → readShortOf s lent ≡ readOf s lent
-short-alike s lent e = short-within s (short-few s lent e) lent
+-- what neither reader refuses, each with a lent table of its own, gives one answer and the same turns in both
+pub short-alike : (s a b : List ℕ) → readShortOf s a .answer .refusal ≡ 0 → readOf s b .answer .refusal ≡ 0 → ReadAlike (readShortOf s a) (readOf s b) a b
+unfolding readShortOf readOf
+short-alike s a b e f = read-alike liftDesk garage s a b e f
+
+-- what the screen's reader accepts gets the same answer and table from the garage's with the same lent table, and so is accepted there too
+pub short-same : (s lent : List ℕ) → readShortOf s lent .answer .refusal ≡ 0 → readShortOf s lent ≡ readOf s lent
+short-same s lent e = short-within s (short-few s lent e) lent
 
 pub short-garage : (s lent : List ℕ) → readShortOf s lent .answer .refusal ≡ 0 → readOf s lent .answer .refusal ≡ 0
-short-garage s lent e = rw (short-alike s lent e) at e
+short-garage s lent e = rw (short-same s lent e) at e

@@ -1,7 +1,10 @@
 -- The lift desk's sheets: the garage's with fewer turns (request R-8). Assumes nothing.
-use Prim.Native.Nat.{ℕ}
+use Prim.Native.Nat.{ℕ, _*_}
+use mathlib.Core.Path.{_≡_}
 use mathlib.Core.List.{List}
+use lib.ListN.{take, drop}
 use Rattle.refusal.specs.Number.{tooManyForScreen}
+use Rattle.turns.specs.Turn.{rowNumbers}
 use Rattle.sheet.specs.declared.kind.Kind.{Kind}
 use Rattle.sheet.specs.Kind.{garage, withTurns}
 use Rattle.sheet.specs.Read.{Outcome, readFor}
@@ -28,3 +31,13 @@ AcceptedShort = AcceptedFor liftDesk
 -- the first cause to refuse them, or the lent table, has number k
 abbrev pub FirstShortCause : List ℕ → ℕ → ℕ → Type 0
 FirstShortCause s places k = FirstAmong (ReadCauseFor liftDesk s places) k
+
+-- two readings, into the lent tables a and b, say the same
+pub record ReadAlike (p q : Outcome) (a b : List ℕ) : Type 0 where
+  -- one answer
+  pub one-answer : p .answer ≡ q .answer
+  -- the same numbers in front, a row for each turn of the answer
+  pub same-rows : take (rowNumbers * p .answer .turns) (p .table) ≡ take (rowNumbers * q .answer .turns) (q .table)
+  -- behind them either table is as it was
+  pub first-behind : drop (rowNumbers * p .answer .turns) (p .table) ≡ drop (rowNumbers * p .answer .turns) a
+  pub second-behind : drop (rowNumbers * q .answer .turns) (q .table) ≡ drop (rowNumbers * q .answer .turns) b

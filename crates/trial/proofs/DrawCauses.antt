@@ -7,8 +7,9 @@ use mathlib.Core.Logic.{_↔_}
 use lib.ListN.{length}
 use borrow.Author.Tests.{ltb-true, lt-ltb}
 use Rattle.refusal.specs.Cause.{There}
+use Rattle.refusal.specs.Written.{kept}
 use Rattle.refusal.proofs.Places.{causeAt, there-at, at-there}
-use Rattle.refusal.proofs.Written.{enough-iff}
+use Rattle.refusal.proofs.Written.{kept-first, enough-iff}
 use Rattle.turns.specs.declared.Counts.{Counts}
 use Rattle.turns.proofs.Ranges.{outside-iff}
 use Rattle.sheet.specs.Kind.{mostGroomers, mostSlopes, mostTurns, garage}
@@ -57,3 +58,8 @@ module _ (seed : ℕ) (counts : Counts) (turns : ℕ) (lent : List ℕ) where
         λ z. let h = enough .0 (sym (draw-number seed counts turns lent) ∙ z) in let p = fine .0 (h .0) in (p .0, p .1, h .1),
         λ h. draw-number seed counts turns lent ∙ enough .1 (fine .1 (h .0, h .1), h .2),
       )
+
+  -- a refusal leaves the lent bytes as they were, and says that none is written
+  pub draw-unchanged : (drawOf seed counts turns lent .refusal ≡ 0 → ⊥) → drawOf seed counts turns lent ≡ kept (drawOf seed counts turns lent .refusal) lent
+  unfolding drawOf
+  draw-unchanged n = kept-first (drawCauses seed counts turns (length lent)) (drawnSheet seed counts turns) lent (drawOf seed counts turns lent .refusal) (sym (draw-number seed counts turns lent)) n

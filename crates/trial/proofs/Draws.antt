@@ -1,6 +1,6 @@
 -- Draws stay where they can be drawn, and each drawn turn is in range. Assumes nothing.
 use Prim.Native.Nat.{ℕ, zero, suc, _+_, _*_, _/_, _%_, _<_, _≤_}
-use mathlib.Core.Path.{_≡_, refl}
+use mathlib.Core.Path.{_≡_, refl, ap}
 use mathlib.Core.Bool.{Bool, true, false, cond}
 use native.Mathlib.Omega.{arith}
 use native.Mathlib.Nat.{mod-lt}
@@ -11,7 +11,7 @@ use Rattle.sorting.specs.Sorting.{AllOf}
 use Rattle.turns.specs.declared.Turn.{Turn}
 use Rattle.turns.specs.declared.Counts.{Counts}
 use Rattle.turns.specs.Turn.{mostWorth, InRange}
-use Rattle.trial.specs.Draw.{drawFactor, drawModulus, nextDraw, drawNumber, drawnLength, lengthPlaces, fromOne, turnDrawn, turnDraws, turnAfter, drawnTurns, Drawable}
+use Rattle.trial.specs.Draw.{drawFactor, drawModulus, nextDraw, drawNumber, drawnLength, lengthPlaces, fromOne, turnDrawn, turnDraws, turnAfter, drawnTurns, Drawable, LengthAt, half-hour, three-quarters, whole-hour, longest, FieldsDrawn}
 
 -- ---- the generator
 
@@ -109,3 +109,31 @@ drawn-at (suc n) counts x zero d h = rw (number-none x)
 drawn-at (suc n) counts x (suc i) d h =
     let e : turnDraws * suc i ≡ turnDraws + turnDraws * i = omega arith in
     rw (e, ← number-add) (drawn-at n counts (drawNumber turnDraws x) i d (omega arith))
+
+length-at : (p : ℕ) → LengthAt p (drawnLength p)
+unfolding drawnLength
+length-at p = go (ltb p 40) (ltb p 70) (ltb p 90) refl refl refl
+  where
+    go : (a b c : Bool) → ltb p 40 ≡ a → ltb p 70 ≡ b → ltb p 90 ≡ c → LengthAt p (cond a 30 (cond b 45 (cond c 60 90)))
+    go true b c e f g = half-hour {p = p} (omega (arith, ltb-true p 40 e))
+    go false true c e f g = three-quarters {p = p} (ltb-false p 40 e) (omega (arith, ltb-true p 70 f))
+    go false false true e f g = whole-hour {p = p} (ltb-false p 70 f) (omega (arith, ltb-true p 90 g))
+    go false false false e f g = longest {p = p} (ltb-false p 90 g)
+
+-- the turn of the five draws behind draw number 5 k
+fields-after : (counts : Counts) (seed k : ℕ) → FieldsDrawn counts seed k (turnAfter counts (drawNumber (5 * k) seed))
+unfolding turnAfter turnDrawn
+fields-after counts seed k =
+    let at : (j : ℕ) → drawNumber j (drawNumber (5 * k) seed) ≡ drawNumber (5 * k + j) seed = λ j. number-add (5 * k) j seed in
+    record {
+      slope = ap (λ (d : ℕ). 1 + d % counts .slopes) (at 1);
+      groomer = ap (λ (d : ℕ). 1 + d % counts .groomers) (at 2);
+      start = ap (λ (d : ℕ). d % 841) (at 3);
+      length = rw (at 4) (length-at (drawNumber (5 * k + 4) seed % 100));
+      worth = ap (λ (d : ℕ). 1 + d % 60000) (at 5);
+      driver = refl;
+    }
+
+-- turn k has the values that the draws 5 k + 1 to 5 k + 5 give
+pub drawn-fields : (n : ℕ) (counts : Counts) (seed k : ℕ) (d : Turn) → k < n → FieldsDrawn counts seed k (getD (drawnTurns n counts seed) k d)
+drawn-fields n counts seed k d h = rw (drawn-at n counts seed k d h) (fields-after counts seed k)

@@ -2,3 +2,4 @@ pub mod Draws
 pub mod Drawings
 pub mod Trials
 pub mod DrawCauses
+pub mod Worked

@@ -12,6 +12,7 @@ use lib.Seq.{take-append-seam}
 use borrow.Author.Tests.{eq-eqb, le-ltb}
 use Rattle.refusal.specs.Number.{badSeed, bufferTooSmall}
 use Rattle.refusal.specs.Cause.{_when_, firstOf}
+use Rattle.refusal.specs.Written.{Written}
 use Rattle.refusal.proofs.Order.{numbered, first-stops, clear-cons}
 use Rattle.refusal.proofs.Written.{same-first, first-append, number-first, wrote-all, enough-iff}
 use Rattle.turns.specs.declared.Counts.{Counts}
@@ -28,9 +29,11 @@ use Rattle.writing.specs.Write.{writtenTurns, tableCauses, writeCauses, writeOf
 use Rattle.writing.proofs.Orders.{sorted-length}
 use Rattle.writing.proofs.Writable.{table-numbered, all-fine}
 use Rattle.writing.proofs.RoundTrip.{writable-table, written-sheet, reading}
+use Rattle.writing.proofs.Promised.{write-promised}
 use Rattle.trial.specs.Draw.{mostDraw, drawnTurns, drawnTable, Drawable}
 use Rattle.trial.specs.Trial.{drawnSheet, seedCauses, drawCauses, drawOf}
-use Rattle.trial.proofs.Draws.{drawn-all, drawn-length}
+use Rattle.trial.specs.Promises.{DrawPromised}
+use Rattle.trial.proofs.Draws.{drawn-all, drawn-length, drawn-fields}
 
 module _ (seed : ℕ) (counts : Counts) (turns : ℕ) where
   -- ---- the drawn table
@@ -126,3 +129,19 @@ module _ (seed : ℕ) (counts : Counts) (turns : ℕ) where
       let l = seed-iff .0 (enough-iff (seedCauses seed counts turns) (length lent) (length (drawnSheet seed counts turns)) seed-numbered .0 z .0) .1 in
       let n : length (sortedTurns (drawnTurns turns counts seed)) ≡ turns = sorted-length (drawnTurns turns counts seed) ∙ drawn-length turns counts seed in
       rw (drawn-bytes lent e) (reading (drawn-sheet l) table ∙ rw (n, le-ltb (length table) (rowNumbers * turns) h))
+
+  -- ---- what is promised where nothing is refused
+
+  pub draw-promised : (lent : List ℕ) → drawOf seed counts turns lent .refusal ≡ 0 → DrawPromised seed counts turns lent
+  unfolding drawCauses
+  draw-promised lent e =
+      let z = sym (draw-number lent) ∙ e in
+      let d = seed-iff .0 (enough-iff (seedCauses seed counts turns) (length lent) (length (drawnSheet seed counts turns)) seed-numbered .0 z .0) .0 in
+      let w = drawn-as-written lent d in
+      record {
+        drawn = drawnTurns turns counts seed;
+        many = drawn-length turns counts seed;
+        fields = λ k t h. drawn-fields turns counts seed k t h;
+        as-written = w;
+        promised = write-promised counts (drawnTable turns counts seed) lent (sym (ap (λ (x : Written). x .refusal) w) ∙ e);
+      }

@@ -1,5 +1,6 @@
 -- Numbers drawn one after another from a seed, and the turns that they make (request R-11). Assumes nothing.
 use Prim.Native.Nat.{ℕ, zero, suc, _+_, _*_, _%_, _≤_}
+use mathlib.Core.Path.{_≡_}
 use mathlib.Core.Bool.{cond}
 use mathlib.Core.List.{List, [], _∷_}
 use lib.Dec.{ltb}
@@ -83,3 +84,25 @@ drawnTable n counts x = rows (drawnTurns n counts x)
 pub record Drawable (x : ℕ) : Type 0 where
   pub from : 1 ≤ x
   pub to : x ≤ mostDraw
+
+-- the minutes that a place among a hundred gives
+pub data LengthAt : ℕ → ℕ → Type 0 where
+  half-hour : {p : ℕ} → p ≤ 39 → LengthAt p 30
+  three-quarters : {p : ℕ} → 40 ≤ p → p ≤ 69 → LengthAt p 45
+  whole-hour : {p : ℕ} → 70 ≤ p → p ≤ 89 → LengthAt p 60
+  longest : {p : ℕ} → 90 ≤ p → LengthAt p 90
+
+-- which draw gives which value of turn k of a seed: turns are counted from 0, draws from 1, and the seed is no draw
+pub record FieldsDrawn (counts : Counts) (seed k : ℕ) (t : Turn) : Type 0 where
+  -- the slope goes by the first of the turn's five draws
+  pub slope : t .slope ≡ 1 + drawNumber (5 * k + 1) seed % counts .slopes
+  -- the groomer by the second
+  pub groomer : t .groomer ≡ 1 + drawNumber (5 * k + 2) seed % counts .groomers
+  -- the start by the third
+  pub start : t .start ≡ drawNumber (5 * k + 3) seed % 841
+  -- the length by the fourth
+  pub length : LengthAt (drawNumber (5 * k + 4) seed % 100) (t .length)
+  -- the worth by the fifth
+  pub worth : t .worth ≡ 1 + drawNumber (5 * k + 5) seed % 60000
+  -- the driver by none
+  pub driver : t .driver ≡ 0

@@ -1,3 +1,5 @@
 pub mod Draw
 pub mod Trial
 pub mod DrawCause
+pub mod Promises
+pub mod Cases

@@ -5,3 +5,4 @@ pub mod Writable
 pub mod Shortest
 pub mod RoundTrip
 pub mod WriteCauses
+pub mod Promised

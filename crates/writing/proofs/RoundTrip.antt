@@ -86,7 +86,7 @@ sheet-below counts ts g s =
     bytes-append mark (more g (more s (bytes-append (bytes-below 2 (length ts)) (records-below true (firstCursor .prev) ts))))
 
 module _ (counts : Counts) (table : List ℕ) (e : firstOf (tableCauses counts table) ≡ 0) where
-  written-rows : length (writtenTurns table) ≡ tableRows table
+  pub written-rows : length (writtenTurns table) ≡ tableRows table
   written-rows = sorted-length (tableTurns table) ∙ table-turns-length (tableRows table) table 0
 
   pub written-sheet : SheetFor garage (sheetOf counts (writtenTurns table)) counts (writtenTurns table)
@@ -237,10 +237,6 @@ module _ (counts : Counts) (table : List ℕ) {s : List ℕ} {ts : List Turn} (f
 
   pub written-only : length s ≡ length (sheetOf counts (writtenTurns table)) → s ≡ sheetOf counts (writtenTurns table)
   written-only e = shortest-only in-order-sheet e
-
-  -- so of the bytes that the writer says it wrote
-  pub write-shortest : (out : List ℕ) → writeOf counts table out .refusal ≡ 0 → writeOf counts table out .bytes ≤ length s
-  write-shortest out e = let a = write-accepts counts table out e in rw (writing counts table out (a .0) (a .1)) written-shortest
 
 -- what was read of a written sheet, written again, is that sheet
 pub write-again : (counts : Counts) (table out : List ℕ) → firstOf (tableCauses counts table) ≡ 0 → length (sheetOf counts (writtenTurns table)) ≤ length out

@@ -105,6 +105,11 @@ first-full-iff t = (λ e z. absurd (to e z), λ n. rw (ne-eqb 0 (t .driver) (λ 
     to : firstMap + 32 * differs 0 (t .driver) ≡ fullMap → t .driver ≡ 0 → ⊥
     to e z = let s = rw (eq-eqb 0 (t .driver) (sym z)) at e in omega arith
 
+-- and the least that it may be if its turn has none
+pub first-least : (t : Turn) → t .driver ≡ 0 → mapFor true (firstCursor .prev) t ≡ firstMap
+unfolding mapFor firstCursor
+first-least t z = rw (eq-eqb 0 (t .driver) (sym z))
+
 -- it is a map that the record may have
 pub map-good : (first : Bool) (p t : Turn) → GoodMap (garage .maps) first (mapFor first p t)
 unfolding garage
