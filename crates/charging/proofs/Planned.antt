@@ -3,19 +3,15 @@ use mathlib.Core.Path.{_≡_, sym, _∙_, ap}
 use mathlib.Core.Bool.{true, false, cond}
 use mathlib.Core.List.{List, [], _∷_}
 use Prim.Native.Nat.{ℕ}
-use native.Mathlib.Omega.{arith}
 use lib.IntN.{ℤ}
-use lib.ListN.{length, take}
+use lib.ListN.{length}
 use Rattle.wire.specs.Number.{puts}
 use Rattle.model.specs.Turns.{Turns}
 use Rattle.model.specs.Steps.{Step, left, initial, afterStepBy}
 use Rattle.model.specs.Pick.{pick, nextStep, planBy, steps}
-use Rattle.model.proofs.Residuals.{open-left, left-open, left-after-by}
 use Rattle.board.specs.Board.{stepBytes}
 use Rattle.problem.specs.Columns.{turnsBy}
 use Rattle.problem.proofs.Rows.{count-is}
-use Rattle.remaining.specs.Remaining.{withoutSpent, Remaining}
-use Rattle.remaining.proofs.Remaining.{remaining-kept}
 use Rattle.hallmodel.specs.Hall.{Hall, isWide, isSmall}
 use Rattle.hallmodel.specs.Plan.{turnsAmong, smallTakes, wideSteps, smallSteps}
 use Rattle.hallmodel.proofs.Open.{first-only}
@@ -57,14 +53,7 @@ module _ (a : Among) (cols own : List ℕ) (s : List ℤ) where
     pub small-written : (l : List ℕ) (at : ℕ) {l′ : List ℕ} → l′ ≡ puts l at (stepBytes (record { turn = j; amount = left s j } ∷ [])) → l′ ≡ puts l at (stepBytes (nextStep T s ∷ []))
     small-written l at q = q ∙ ap (λ (x : Step). puts l at (stepBytes (x ∷ []))) next-is
 
-  -- no step opens a window again
-  pub small-goes : {list : List ℕ} → Remaining T s list → (list′ : List ℕ) (k j : ℕ) → take k list′ ≡ withoutSpent s list → {s′ : List ℤ} → s′ ≡ next s (record { turn = j; amount = left s j }) → Remaining T s′ (take k list′)
-  small-goes h list′ k j e q =
-      let r = remaining-kept T h in
-      let x : Step = record { turn = j; amount = left s j } in
-      rw (e, q) (record { order = r .order; inside = r .inside; all = λ t l o. r .all t l (left-open s t (omega (arith, open-left (next s x) t o, left-after-by (smallTakes H) s x t))) })
-
-pub ruleset small-cases = (small-taken, small-written, small-goes)
+pub ruleset small-cases = (small-taken, small-written)
 
 -- ---- from the worths on
 

@@ -1,5 +1,5 @@
 // The steps of one kind: the wide windows' are a shift's of one groomer, the small windows' take by their
-// draws. The pick is the same, over the list of those that remain.
+// draws. The pick is the same.
 ghost use mathlib.Core.Path.{_≡_};
 ghost use mathlib.Core.Bool.{true, false};
 ghost use mathlib.Core.List.{[], _∷_};
@@ -11,7 +11,6 @@ ghost use Rattle.model.specs.Pick.{pick, planBy};
 ghost use Rattle.board.specs.Board.{stepSize, stepBytes};
 ghost use Rattle.problem.specs.Columns.{turnsBy, Held};
 ghost use Rattle.ratio.specs.Bounds.{Residuals};
-ghost use Rattle.remaining.specs.Remaining.{Remaining};
 ghost use Rattle.hallmodel.specs.Plan.{turnsAmong, smallTakes, smallSteps};
 ghost use Rattle.charging.specs.Among.{hallBy, ofKind, stepsBy};
 ghost use Rattle.charging.specs.Bounds.{HallHeld, OnlySmall};
@@ -42,23 +41,20 @@ fn run_steps(
     a: Among,
     cols: &[u16; PLACES],
     own: &[u16; PLACES],
-    list: &mut [u16],
     out: &mut [u8],
 ) -> usize
     requires { ⌜ (stepSize * a .size .count ≤ length (now out)) × HallHeld a (now cols) × Held (a .size) (now own) ⌝ }
     requires { ⌜ Residuals (a .size .count) (now rest) × OnlySmall a (now cols) (now rest) ⌝ }
-    requires { ⌜ (length (now list) ≡ a .size .count) × Remaining (turnsBy (a .size) (now own)) (now rest) (now list) ⌝ }
     ensures { λ r. ⌜ r ≡ length (planBy (turnsBy (a .size) (now (own .entry))) (afterStepBy (smallTakes (hallBy a (now (cols .entry))))) (a .size .count)
         (now (rest .entry))) ⌝ }
     ensures { λ _. ⌜ now (out .exit) ≡ puts (now (out .entry)) 0 (stepBytes (planBy (turnsBy (a .size) (now (own .entry)))
         (afterStepBy (smallTakes (hallBy a (now (cols .entry))))) (a .size .count) (now (rest .entry)))) ⌝ }
 {
     let n = a.size.count;
-    let mut k = n;
     let mut m = 0;
+    // Each step closes its own window, so that there are never more; the test of m bounds what is written.
     while m < n {
-        k = remaining::remove_spent(&*rest, &mut *list, k);
-        let j = remaining::pick_turn(&*rest, a.size, own, &list[0..k]);
+        let j = remaining::pick_turn(&*rest, a.size, own);
         if n <= j {
             return m;
         }
@@ -69,14 +65,8 @@ fn run_steps(
 }
 
 // The small windows' steps, from their worths on.
-fn plan_small(
-    a: Among,
-    cols: &[u16; PLACES],
-    own: &[u16; PLACES],
-    out: &mut [u8],
-    spare: &mut [u16],
-) -> usize
-    requires { ⌜ (a .wide ≡ false) × (stepSize * a .size .count ≤ length (now out)) × (a .size .count ≤ length (now spare)) ⌝ }
+fn plan_small(a: Among, cols: &[u16; PLACES], own: &[u16; PLACES], out: &mut [u8]) -> usize
+    requires { ⌜ (a .wide ≡ false) × (stepSize * a .size .count ≤ length (now out)) ⌝ }
     requires { ⌜ HallHeld a (now cols) × Held (a .size) (now own) ⌝ }
     requires { ⌜ turnsBy (a .size) (now own) ≡ turnsAmong (hallBy a (now cols)) (ofKind a (now cols)) ⌝ }
     ensures { λ r. ⌜ r ≡ length (smallSteps (hallBy a (now (cols .entry)))) ⌝ }
@@ -84,12 +74,9 @@ fn plan_small(
 {
     let n = a.size.count;
     let mut space = [0i32; MOST_TURNS];
-    let mut numbers = [0u16; MOST_TURNS];
     let rest = &mut space[0..n];
-    let list = &mut numbers[0..n];
     ratio::set_initial(&mut *rest, a.size, own);
-    remaining::set_by_end(a.size, own, &mut *list, &mut *spare);
-    run_steps(&mut *rest, a, cols, own, &mut *list, &mut *out)
+    run_steps(&mut *rest, a, cols, own, &mut *out)
 }
 
 // Writes the steps of the kind that is meant; returns how many.
@@ -100,9 +87,8 @@ pub fn plan_among(a: Among, cols: &[u16; PLACES], out: &mut [u8]) -> usize
 {
     let mut own = [0u16; PLACES];
     put_among(a, cols, &mut own);
-    let mut spare = [0u16; MOST_TURNS];
     if a.wide {
-        return stepping::plan_steps(a.size, &own, &mut *out, &mut spare);
+        return stepping::plan_steps(a.size, &own, &mut *out);
     }
-    plan_small(a, cols, &own, &mut *out, &mut spare)
+    plan_small(a, cols, &own, &mut *out)
 }

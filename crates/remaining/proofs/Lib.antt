@@ -1,3 +1,2 @@
 pub mod Remaining
-pub mod Removing
 pub mod Picks

@@ -1,7 +1,4 @@
-// The list of turns that remain, and the pick among them.
-mod ordering;
+// The pick: what is spent is removed, and the earliest end is looked for among the turns that remain.
 mod picking;
 
-pub use ordering::set_by_end;
 pub use picking::pick_turn;
-pub use picking::remove_spent;

@@ -6,9 +6,6 @@ use Rattle.charging.proofs.running.plan_among.Tie as tie
 put-among-requires : tie.Need-put-among-requires
 put-among-requires c κs = search needs
 
-slice-aggregate-plan-steps : tie.Need-slice-aggregate-plan-steps
-slice-aggregate-plan-steps c = search needs
-
 plan-steps-requires : tie.Need-plan-steps-requires
 plan-steps-requires c κs = search needs
 
@@ -17,9 +14,6 @@ same-length c = search needs
 
 returns : tie.Need-returns
 returns c = search (needs, among-steps)
-
-slice-aggregate-plan-small : tie.Need-slice-aggregate-plan-small
-slice-aggregate-plan-small c = search needs
 
 plan-small-requires : tie.Need-plan-small-requires
 plan-small-requires c κs = search needs
@@ -35,11 +29,9 @@ plan-among-spec =
     tie.close
     (tie.spec
     put-among-requires
-    slice-aggregate-plan-steps
     plan-steps-requires
     same-length
     returns
-    slice-aggregate-plan-small
     plan-small-requires
     same-length-2
     returns-2)

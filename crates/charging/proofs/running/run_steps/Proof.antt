@@ -1,6 +1,5 @@
 use Rattle.ratio.specs.Bounds.{Residuals}
-use Rattle.remaining.specs.Remaining.{Remaining}
-use Rattle.stepping.proofs.Planning.{Counted, Put, pick-open, run-cases, remaining-cases}
+use Rattle.stepping.proofs.Planning.{Counted, Put, pick-open, run-cases}
 use Rattle.model.specs.Steps.{afterStepBy}
 use Rattle.model.specs.Pick.{planBy}
 use Rattle.wire.specs.Number.{puts}
@@ -9,7 +8,7 @@ use Rattle.problem.specs.Columns.{turnsBy}
 use Rattle.hallmodel.specs.Plan.{smallTakes}
 use Rattle.charging.specs.Among.{hallBy}
 use Rattle.charging.specs.Bounds.{OnlySmall}
-use lib.ListN.{length, take}
+use lib.ListN.{length}
 use mathlib.Core.Path.{_≡_}
 use Prim.Native.Nat.{_-_, _≤_}
 use borrow.Author.Needs.{needs}
@@ -18,28 +17,16 @@ use Rattle.charging.proofs.running.run_steps.Statement.{statement}
 use Rattle.charging.proofs.running.run_steps.Tie as tie
 
 abbrev Inv-loop : tie.InvT-loop
-Inv-loop rest₀ a cols own list₀ out₀ n k₀ m₀ rest list out k m = (m ≤ n) × Residuals n rest × OnlySmall a cols rest × (length out ≡ length out₀) × (length list ≡ n) × (k ≤ n) × Remaining (turnsBy (a .size) own) rest (take k list) × Counted (a .size) own (afterStepBy (smallTakes (hallBy a cols))) rest m (length (planBy (turnsBy (a .size) own) (afterStepBy (smallTakes (hallBy a cols))) n rest₀)) × Put (a .size) own (afterStepBy (smallTakes (hallBy a cols))) rest m out (puts out₀ 0 (stepBytes (planBy (turnsBy (a .size) own) (afterStepBy (smallTakes (hallBy a cols))) n rest₀)))
+Inv-loop rest₀ a cols own out₀ n m₀ rest out m = (m ≤ n) × Residuals n rest × OnlySmall a cols rest × (length out ≡ length out₀) × Counted (a .size) own (afterStepBy (smallTakes (hallBy a cols))) rest m (length (planBy (turnsBy (a .size) own) (afterStepBy (smallTakes (hallBy a cols))) n rest₀)) × Put (a .size) own (afterStepBy (smallTakes (hallBy a cols))) rest m out (puts out₀ 0 (stepBytes (planBy (turnsBy (a .size) own) (afterStepBy (smallTakes (hallBy a cols))) n rest₀)))
 
 abbrev μ-loop : tie.MeasureT-loop
-μ-loop rest₀ a cols own list₀ out₀ n k₀ m₀ rest list out k m = n - m
+μ-loop rest₀ a cols own out₀ n m₀ rest out m = n - m
 
 loop-holds : tie.Need-loop-holds Inv-loop μ-loop
-loop-holds c = search (needs, run-cases, remaining-cases)
-
-remove-spent-requires : tie.Need-remove-spent-requires Inv-loop μ-loop
-remove-spent-requires c κs = search (needs, remaining-cases)
-
-sub-pick-turn : tie.Need-sub-pick-turn Inv-loop μ-loop
-sub-pick-turn c = search (needs, remaining-cases)
-
-part-pick-turn-start : tie.Need-part-pick-turn-start Inv-loop μ-loop
-part-pick-turn-start c = search (needs, remaining-cases)
-
-part-pick-turn-end : tie.Need-part-pick-turn-end Inv-loop μ-loop
-part-pick-turn-end c = search (needs, remaining-cases)
+loop-holds c = search (needs, run-cases)
 
 pick-turn-requires : tie.Need-pick-turn-requires Inv-loop μ-loop
-pick-turn-requires c κs = search (needs, remaining-cases)
+pick-turn-requires c κs = search needs
 
 same-length : tie.Need-same-length Inv-loop μ-loop
 same-length c = search needs
@@ -47,14 +34,11 @@ same-length c = search needs
 same-length-2 : tie.Need-same-length-2 Inv-loop μ-loop
 same-length-2 c = search needs
 
-same-length-3 : tie.Need-same-length-3 Inv-loop μ-loop
-same-length-3 c = search needs
-
 returns : tie.Need-returns Inv-loop μ-loop
 returns c = search (needs, run-cases)
 
 plan-step-requires : tie.Need-plan-step-requires Inv-loop μ-loop
-plan-step-requires c κs = ((search needs, pick-open _ _ _ (c .before .before .before .pick-turn .ensures .0 .0) (search needs), search needs, search needs), (search needs, search needs))
+plan-step-requires c κs = ((search needs, search (needs, pick-open), search needs, search needs), (search needs, search needs))
 
 add-m : tie.Need-add-m Inv-loop μ-loop
 add-m c = search needs
@@ -63,16 +47,13 @@ loop-less : tie.Need-loop-less Inv-loop μ-loop
 loop-less c = search needs
 
 loop-again : tie.Need-loop-again Inv-loop μ-loop
-loop-again c = (search needs, search needs, search needs, search needs, search needs, search needs, search small-cases, search (run-cases, small-cases), search (run-cases, small-cases))
+loop-again c = (search needs, search needs, search needs, search needs, search (run-cases, small-cases), search (run-cases, small-cases))
+
+same-length-3 : tie.Need-same-length-3 Inv-loop μ-loop
+same-length-3 c = search needs
 
 same-length-4 : tie.Need-same-length-4 Inv-loop μ-loop
 same-length-4 c = search needs
-
-same-length-5 : tie.Need-same-length-5 Inv-loop μ-loop
-same-length-5 c = search needs
-
-same-length-6 : tie.Need-same-length-6 Inv-loop μ-loop
-same-length-6 c = search needs
 
 returns-2 : tie.Need-returns-2 Inv-loop μ-loop
 returns-2 c = search (needs, run-cases)
@@ -84,20 +65,14 @@ run-steps-spec =
     Inv-loop
     μ-loop
     loop-holds
-    remove-spent-requires
-    sub-pick-turn
-    part-pick-turn-start
-    part-pick-turn-end
     pick-turn-requires
     same-length
     same-length-2
-    same-length-3
     returns
     plan-step-requires
     add-m
     loop-less
     loop-again
+    same-length-3
     same-length-4
-    same-length-5
-    same-length-6
     returns-2)
