@@ -106,8 +106,8 @@ module _ (units : ℕ) (p : Size) (cols : List ℕ) where
   small-is = refl
 
   kind-length : (a : Among) → a .size ≡ p → length (mapOf (kindChoice a cols)) ≡ mapBytes (p .count)
-  unfolding kindChoice
-  kind-length a e = map-length (kindChoice a cols) ∙ ap mapBytes (chosen-length (hallBy a cols) (ofKind a cols) (stepsBy a cols) ∙ count-is (a .size) cols ∙ ap (λ (q : Size). q .count) e)
+  unfolding kindChoice chooseAmong
+  kind-length a e = map-length (kindChoice a cols) ∙ ap mapBytes (chosen-length (hallBy a cols) (ofKind a cols) (windowCount (hallBy a cols)) (stepsBy a cols) ∙ count-is (a .size) cols ∙ ap (λ (q : Size). q .count) e)
 
   -- bytes put over as many
   over : (l vs : List ℕ) → length vs ≡ length l → puts l 0 vs ≡ vs

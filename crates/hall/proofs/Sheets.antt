@@ -1,5 +1,5 @@
 -- What the entry's answer promises, where it refuses nothing. Assumes nothing.
-use Prim.Native.Nat.{ℕ}
+use Prim.Native.Nat.{ℕ, _≤_, _<_}
 use mathlib.Core.Path.{_≡_, sym, ap, _∙_}
 use mathlib.Core.Bool.{Bool}
 use mathlib.Core.List.{List}
@@ -10,7 +10,7 @@ use Rattle.choicemap.specs.Choice.{mapBytes, mapOf, choiceIn}
 use Rattle.choicemap.proofs.Clean.{map-length, map-choice}
 use Rattle.problem.proofs.Posed.{sheet-count-for}
 use Rattle.hallmodel.specs.Hall.{windowCount}
-use Rattle.hallmodel.specs.Plan.{wideChoice, smallChoice, hallChoice, hallWorth}
+use Rattle.hallmodel.specs.Plan.{wideChoice, smallChoice, worthIn, hallChoice, hallWorth}
 use Rattle.hallmodel.proofs.Halls.{greater-first, greater-second, plan-length}
 use Rattle.hall.specs.Charge.{chargingSheet, hallOf, chargeOf, Charged}
 use Rattle.hall.specs.Sheet.{answeredMap, answeredChoice, ChargePromised}
@@ -38,9 +38,18 @@ module _ (s lent : List ℕ) (e : chargeOf s lent .refusal ≡ 0) where
   choice-is : answeredChoice s lent ≡ S
   choice-is = ap (choiceIn (turnCount s)) map-is ∙ ap (λ (n : ℕ). choiceIn n (mapOf S)) (sym bits) ∙ map-choice S
 
+  -- it is the plan of greater worth
+  wide-is : worthIn (hallOf s) (smallChoice (hallOf s)) < worthIn (hallOf s) (wideChoice (hallOf s)) → answeredChoice s lent ≡ wideChoice (hallOf s)
+  unfolding hallChoice
+  wide-is l = choice-is ∙ greater-first (hallOf s) (wideChoice (hallOf s)) (smallChoice (hallOf s)) l
+
+  small-is : worthIn (hallOf s) (wideChoice (hallOf s)) ≤ worthIn (hallOf s) (smallChoice (hallOf s)) → answeredChoice s lent ≡ smallChoice (hallOf s)
+  unfolding hallChoice
+  small-is l = choice-is ∙ greater-second (hallOf s) (wideChoice (hallOf s)) (smallChoice (hallOf s)) l
+
   -- every answer that refuses nothing
   pub charge-promised : ChargePromised s lent
-  unfolding hallWorth hallChoice
+  unfolding hallWorth
   charge-promised =
       let p = charge-promises s lent e in
       record {
@@ -52,6 +61,8 @@ module _ (s lent : List ℕ) (e : chargeOf s lent .refusal ≡ 0) where
         bound = λ R r. rw worth-is (p .hall-bound R r);
         covers-wide = rw worth-is (p .covers-wide);
         covers-small = rw worth-is (p .covers-small);
-        wide-plan = λ l. choice-is ∙ greater-first (hallOf s) (wideChoice (hallOf s)) (smallChoice (hallOf s)) l;
-        small-plan = λ l. choice-is ∙ greater-second (hallOf s) (wideChoice (hallOf s)) (smallChoice (hallOf s)) l;
+        wide-plan = wide-is;
+        small-plan = small-is;
+        wide-full = λ l. rw (wide-is l) (p .wide-full);
+        small-full = λ l. rw (small-is l) (p .small-full);
       }

@@ -8,7 +8,7 @@ use lib.ListN.{length, take, drop}
 use Rattle.model.specs.Choice.{has}
 use Rattle.sheet.specs.Read.{turnCount}
 use Rattle.choicemap.specs.Choice.{mapBytes, mapOf, choiceIn}
-use Rattle.hallmodel.specs.Hall.{isWide, isSmall, Allowed, AllowedChoice}
+use Rattle.hallmodel.specs.Hall.{isWide, isSmall, Allowed, AllowedChoice, FullAmong}
 use Rattle.hallmodel.specs.Plan.{smallSteps, wideChoice, smallChoice, worthIn}
 use Rattle.hallmodel.specs.Promises.{worthOfWindows}
 use Rattle.hall.specs.Charge.{hallOf, chargeOf}
@@ -43,3 +43,6 @@ pub record ChargePromised (s lent : List ℕ) : Type 0 where
   -- and it is one of the two: the wide windows' just where that one earns more, the small windows' on a tie too
   pub wide-plan : worthIn (hallOf s) (smallChoice (hallOf s)) < worthIn (hallOf s) (wideChoice (hallOf s)) → answeredChoice s lent ≡ wideChoice (hallOf s)
   pub small-plan : worthIn (hallOf s) (wideChoice (hallOf s)) ≤ worthIn (hallOf s) (smallChoice (hallOf s)) → answeredChoice s lent ≡ smallChoice (hallOf s)
+  -- it is full: no further window of that kind could be chosen
+  pub wide-full : worthIn (hallOf s) (smallChoice (hallOf s)) < worthIn (hallOf s) (wideChoice (hallOf s)) → FullAmong (hallOf s) (isWide (hallOf s)) (answeredChoice s lent)
+  pub small-full : worthIn (hallOf s) (wideChoice (hallOf s)) ≤ worthIn (hallOf s) (smallChoice (hallOf s)) → FullAmong (hallOf s) (isSmall (hallOf s)) (answeredChoice s lent)

@@ -2,7 +2,7 @@
 use mathlib.Core.Path.{_≡_, refl, sym, ap, _∙_}
 use mathlib.Core.Logic.{_≢_, _↔_, _⊎_, inl, inr}
 use mathlib.Core.Bool.{Bool, true, false, not, _&&_}
-use mathlib.Core.List.{List}
+use mathlib.Core.List.{List, _∷_, map}
 use Prim.Native.Nat.{ℕ, _+_, _-_, _≤_, _<_}
 use native.Mathlib.Omega.{arith}
 use native.Mathlib.Decide.{decLt}
@@ -10,15 +10,16 @@ use lib.Dec.{leb}
 use lib.ListN.{length, set, replicate, length-set, length-replicate}
 use lib.Seq.{getD-set-same}
 use borrow.Author.Tests.{leb-true, leb-false, not-false}
-use Rattle.lists.specs.Lists.{sum, All}
+use Rattle.lists.specs.Lists.{sum, All, more}
 use Rattle.model.specs.Steps.{Step}
-use Rattle.model.specs.Choice.{has, chosen, members}
-use Rattle.lists.proofs.Bools.{and-1, and-2, not-both, every-at, every-not, second-fails}
+use Rattle.model.specs.Choice.{has, chosen, members, back, fill}
+use Rattle.model.specs.Feasible.{Distinct}
+use Rattle.lists.proofs.Bools.{and-1, and-2, not-both, fails, every-at, every-not, second-fails}
 use Rattle.lists.proofs.Sums.{all-map}
 use Rattle.model.proofs.Members.{chosen-members, members-are, members-once, members-each}
-use Rattle.model.proofs.Choices.{put-keeps, put-from, none-chosen, back-kept, fill-kept, chosen-put, chosen-put-most, chosen-some}
-use Rattle.hallmodel.specs.Hall.{Hall, windowCount, vehicle, draw, sameVehicle, chargesAt, drawAt, drawnAt, vehicleFree, supplyLasts, staysAllowed, AllowedChoice}
-use Rattle.hallmodel.specs.Plan.{fitsAmong, chooseAmong}
+use Rattle.model.proofs.Choices.{put-keeps, put-from, none-chosen, back-kept, fill-kept, fill-full, chosen-mono, chosen-put, chosen-put-most, chosen-some}
+use Rattle.hallmodel.specs.Hall.{Hall, windowCount, vehicle, draw, sameVehicle, chargesAt, drawAt, drawnAt, vehicleFree, supplyLasts, staysAllowed, Allowed, AllowedChoice, FullAmong}
+use Rattle.hallmodel.specs.Plan.{fitsAmong}
 use Rattle.hallmodel.proofs.Windows.{vehicle-is, is-vehicle, charges-in, in-charges, drawAt-charging, drawAt-not}
 
 module _ (H : Hall) where
@@ -90,6 +91,31 @@ module _ (H : Hall) where
       go true f g = by-supply g
       go false f g = by-vehicle f
 
+  -- and such a set does not stay allowed
+  short-not : (S : List Bool) (j : ℕ) → Short S j → staysAllowed H S j ≡ false
+  unfolding staysAllowed
+  short-not S j h = fails (staysAllowed H S j) (λ e. go h (and-1 (vehicleFree H S j) (supplyLasts H S j) e) (and-2 (vehicleFree H S j) (supplyLasts H S j) e))
+    where
+      go : Short S j → vehicleFree H S j ≡ true → supplyLasts H S j ≡ true → ⊥
+      go (same-vehicle t l h v) e f = free-vehicle S j e t l h (vehicle-is H t j v)
+      go (out-of-supply minute c m) e f = omega (arith, supply-at S j f minute c, m)
+
+  -- a window that is short of something is so beside more windows
+  short-more : (S : List Bool) (j t : ℕ) → Short S t → Short (set S j true) t
+  unfolding drawnAt
+  short-more S j t (same-vehicle u l h v) = same-vehicle u l (put-keeps S j u h) v
+  short-more S j t (out-of-supply minute c m) =
+      out-of-supply minute c (omega (arith, m, chosen-mono (windowCount H) S (set S j true) (drawAt H minute) (drawAt H minute) (λ u l h. (put-keeps S j u h, omega arith))))
+
+  -- with such a window the chosen ones are no allowed set
+  short-out : (S : List Bool) (t : ℕ) → Short S t → Allowed H (t ∷ members (windowCount H) S) → ⊥
+  short-out S t h a = go h (a .numbers) (a .once) (a .vehicles)
+    where
+      go : Short S t → All (λ u. u < windowCount H) (t ∷ members (windowCount H) S) → Distinct (t ∷ members (windowCount H) S)
+          → All (λ x. All (λ u. x ≢ u → vehicle H x ≢ vehicle H u) (t ∷ members (windowCount H) S)) (t ∷ members (windowCount H) S) → ⊥
+      go (same-vehicle u l h v) n (Distinct.other d ds) (more (more w ws) vs) = members-each (windowCount H) S ws u l h (members-each (windowCount H) S d u l h) (sym (vehicle-is H u t v))
+      go (out-of-supply minute c m) n d v = omega (arith, a .supply minute, drawn-members S minute, drawAt-charging H minute t c, m)
+
   -- ---- one window more
 
   drawn-more : (S : List Bool) (j minute : ℕ) → drawnAt H (set S j true) minute ≤ drawAt H minute j + drawnAt H S minute
@@ -159,16 +185,28 @@ module _ (H : Hall) where
     unfolding fitsAmong
     unfit-short S j k e = short-by S j (rw k at e)
 
-    -- what one window more keeps, a plan has
-    chosen-has : (P : List Bool → Type 0) → P (replicate (windowCount H) false) → ((S : List Bool) (j : ℕ) → fitsAmong H kind S j ≡ true → P S → P (set S j true)) → (xs : List Step) → P (chooseAmong H kind xs)
-    unfolding chooseAmong
-    chosen-has P none put xs = fill-kept (fitsAmong H kind) P put (windowCount H) _ (back-kept (fitsAmong H kind) P put (windowCount H) none _)
+    -- what does not fit never fits later
+    unfit-more : (S : List Bool) (j t : ℕ) → fitsAmong H kind S t ≡ false → fitsAmong H kind (set S j true) t ≡ false
+    unfolding fitsAmong
+    unfit-more S j t e = go (kind t) refl e
+      where
+        go : (b : Bool) → kind t ≡ b → (b && staysAllowed H S t) ≡ false → (b && staysAllowed H (set S j true) t) ≡ false
+        go true k f = short-not (set S j true) t (short-more S j t (short-by S t f))
+        go false k f = refl
 
-    pub chosen-allowed : (xs : List Step) → AllowedChoice H (chooseAmong H kind xs)
-    chosen-allowed xs = admissible-allowed (chooseAmong H kind xs) (chosen-has Admissible (none-admissible (windowCount H)) (λ S j e k. put-admissible S j (fits-stays S j e) k) xs)
+    -- going back over steps, then filling with the windows below i
+    abbrev filledTo : ℕ → List Step → List Bool
+    filledTo i xs = fill (fitsAmong H kind) i (back (fitsAmong H kind) (windowCount H) (map (λ (x : Step). x .turn) xs))
 
-    pub chosen-kind : (xs : List Step) (t : ℕ) → has (chooseAmong H kind xs) t ≡ true → kind t ≡ true
-    chosen-kind xs t = chosen-has (λ S. has S t ≡ true → kind t ≡ true) (λ e. absurd (none-chosen (windowCount H) t e)) put xs
+    -- what one window more keeps is had then, however far it is filled
+    chosen-has : (P : List Bool → Type 0) → P (replicate (windowCount H) false) → ((S : List Bool) (j : ℕ) → fitsAmong H kind S j ≡ true → P S → P (set S j true)) → (i : ℕ) (xs : List Step) → P (filledTo i xs)
+    chosen-has P none put i xs = fill-kept (fitsAmong H kind) P put i _ (back-kept (fitsAmong H kind) P put (windowCount H) none _)
+
+    pub chosen-allowed : (i : ℕ) (xs : List Step) → AllowedChoice H (filledTo i xs)
+    chosen-allowed i xs = admissible-allowed (filledTo i xs) (chosen-has Admissible (none-admissible (windowCount H)) (λ S j e k. put-admissible S j (fits-stays S j e) k) i xs)
+
+    pub chosen-kind : (i : ℕ) (xs : List Step) (t : ℕ) → has (filledTo i xs) t ≡ true → kind t ≡ true
+    chosen-kind i xs t = chosen-has (λ S. has S t ≡ true → kind t ≡ true) (λ e. absurd (none-chosen (windowCount H) t e)) put i xs
       where
         put : (S : List Bool) (j : ℕ) → fitsAmong H kind S j ≡ true → (has S t ≡ true → kind t ≡ true) → has (set S j true) t ≡ true → kind t ≡ true
         put S j f h e = go (put-from S j t e)
@@ -177,5 +215,28 @@ module _ (H : Hall) where
             go (inl q) = ap kind q ∙ fits-kind S j f
             go (inr q) = h q
 
-    pub chosen-length : (xs : List Step) → length (chooseAmong H kind xs) ≡ windowCount H
+    pub chosen-length : (i : ℕ) (xs : List Step) → length (filledTo i xs) ≡ windowCount H
     chosen-length = chosen-has (λ S. length S ≡ windowCount H) (length-replicate (windowCount H) false) (λ S j e h. length-set S j true ∙ h)
+
+    -- filled with all windows a plan is full: each of the kind is chosen or does not stay allowed
+    pub chosen-full : (xs : List Step) (t : ℕ) → t < windowCount H → kind t ≡ true → (has (filledTo (windowCount H) xs) t ≡ true) ⊎ (staysAllowed H (filledTo (windowCount H) xs) t ≡ false)
+    unfolding fitsAmong fill
+    chosen-full xs t l k = go (fill-full (fitsAmong H kind) unfit-more (windowCount H) (filledTo 0 xs) (omega (arith, chosen-length 0 xs)) t l)
+      where
+        go : (has (filledTo (windowCount H) xs) t ≡ true) ⊎ (fitsAmong H kind (filledTo (windowCount H) xs) t ≡ false) → (has (filledTo (windowCount H) xs) t ≡ true) ⊎ (staysAllowed H (filledTo (windowCount H) xs) t ≡ false)
+        go (inl h) = inl h
+        go (inr f) = inr (rw k at f)
+
+    -- so that with another window of the kind the chosen ones are no allowed set
+    pub full-among : (xs : List Step) → FullAmong H kind (filledTo (windowCount H) xs)
+    full-among xs t k a = go (a .numbers) (a .once)
+      where
+        S : List Bool
+        S = filledTo (windowCount H) xs
+
+        go : All (λ u. u < windowCount H) (t ∷ members (windowCount H) S) → Distinct (t ∷ members (windowCount H) S) → ⊥
+        go (more l ls) (Distinct.other d ds) = by (chosen-full xs t l k)
+          where
+            by : (has S t ≡ true) ⊎ (staysAllowed H S t ≡ false) → ⊥
+            by (inl h) = members-each (windowCount H) S d t l h refl
+            by (inr f) = short-out S t (short-by S t f) a

@@ -13,11 +13,11 @@ use Rattle.model.specs.Steps.{tally}
 use Rattle.model.specs.Choice.{has}
 use Rattle.model.specs.Feasible.{Distinct}
 use Rattle.lists.proofs.Sums.{sum-add, sum-mono, all-of, all-map}
-use Rattle.hallmodel.specs.Hall.{Hall, windowCount, drawAt, isWide, isSmall, Allowed, AllowedChoice, HallInRange}
-use Rattle.hallmodel.specs.Plan.{turnsAmong, wideSteps, smallSteps, wideChoice, smallChoice, worthIn, greaterOf, hallChoice, hallWorth}
+use Rattle.hallmodel.specs.Hall.{Hall, windowCount, drawAt, isWide, isSmall, Allowed, AllowedChoice, FullAmong, HallInRange}
+use Rattle.hallmodel.specs.Plan.{turnsAmong, wideSteps, smallSteps, chooseAmong, wideChoice, smallChoice, worthIn, greaterOf, hallChoice, hallWorth}
 use Rattle.hallmodel.specs.Promises.{worthOfWindows, HallPromises}
 use Rattle.hallmodel.proofs.Windows.{among-worth}
-use Rattle.hallmodel.proofs.Allowing.{chosen-allowed, chosen-kind, chosen-length}
+use Rattle.hallmodel.proofs.Allowing.{chosen-allowed, chosen-kind, chosen-length, full-among}
 use Rattle.hallmodel.proofs.Small.{small-part, small-earns}
 use Rattle.hallmodel.proofs.Wide.{wide-twice, wide-earns}
 
@@ -124,18 +124,26 @@ module _ (H : Hall) where
   greater-most S U = greater-cases (λ W. (worthIn H S ≤ worthIn H W) × (worthIn H U ≤ worthIn H W)) S U (λ l. (omega arith, omega arith)) (λ l. (omega arith, omega arith))
 
   pub plan-allowed : AllowedChoice H (hallChoice H)
-  unfolding hallChoice wideChoice smallChoice
-  plan-allowed = greater-cases (AllowedChoice H) (wideChoice H) (smallChoice H) (λ l. chosen-allowed H (isWide H) (wideSteps H)) (λ l. chosen-allowed H (isSmall H) (smallSteps H))
+  unfolding hallChoice wideChoice smallChoice chooseAmong
+  plan-allowed = greater-cases (AllowedChoice H) (wideChoice H) (smallChoice H) (λ l. chosen-allowed H (isWide H) _ (wideSteps H)) (λ l. chosen-allowed H (isSmall H) _ (smallSteps H))
 
   pub plan-kind : ((t : ℕ) → has (hallChoice H) t ≡ true → isWide H t ≡ true) ⊎ ((t : ℕ) → has (hallChoice H) t ≡ true → isSmall H t ≡ true)
-  unfolding hallChoice wideChoice smallChoice
+  unfolding hallChoice wideChoice smallChoice chooseAmong
   plan-kind =
       greater-cases (λ S. ((t : ℕ) → has S t ≡ true → isWide H t ≡ true) ⊎ ((t : ℕ) → has S t ≡ true → isSmall H t ≡ true)) (wideChoice H) (smallChoice H)
-      (λ l. inl (chosen-kind H (isWide H) (wideSteps H))) (λ l. inr (chosen-kind H (isSmall H) (smallSteps H)))
+      (λ l. inl (chosen-kind H (isWide H) _ (wideSteps H))) (λ l. inr (chosen-kind H (isSmall H) _ (smallSteps H)))
 
   pub plan-length : length (hallChoice H) ≡ windowCount H
-  unfolding hallChoice wideChoice smallChoice
-  plan-length = greater-cases (λ S. length S ≡ windowCount H) (wideChoice H) (smallChoice H) (λ l. chosen-length H (isWide H) (wideSteps H)) (λ l. chosen-length H (isSmall H) (smallSteps H))
+  unfolding hallChoice wideChoice smallChoice chooseAmong
+  plan-length = greater-cases (λ S. length S ≡ windowCount H) (wideChoice H) (smallChoice H) (λ l. chosen-length H (isWide H) _ (wideSteps H)) (λ l. chosen-length H (isSmall H) _ (smallSteps H))
+
+  wide-filled : FullAmong H (isWide H) (wideChoice H)
+  unfolding wideChoice chooseAmong
+  wide-filled = full-among H (isWide H) (wideSteps H)
+
+  small-filled : FullAmong H (isSmall H) (smallChoice H)
+  unfolding smallChoice chooseAmong
+  small-filled = full-among H (isSmall H) (smallSteps H)
 
   -- ---- the promises
 
@@ -173,6 +181,8 @@ module _ (H : Hall) where
         record {
           allowed = plan-allowed;
           one-kind = plan-kind;
+          wide-full = wide-filled;
+          small-full = small-filled;
           wide-bound = wide-twice H good;
           wide-covered = wide-earns H good;
           small-bound = small-thrice;

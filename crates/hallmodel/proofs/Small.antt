@@ -190,4 +190,4 @@ module _ (H : Hall) (good : HallInRange H) where
 
   pub small-earns : tally (smallSteps H) ≤ worthIn H (smallChoice H)
   unfolding smallChoice chooseAmong turnsAmong
-  small-earns = omega (arith, fill-earned T (small-taking H) (fitsAmong H (isSmall H)) (windowCount H) steps-pay, kind-worth H (isSmall H) (smallChoice H))
+  small-earns = let e : tally (smallSteps H) ≤ chosen (windowCount H) (smallChoice H) (T .worth) = fill-earned T (small-taking H) (fitsAmong H (isSmall H)) _ steps-pay in omega (arith, e, kind-worth H (isSmall H) (smallChoice H))

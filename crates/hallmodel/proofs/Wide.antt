@@ -102,4 +102,4 @@ module _ (H : Hall) (good : HallInRange H) where
 
   pub wide-earns : tally (wideSteps H) ≤ worthIn H (wideChoice H)
   unfolding wideChoice chooseAmong turnsAmong
-  wide-earns = omega (arith, fill-earned T (garage-taking T) (fitsAmong H (isWide H)) (windowCount H) steps-pay, kind-worth H (isWide H) (wideChoice H))
+  wide-earns = let e : tally (wideSteps H) ≤ chosen (windowCount H) (wideChoice H) (T .worth) = fill-earned T (garage-taking T) (fitsAmong H (isWide H)) _ steps-pay in omega (arith, e, kind-worth H (isWide H) (wideChoice H))

@@ -21,6 +21,6 @@ hall-cases =
       one-unit-choice = refl;
       twelve-units-worth = refl;
       twelve-units-steps = refl;
-      twelve-allowed = chosen-allowed twelveUnits (λ t. leb 2 t) [];
+      twelve-allowed = chosen-allowed twelveUnits (λ t. leb 2 t) 14 [];
       five-times-fails = omega arith;
     }

@@ -1,7 +1,8 @@
 -- The charging hall: its windows, what they draw from the supply, and which sets of them are allowed (request R-14). Assumes nothing.
+use mathlib.Core.Path.{_≡_}
 use mathlib.Core.Logic.{_≢_}
-use mathlib.Core.Bool.{Bool, not, cond, _&&_}
-use mathlib.Core.List.{List}
+use mathlib.Core.Bool.{Bool, true, not, cond, _&&_}
+use mathlib.Core.List.{List, _∷_}
 use Prim.Native.Nat.{ℕ, _+_, _-_, _*_, _≤_, _<_}
 use lib.Dec.{ltb, leb, eqb}
 use Rattle.lists.specs.Lists.{every, sum, All}
@@ -90,6 +91,10 @@ pub record Allowed (H : Hall) (R : List ℕ) : Type 0 where
 -- the chosen windows are an allowed set
 abbrev pub AllowedChoice : Hall → List Bool → Type 0
 AllowedChoice H S = Allowed H (members (windowCount H) S)
+
+-- no further window of a kind could be chosen: with one the chosen windows are no allowed set
+abbrev pub FullAmong : Hall → (ℕ → Bool) → List Bool → Type 0
+FullAmong H kind S = (t : ℕ) → kind t ≡ true → Allowed H (t ∷ members (windowCount H) S) → ⊥
 
 -- what every accepted charging sheet keeps to: there are units, each window is at least a minute long, and draws something, and no more than the units
 pub record HallInRange (H : Hall) : Type 0 where

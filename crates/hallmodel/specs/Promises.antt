@@ -8,7 +8,7 @@ use lib.ListN.{length}
 use Rattle.lists.specs.Lists.{sum, All}
 use Rattle.model.specs.Steps.{tally}
 use Rattle.model.specs.Choice.{has}
-use Rattle.hallmodel.specs.Hall.{Hall, isWide, isSmall, Allowed, AllowedChoice}
+use Rattle.hallmodel.specs.Hall.{Hall, isWide, isSmall, Allowed, AllowedChoice, FullAmong}
 use Rattle.hallmodel.specs.Plan.{wideSteps, smallSteps, wideChoice, smallChoice, worthIn, hallChoice, hallWorth}
 
 -- what a set of windows is worth: their worths, added up
@@ -20,6 +20,9 @@ pub record HallPromises (H : Hall) : Type 0 where
   pub allowed : AllowedChoice H (hallChoice H)
   -- and is of one kind: all wide, or all small
   pub one-kind : ((t : ℕ) → has (hallChoice H) t ≡ true → isWide H t ≡ true) ⊎ ((t : ℕ) → has (hallChoice H) t ≡ true → isSmall H t ≡ true)
+  -- each plan is full: none of its kind's other windows could be chosen besides
+  pub wide-full : FullAmong H (isWide H) (wideChoice H)
+  pub small-full : FullAmong H (isSmall H) (smallChoice H)
   -- an allowed set of wide windows is worth at most twice the wide tally, and that tally is at most the wide plan's worth
   pub wide-bound : (R : List ℕ) → Allowed H R → All (λ t. isWide H t ≡ true) R → worthOfWindows H R ≤ 2 * tally (wideSteps H)
   pub wide-covered : tally (wideSteps H) ≤ worthIn H (wideChoice H)

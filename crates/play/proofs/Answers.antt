@@ -230,7 +230,7 @@ module _ (s b delays : List ℕ) (lent : List Standing) where
       go : Dec (p .refusal ≡ 0) → played r zs ≡ playOf s b delays lent
       go (yes z) =
           let n : p .groomers ≡ countsIn s .groomers = w .groomers-are z in
-          let a : zs ≡ standingsOf s b delays ++ drop (countsIn s .groomers) lent = y ∙ minutes-say (sheetTurns s) (boardChoice b) (delayIn delays) (p .table) (w .days z) (p .moved) (w .few) lent (w .inside) ∙ ap (λ (k : ℕ). standingsUpTo s b delays k ++ drop k lent) (w .moved-are ∙ n) in
+          let a : zs ≡ standingsOf s b delays ++ drop (countsIn s .groomers) lent = y ∙ minutes-say (sheetTurns s) (boardChoice b) (delayIn delays) (p .table) (w .days z) (p .moved) (w .few) lent (w .inside) shiftMinutes (omega arith) (omega arith) ∙ ap (λ (k : ℕ). standingsUpTo s b delays k ++ drop k lent) (w .moved-are ∙ n) in
           let c : r ≡ record { refusal = 0; groomers = countsIn s .groomers } = x ∙ (λ i. record { refusal = z i; groomers = n i }) in
           (λ i. played (c i) (a i)) ∙ answered-is (sym (w .number) ∙ z)
       go (no z) =

@@ -4,3 +4,4 @@ pub mod Standings
 pub mod Answers
 pub mod PlayCauses
 pub mod Promised
+pub mod Worked

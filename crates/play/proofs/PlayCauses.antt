@@ -1,14 +1,14 @@
 -- Playing gives exactly the number of the first cause in its order, and refuses nothing exactly where none is there. Assumes nothing.
 use Prim.Native.Nat.{ℕ, _+_, _≤_, _<_}
-use mathlib.Core.Path.{_≡_, refl, sym, _∙_}
+use mathlib.Core.Path.{_≡_, refl, sym, _∙_, ap}
 use mathlib.Core.Logic.{_↔_, _≢_}
 use mathlib.Core.Bool.{Bool, true, false, not, cond}
-use mathlib.Core.List.{List, [], _++_}
+use mathlib.Core.List.{List, [], _∷_, _++_}
 use native.Mathlib.Omega.{arith}
 use native.Mathlib.Decide.{ℕ-discrete, decLt}
 use lib.Dec.{eqb, ltb}
 use lib.ListN.{length, drop}
-use borrow.Author.Tests.{eqb-true, ltb-false, not-false, eq-eqb}
+use borrow.Author.Tests.{eqb-true, ltb-false, not-false, eq-eqb, ne-eqb, lt-ltb, le-ltb}
 use Rattle.lists.proofs.Bools.{not-both, fails, and-1, and-2, and-of, every-not}
 use Rattle.refusal.specs.Number.{bufferTooSmall, badDelays}
 use Rattle.refusal.specs.Cause.{Cause, _when_, There, here, later, firstOf}
@@ -26,7 +26,7 @@ use Rattle.checking.proofs.CheckCauses.{check-refused-iff, passes-no-cause}
 use Rattle.playing.specs.declared.Standing.{Standing}
 use Rattle.playing.specs.Day.{mostDelay, delayIn, delaysFit}
 use Rattle.day.proofs.Rows.{fit-delays, fit-of}
-use Rattle.play.specs.Play.{DelaysServe, PlayCause, FirstPlayCause, servesFor, lentCauses, playCauses, standingsOf, played, playRefused, playOf}
+use Rattle.play.specs.Play.{Play, DelaysServe, PlayCause, FirstPlayCause, servesFor, lentCauses, playCauses, standingsOf, played, playRefused, playOf}
 use Rattle.play.proofs.Answers.{check-passed, check-stops, by-delays, by-places, by-none}
 
 pub play-number : (s b delays : List ℕ) (lent : List Standing) → playOf s b delays lent .answer .refusal ≡ firstOf (playCauses s b delays (length lent))
@@ -180,3 +180,46 @@ module _ (s b delays : List ℕ) (lent : List Standing) where
         play-number s b delays lent ∙ check-passed s b delays (length lent) (sym (check-number s b) ∙ passes-iff s b y .1 (a, k))
         ∙ by-none (countsIn s .groomers) (turnCount s) delays (length lent) (serves-iff s b delays .1 d) l,
   )
+
+  -- a refusal leaves the list as it was, and counts no groomers
+  pub play-unchanged : (playOf s b delays lent .answer .refusal ≡ 0 → ⊥) → playOf s b delays lent ≡ played (playRefused (playOf s b delays lent .answer .refusal)) lent
+  unfolding playOf
+  play-unchanged n = go (firstOf (playCauses s b delays (length lent))) (λ q. n (play-number s b delays lent ∙ q))
+    where
+      full : Play
+      full = played (record { refusal = 0; groomers = countsIn s .groomers }) (standingsOf s b delays ++ drop (countsIn s .groomers) lent)
+
+      go : (f : ℕ) → (f ≡ 0 → ⊥) → cond (eqb f 0) full (played (playRefused f) lent) ≡ played (playRefused (cond (eqb f 0) full (played (playRefused f) lent) .answer .refusal)) lent
+      go f q = rw (ne-eqb f 0 q)
+
+-- ---- what the list held before
+
+module _ (s b delays : List ℕ) (lent other : List Standing) (room : (countsIn s .groomers ≤ length lent) ↔ (countsIn s .groomers ≤ length other)) where
+  -- both lists have a place for each groomer, or neither has
+  room-same : ltb (length lent) (countsIn s .groomers) ≡ ltb (length other) (countsIn s .groomers)
+  room-same = go (decLt (length lent) (countsIn s .groomers)) (decLt (length other) (countsIn s .groomers))
+    where
+      go : Dec (length lent < countsIn s .groomers) → Dec (length other < countsIn s .groomers) → ltb (length lent) (countsIn s .groomers) ≡ ltb (length other) (countsIn s .groomers)
+      go (yes l) (yes m) = lt-ltb (length lent) (countsIn s .groomers) l ∙ sym (lt-ltb (length other) (countsIn s .groomers) m)
+      go (yes l) (no m) = absurd (omega (arith, l, room .1 (omega arith)))
+      go (no l) (yes m) = absurd (omega (arith, m, room .0 (omega arith)))
+      go (no l) (no m) = let a : countsIn s .groomers ≤ length lent = omega arith in let c : countsIn s .groomers ≤ length other = omega arith in le-ltb (length lent) (countsIn s .groomers) a ∙ sym (le-ltb (length other) (countsIn s .groomers) c)
+
+  causes-same : firstOf (playCauses s b delays (length lent)) ≡ firstOf (playCauses s b delays (length other))
+  unfolding playCauses lentCauses
+  causes-same = ap (λ (c : Bool). firstOf (checkCauses s b ++ badDelays when not (servesFor (turnCount s) delays) ∷ bufferTooSmall when c ∷ [])) room-same
+
+  -- so that both give one answer
+  pub answer-same : playOf s b delays lent .answer ≡ playOf s b delays other .answer
+  unfolding playOf
+  answer-same = rw causes-same (go (firstOf (playCauses s b delays (length other))) (eqb (firstOf (playCauses s b delays (length other))) 0))
+    where
+      ended : List Standing → List Standing
+      ended l = standingsOf s b delays ++ drop (countsIn s .groomers) l
+
+      found : List Standing → Play
+      found l = played (record { refusal = 0; groomers = countsIn s .groomers }) (ended l)
+
+      go : (f : ℕ) (c : Bool) → cond c (found lent) (played (playRefused f) lent) .answer ≡ cond c (found other) (played (playRefused f) other) .answer
+      go f true = refl
+      go f false = refl

@@ -1,16 +1,19 @@
 -- What is promised where nothing is refused: the caller's list when the shift is over. Assumes nothing.
 use Prim.Native.Nat.{ℕ, suc, _+_, _-_, _≤_, _<_}
 use mathlib.Core.Path.{_≡_, sym, _∙_, ap}
+use mathlib.Core.Logic.{_↔_}
 use mathlib.Core.Bool.{true, false, true≢false}
 use mathlib.Core.List.{List, _++_}
 use native.Mathlib.Omega.{arith}
 use native.Mathlib.Decide.{decLt}
-use lib.ListN.{length, getD, drop, List·getD-eq-default}
-use lib.Seq.{drop-at}
+use lib.ListN.{length, getD, take, drop, List·getD-eq-default}
+use lib.Seq.{take-at, drop-at}
+use Rattle.lists.specs.Lists.{tab}
 use Rattle.lists.proofs.Sums.{tab-length, tab-at}
 use Rattle.refusal.specs.Cause.{firstOf}
 use Rattle.turns.specs.Turn.{shiftMinutes}
 use Rattle.sheet.specs.Read.{countsIn, turnCount, sheetCauses}
+use Rattle.sheet.proofs.Unrefused.{few-groomers}
 use Rattle.model.specs.Choice.{has}
 use Rattle.choicemap.proofs.Clean.{choice-length}
 use Rattle.problem.specs.Problem.{problemOf, sheetTurns}
@@ -25,10 +28,13 @@ use Rattle.playing.proofs.Stints.{day-laid}
 use Rattle.playing.proofs.Delayed.{longer-later, on-time}
 use Rattle.playing.proofs.Days.{day-is, doing-is}
 use Rattle.playing.proofs.Standings.{standing-is}
+use Rattle.day.specs.Table.{Days}
+use Rattle.play.specs.declared.PlayAnswer.{PlayAnswer}
+use Rattle.play.specs.Minutes.{minuteOf, minutesFrom}
 use Rattle.play.specs.Play.{Play, playCauses, dayAt, standingsOf, played, playOf}
-use Rattle.play.specs.Promises.{PlayPromised}
-use Rattle.play.proofs.Standings.{append-left}
-use Rattle.play.proofs.PlayCauses.{play-number, play-clear}
+use Rattle.play.specs.Promises.{MovedByMinutes, PlayPromised, PlayedAlike}
+use Rattle.play.proofs.Standings.{append-left, minutes-say, minutes-more, table-there}
+use Rattle.play.proofs.PlayCauses.{play-number, play-clear, answer-same}
 
 sheet-gap : (s : List ℕ) → overMinutes ≤ sheetTurns s .gap
 unfolding sheetTurns problemOf
@@ -92,6 +98,28 @@ module _ (s b delays : List ℕ) (lent : List Standing) (z : playOf s b delays l
   all-behind : drop (countsIn s .groomers) (playOf s b delays lent .list) ≡ drop (countsIn s .groomers) lent
   all-behind = ap (λ (p : Play). drop (countsIn s .groomers) (p .list)) is-played ∙ drop-at (standingsOf s b delays) (drop (countsIn s .groomers) lent) (countsIn s .groomers) many
 
+  -- ---- the list in between
+
+  module _ (table : List ℕ) (w : Days (sheetTurns s) (boardChoice b) (delayIn delays) table) where
+    by-then : (k : ℕ) → 0 < k → k ≤ shiftMinutes → minutesFrom k 0 (countsIn s .groomers) lent table ≡ tab (countsIn s .groomers) (λ g. standingAfter (dayAt s b delays g) k) ++ drop (countsIn s .groomers) lent
+    unfolding dayAt
+    by-then k l h =
+        let c = play-clear s b delays lent z in
+        minutes-say (sheetTurns s) (boardChoice b) (delayIn delays) table w (countsIn s .groomers) (few-groomers s (passes-parts s b (c .0) .0)) lent (c .2) k l h
+
+    moved-by : MovedByMinutes s b delays lent table
+    unfolding standingsOf
+    moved-by =
+        record {
+          one-minute = λ m. let q : 0 + m ≡ m = omega arith in rw q at (minutes-more m 0 (countsIn s .groomers) lent table);
+          standings = λ m l g k.
+              let its : ℕ → Standing = λ h. standingAfter (dayAt s b delays h) (suc m) in
+              let e : getD (minutesFrom (suc m) 0 (countsIn s .groomers) lent table) g freshOf ≡ standingAfter (dayAt s b delays g) (suc m) = ap (λ (ys : List Standing). getD ys g freshOf) (by-then (suc m) (omega arith) (omega arith)) ∙ append-left (tab (countsIn s .groomers) its) (drop (countsIn s .groomers) lent) g freshOf (omega (arith, tab-length (countsIn s .groomers) its)) ∙ tab-at (countsIn s .groomers) its freshOf g k in
+              rw e (standing-is (dayAt s b delays g) m);
+          behind = λ m l. ap (drop (countsIn s .groomers)) (by-then (suc m) (omega arith) (omega arith)) ∙ drop-at (tab (countsIn s .groomers) (λ g. standingAfter (dayAt s b delays g) (suc m))) (drop (countsIn s .groomers) lent) (countsIn s .groomers) (tab-length (countsIn s .groomers) (λ g. standingAfter (dayAt s b delays g) (suc m)));
+          last = by-then shiftMinutes (omega arith) (omega arith) ∙ sym (ap (λ (p : Play). p .list) is-played);
+        }
+
   pub play-promised : PlayPromised s b delays lent
   play-promised =
       let parts = passes-parts s b (play-clear s b delays lent z .0) in
@@ -104,7 +132,22 @@ module _ (s b delays : List ℕ) (lent : List Standing) (z : playOf s b delays l
         doings = its-doings s b delays;
         its-own = its-turn s b delays;
         on-time = its-time s b delays (parts .0) (parts .1);
+        table-there = table-there (sheetTurns s) (boardChoice b) (delayIn delays);
+        by-minutes = moved-by;
       }
+
+  -- the first standings, whatever was there
+  first-places : take (countsIn s .groomers) (playOf s b delays lent .list) ≡ standingsOf s b delays
+  first-places = ap (λ (p : Play). take (countsIn s .groomers) (p .list)) is-played ∙ take-at (standingsOf s b delays) (drop (countsIn s .groomers) lent) (countsIn s .groomers) many
+
+-- two lists that both have a place for each groomer, or neither, are alike: what they held plays no part
+pub play-alike : (s b delays : List ℕ) (lent other : List Standing) → (countsIn s .groomers ≤ length lent) ↔ (countsIn s .groomers ≤ length other) → PlayedAlike s b delays lent other
+play-alike s b delays lent other room =
+    let same = answer-same s b delays lent other room in
+    record {
+      answer = same;
+      standings = λ z. first-places s b delays lent z ∙ sym (first-places s b delays other (ap (λ (a : PlayAnswer). a .refusal) (sym same) ∙ z));
+    }
 
 -- no turn begins earlier by a longer delay
 pub play-later : (s b short long : List ℕ) → ((u : ℕ) → delayIn short u ≤ delayIn long u) → (g : ℕ) → NoEarlier (dayAt s b short g) (dayAt s b long g)

@@ -1,10 +1,11 @@
 -- The standings after each minute: what a step of the table makes is what the day says; all minutes of the list. Assumes nothing.
 use mathlib.Core.Path.{_≡_, refl, sym, _∙_, ap}
-use mathlib.Core.Bool.{Bool}
+use mathlib.Core.Bool.{Bool, cond}
 use mathlib.Core.List.{List, [], _∷_, _++_}
-use Prim.Native.Nat.{ℕ, zero, suc, _+_, _-_, _≤_, _<_, _/_}
+use Prim.Native.Nat.{ℕ, zero, suc, _+_, _-_, _≤_, _<_, _/_, _%_}
 use native.Mathlib.Omega.{arith}
 use native.Mathlib.Decide.{decLt}
+use lib.Dec.{eqb}
 use lib.ListN.{length, getD, set, drop, length-append, length-drop}
 use lib.Seq.{getD-set-other, getD-append-add, getD-drop, ext-getD}
 use Rattle.turns.specs.Turn.{shiftMinutes}
@@ -14,7 +15,7 @@ use Rattle.lists.proofs.Sums.{tab-length, tab-at}
 use Rattle.model.specs.Turns.{Turns}
 use Rattle.playing.specs.declared.Stint.{Stint}
 use Rattle.playing.specs.Day.{overMinutes, dayOf, doingAt}
-use Rattle.day.specs.Table.{stintIn, stintRow, doingBy, Days}
+use Rattle.day.specs.Table.{dayRows, dayPlaces, dayTablePlaces, rowSize, stintPlace, stintIn, stintRow, doingBy, Days}
 use Rattle.day.proofs.Stints.{row-says}
 use Rattle.playing.specs.declared.Standing.{Standing}
 use Rattle.playing.specs.Standing.{freshOf, movedBy, standingAfter}
@@ -79,27 +80,36 @@ module _ (T : Turns) (S : List Bool) (delay : ℕ → ℕ) (table : List ℕ) (w
     unfolding standingAfter
     begun-start = record { long = refl; starts = λ g x. sym (begun-first (getD ys g freshOf) 0 refl); others = λ j x. refl }
 
-    over : Begun n ys shiftMinutes (minutesFrom shiftMinutes 0 n ys table)
-    over = begun-all shiftMinutes 0 ys (omega arith) begun-start
+    after : (k : ℕ) → k ≤ shiftMinutes → Begun n ys k (minutesFrom k 0 n ys table)
+    after k h = let q : 0 + k ≡ k = omega arith in rw q at (begun-all k 0 ys (omega arith) begun-start)
 
-    pub minutes-say : minutesFrom shiftMinutes 0 n ys table ≡ tab n (λ g. standingAfter (dayOf T S delay (suc g)) shiftMinutes) ++ drop n ys
-    minutes-say =
-        let xs = tab n (λ g. standingAfter (its g) shiftMinutes) in
-        let size : length xs ≡ n = tab-length n (λ g. standingAfter (its g) shiftMinutes) in
-        ext-getD freshOf (minutesFrom shiftMinutes 0 n ys table) (xs ++ drop n ys) (omega (arith, over .long, length-append xs (drop n ys), size, length-drop n ys)) (λ i _. go i (decLt i n))
+    -- after each minute the list holds the standings of the minutes so far, whatever it held before
+    pub minutes-say : (k : ℕ) → 0 < k → k ≤ shiftMinutes → minutesFrom k 0 n ys table ≡ tab n (λ g. standingAfter (dayOf T S delay (suc g)) k) ++ drop n ys
+    minutes-say k z h =
+        ext-getD freshOf (minutesFrom k 0 n ys table) (xs ++ drop n ys) (omega (arith, after k h .long, length-append xs (drop n ys), size, length-drop n ys)) (λ i _. go i (decLt i n))
       where
-        go : (i : ℕ) → Dec (i < n) → getD (minutesFrom shiftMinutes 0 n ys table) i freshOf ≡ getD (tab n (λ g. standingAfter (its g) shiftMinutes) ++ drop n ys) i freshOf
+        xs : List Standing
+        xs = tab n (λ g. standingAfter (its g) k)
+
+        size : length xs ≡ n
+        size = tab-length n (λ g. standingAfter (its g) k)
+
+        go : (i : ℕ) → Dec (i < n) → getD (minutesFrom k 0 n ys table) i freshOf ≡ getD (xs ++ drop n ys) i freshOf
         go i (yes l) =
-            begun-later (getD (minutesFrom shiftMinutes 0 n ys table) i freshOf) shiftMinutes (λ z. omega (arith, z)) ∙ over .starts i l
-            ∙ sym (tab-at n (λ g. standingAfter (its g) shiftMinutes) freshOf i l)
-            ∙ sym (append-left (tab n (λ g. standingAfter (its g) shiftMinutes)) (drop n ys) i freshOf (omega (arith, tab-length n (λ g. standingAfter (its g) shiftMinutes))))
+            begun-later (getD (minutesFrom k 0 n ys table) i freshOf) k (λ e. omega (arith, e)) ∙ after k h .starts i l
+            ∙ sym (tab-at n (λ g. standingAfter (its g) k) freshOf i l) ∙ sym (append-left xs (drop n ys) i freshOf (omega (arith, size)))
         go i (no l) =
-            let size : length (tab n (λ g. standingAfter (its g) shiftMinutes)) ≡ n = tab-length n (λ g. standingAfter (its g) shiftMinutes) in
-            let q : i ≡ length (tab n (λ g. standingAfter (its g) shiftMinutes)) + (i - n) = omega (arith, size) in
+            let q : i ≡ length xs + (i - n) = omega (arith, size) in
             let p : n + (i - n) ≡ i = omega arith in
-            over .others i (omega arith)
+            after k h .others i (omega arith)
             ∙ sym (getD-drop n ys (i - n) freshOf ∙ ap (λ (j : ℕ). getD ys j freshOf) p)
-            ∙ sym (ap (λ (j : ℕ). getD (tab n (λ g. standingAfter (its g) shiftMinutes) ++ drop n ys) j freshOf) q ∙ getD-append-add (tab n (λ g. standingAfter (its g) shiftMinutes)) (drop n ys) (i - n) freshOf)
+            ∙ sym (ap (λ (j : ℕ). getD (xs ++ drop n ys) j freshOf) q ∙ getD-append-add xs (drop n ys) (i - n) freshOf)
+
+-- a minute more is one more move of the list
+pub minutes-more : (k m n : ℕ) (l : List Standing) (table : List ℕ) → minutesFrom (suc k) m n l table ≡ minuteOf n 0 (minutesFrom k m n l table) table (m + k)
+unfolding minutesFrom
+minutes-more zero m n l table = let q : m + 0 ≡ m = omega arith in rw q
+minutes-more (suc k) m n l table = let q : m + suc k ≡ m + 1 + k = omega arith in rw q (minutes-more k (m + 1) n (minuteOf n 0 l table m) table)
 
 -- ---- no groomers
 
@@ -107,3 +117,32 @@ pub none-moved : (k m : ℕ) (l : List Standing) (table : List ℕ) → minutesF
 unfolding minutesFrom minuteOf
 none-moved zero m l table = refl
 none-moved (suc k) m l table = none-moved k (m + 1) l table
+
+-- ---- a table that holds the days
+
+-- the number at place i of it: of the row there the turn, the begin or the end
+unfoldable rowNumber : (ℕ → List Stint) → ℕ → ℕ
+rowNumber days i =
+    let k = stintRow (days (i / dayPlaces)) (i % dayPlaces / rowSize) in
+    cond (eqb (i % dayPlaces % rowSize) 0) (k .turn) (cond (eqb (i % dayPlaces % rowSize) 1) (k .begin) (k .end))
+
+module _ (days : ℕ → List Stint) (g j : ℕ) (l : g < mostGroomers) (h : j < dayRows) where
+  number-at : (c : ℕ) → c < rowSize → getD (tab dayTablePlaces (rowNumber days)) (stintPlace g j + c) 0 ≡ cond (eqb c 0) (stintRow (days g) j .turn) (cond (eqb c 1) (stintRow (days g) j .begin) (stintRow (days g) j .end))
+  unfolding rowNumber
+  number-at c k =
+      let at : (stintPlace g j + c) / dayPlaces ≡ g = omega arith in
+      let row : (stintPlace g j + c) % dayPlaces / rowSize ≡ j = omega arith in
+      let part : (stintPlace g j + c) % dayPlaces % rowSize ≡ c = omega arith in
+      tab-at dayTablePlaces (rowNumber days) 0 (stintPlace g j + c) (omega arith) ∙ rw (at, row, part)
+
+  table-row : stintIn (tab dayTablePlaces (rowNumber days)) g j ≡ stintRow (days g) j
+  unfolding stintIn
+  table-row =
+      let q : stintPlace g j + 0 ≡ stintPlace g j = omega arith in
+      let turn : getD (tab dayTablePlaces (rowNumber days)) (stintPlace g j) 0 ≡ stintRow (days g) j .turn = ap (λ (i : ℕ). getD (tab dayTablePlaces (rowNumber days)) i 0) (sym q) ∙ number-at 0 (omega arith) in
+      λ i. record { turn = turn i; begin = number-at 1 (omega arith) i; end = number-at 2 (omega arith) i }
+
+pub table-there : (T : Turns) (S : List Bool) (delay : ℕ → ℕ) → (table : List ℕ) × Days T S delay table
+table-there T S delay =
+    let days : ℕ → List Stint = λ g. dayOf T S delay (suc g) in
+    (tab dayTablePlaces (rowNumber days), record { places = tab-length dayTablePlaces (rowNumber days); rows = λ g j l h. table-row days g j l h })

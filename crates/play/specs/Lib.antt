@@ -1,3 +1,4 @@
 pub mod Play
-pub mod Promises
 pub mod Minutes
+pub mod Promises
+pub mod Cases
