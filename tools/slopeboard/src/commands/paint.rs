@@ -1,0 +1,115 @@
+//! The command that makes pictures.
+
+use super::plan::{passes, planned};
+use super::{from, read_sheet, Command, FROM};
+use crate::args::Args;
+use crate::failure::Failure;
+use crate::files::{self, Input};
+use crate::json::Json;
+use crate::outcome::{Outcome, Product};
+use crate::sheet::Sheet;
+use crate::{board, hall, picture};
+use slopeboard::Sums;
+
+pub const PICTURE: Command = Command {
+    name: "picture",
+    about: "make a picture (SVG) of a board, or of a hall's plan",
+    files: &["SHEET", "BOARD"],
+    options: &[FROM],
+    help: "\
+Takes a sheet and a board that passes 'check'. Writes a picture: a row for each
+groomer, the minutes along, the chosen turns as bars with slope and worth, the
+others as thin lines below; under it worth, tally and ceiling. With --from the
+minutes are times of day.
+
+Or takes a charging sheet and the choice map that 'charge' writes. The picture
+then has the units drawn in each minute against those that there are, and the
+windows.
+
+In place of a board there may be a choice map that 'best' or 'improve' writes. A
+choice map is taken as it is: whether its turns or windows go together is not
+checked.
+
+Prints what stands under the picture.",
+    example: "slopeboard picture shift.sheet shift.board --from 17:00 -o board.svg",
+    run: picture,
+};
+
+fn picture(args: &Args) -> Result<Outcome, Failure> {
+    let from = from(args)?;
+    let first = files::read(args.file(0))?;
+    let second = files::read(args.file(1))?;
+    if first.bytes.starts_with(b"GRE") {
+        return hall_picture(&first, &second, from);
+    }
+    let sheet = read_sheet(&first)?;
+    // a board is longer than the choice map of as many turns
+    if second.bytes.len() == slopeboard::map_bytes(sheet.turns.len()) {
+        return map_picture(&first, &sheet, &second, from);
+    }
+    let sums = passes(&first, &second)?;
+    let chosen = board::read(&second.bytes).chosen;
+    let line = board::sums_line(&sums);
+    let captions = [
+        line.trim_end(),
+        "No choice of turns without a conflict is worth more than the ceiling.",
+    ];
+    let svg = picture::board(&sheet, &chosen, &captions, from);
+    Ok(painted(svg, line, board::sums_json(&sums), &chosen))
+}
+
+/// A choice without a board, with the ceiling of the planned one.
+fn map_picture(
+    input: &Input,
+    sheet: &Sheet,
+    map: &Input,
+    from: Option<u64>,
+) -> Result<Outcome, Failure> {
+    let chosen = board::read_map(map, sheet.turns.len())?;
+    let worths = chosen
+        .iter()
+        .map(|turn| u32::from(sheet.turns[*turn].worth));
+    let worth: u32 = worths.sum();
+    let (_, Sums { ceiling, .. }) = planned(input)?;
+    let line = format!("worth {worth} ceiling {ceiling}\n");
+    let captions = [
+        line.trim_end(),
+        "No choice of turns without a conflict is worth more than the ceiling. Whether this one has none is not checked.",
+    ];
+    let svg = picture::board(sheet, &chosen, &captions, from);
+    let fields = vec![("worth", worth.into()), ("ceiling", ceiling.into())];
+    Ok(painted(svg, line, fields, &chosen))
+}
+
+fn hall_picture(sheet: &Input, map: &Input, from: Option<u64>) -> Result<Outcome, Failure> {
+    let hall = hall::read(sheet)?;
+    let chosen = board::read_map(map, hall.windows.len())?;
+    let (worth, peak) = picture::hall_sums(&hall, &chosen);
+    let fields = vec![
+        ("worth", worth.into()),
+        ("drawn", peak.into()),
+        ("units", hall.units.into()),
+    ];
+    let line = format!("{}\n", picture::hall_line(&hall, &chosen));
+    Ok(painted(
+        picture::hall(&hall, &chosen, from),
+        line,
+        fields,
+        &chosen,
+    ))
+}
+
+/// A picture as the product; to the answer belongs what is chosen.
+fn painted(
+    svg: String,
+    text: String,
+    mut fields: Vec<(&'static str, Json)>,
+    chosen: &[usize],
+) -> Outcome {
+    fields.push(("chosen", Json::list(chosen.iter().copied())));
+    Outcome {
+        product: Product::Picture(svg),
+        text,
+        json: Json::Object(fields),
+    }
+}
