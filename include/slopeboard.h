@@ -25,12 +25,13 @@
  *   below. No function calls itself but the search of slopeboard_improve, which goes one level deeper for each of
  *   at most 64 turns.
  *
- * In sheets and boards, a number of several bytes begins with its high byte. Turns are numbered from 0
- * in the order of the sheet, slopes and groomers from 1.
+ * docs/FORMATS.md describes the bytes of sheets and boards, the steps, the tally and the ceiling. In sheets and
+ * boards, a number of several bytes begins with its high byte. Turns are numbered from 0 in the order of the
+ * sheet, slopes and groomers from 1.
  *
- * A turn ends at its start plus its length. Two different turns exclude each other if both are on one slope;
- * also if both are for one groomer, or both name one driver, and neither starts ten minutes or more after the
- * other has ended. Driver 0 is none, and never the same.
+ * A turn ends at its start plus its length. Two different turns conflict if both are on one slope; also if both
+ * are for one groomer, or both name one driver, and neither starts ten minutes or more after the other has ended.
+ * Driver 0 is none, and never the same.
  */
 #ifndef SLOPEBOARD_H
 #define SLOPEBOARD_H
@@ -62,7 +63,7 @@ enum {
     SLOPEBOARD_TRAILING_BYTES = 10,   /* the sheet goes on after its last record */
     SLOPEBOARD_BUFFER_TOO_SMALL = 11, /* a lent buffer is shorter than the function asks */
     SLOPEBOARD_MALFORMED_BOARD = 12,  /* the bytes are not those of a board (for this sheet) */
-    SLOPEBOARD_CHOSEN_CONFLICT = 13,  /* two chosen turns exclude each other */
+    SLOPEBOARD_CHOSEN_CONFLICT = 13,  /* two chosen turns conflict */
     SLOPEBOARD_NOT_MAXIMAL = 14,      /* a turn could be chosen in addition */
     SLOPEBOARD_WRONG_STEP = 15,       /* a step is not right at its place */
     SLOPEBOARD_TURN_LEFT_OPEN = 16,   /* the steps leave a turn open */
@@ -113,22 +114,22 @@ enum {
  * memset need beyond their return address comes on top. */
 #define SLOPEBOARD_STACK_ASSIGN 10736
 #define SLOPEBOARD_STACK_BEST 13152
-#define SLOPEBOARD_STACK_CHARGE 21272
-#define SLOPEBOARD_STACK_CHECK 11580
+#define SLOPEBOARD_STACK_CHARGE 24568
+#define SLOPEBOARD_STACK_CHECK 13408
 #define SLOPEBOARD_STACK_COUNT 8
-#define SLOPEBOARD_STACK_DRAW 11648
-#define SLOPEBOARD_STACK_IMPROVE 19312
+#define SLOPEBOARD_STACK_DRAW 11872
+#define SLOPEBOARD_STACK_IMPROVE 17696
 #define SLOPEBOARD_STACK_IS_CHOSEN 8
 #define SLOPEBOARD_STACK_KEEP 5404
-#define SLOPEBOARD_STACK_LIST 20168
+#define SLOPEBOARD_STACK_LIST 22808
 #define SLOPEBOARD_STACK_OPEN 8
-#define SLOPEBOARD_STACK_PLAN 12472
-#define SLOPEBOARD_STACK_PLAY 22476
+#define SLOPEBOARD_STACK_PLAN 15160
+#define SLOPEBOARD_STACK_PLAY 24304
 #define SLOPEBOARD_STACK_READ 5004
 #define SLOPEBOARD_STACK_READ_SHORT 5004
-#define SLOPEBOARD_STACK_RESTORE 4872
+#define SLOPEBOARD_STACK_RESTORE 4888
 #define SLOPEBOARD_STACK_STEPS 16
-#define SLOPEBOARD_STACK_WRITE 6784
+#define SLOPEBOARD_STACK_WRITE 7024
 
 typedef struct {
     uint8_t refusal;
@@ -227,6 +228,7 @@ slopeboard_write_answer slopeboard_write(uint32_t groomers, uint32_t slopes, con
 /* Plans the turns of a sheet and writes the board, which may come out shorter than the room asked for.
  * Each step is for the open turn that ends first; of several that end in the same minute, for the one of
  * which the most remains, then for the lowest number. (slopeboard_check takes such turns in any order.)
+ * slopeboard_check passes the board, and tells what it is worth and what no other board can exceed.
  *
  * Refusals: those of slopeboard_read but 11, in their order; then 11 if board_len is below
  * SLOPEBOARD_BOARD_BYTES of the sheet's turns. */
@@ -251,10 +253,9 @@ slopeboard_count_answer slopeboard_count(const uint8_t *board, size_t board_len)
 bool slopeboard_is_chosen(const uint8_t *board, size_t board_len, size_t turn);
 
 /* Checks a board, whoever made it, against a sheet. The answer has the board's tally and worth, and the
- * ceiling of its steps. If nothing is refused, no set of turns in which no two exclude each other is worth
- * more than the ceiling. Three times the tally is never below the ceiling, twice the tally is not if no turn
- * names a driver. If besides no slope has two turns, it is the tally, and no such set is worth more than the
- * board.
+ * ceiling of its steps. If nothing is refused, no set of turns in which no two conflict is worth more than
+ * the ceiling. The ceiling is at most three times the tally, and at most twice the tally if no turn names a
+ * driver. If besides no slope has two turns, it is the tally, and no such set is worth more than the board.
  *
  * For the ceiling each step's amount counts once, twice or three times: as often as it takes groups, the
  * fewest of three, to hold all turns from which the step takes. The groups are the turns of its own turn's
@@ -288,7 +289,7 @@ slopeboard_list_answer slopeboard_list(const uint8_t *sheet, size_t sheet_len, u
 slopeboard_assign_answer slopeboard_assign(const uint8_t *sheet, size_t sheet_len, uint16_t *places, size_t places_len);
 
 /* Works out the best worth on a sheet on which no slope has two turns and no turn names a driver: no set of
- * turns in which no two exclude each other is worth more, and the board that slopeboard_plan writes is worth
+ * turns in which no two conflict is worth more, and the board that slopeboard_plan writes is worth
  * just as much. Writes the choice map of a set that earns it. Where another such set differs, the last of a
  * groomer's turns in which they differ, by end and then by number, is not in this one: it is the choice map of
  * the board that slopeboard_plan writes.
@@ -299,12 +300,12 @@ slopeboard_best_answer slopeboard_best(const uint8_t *sheet, size_t sheet_len, u
 
 /* Looks for a better choice than that of the board which slopeboard_plan writes, with at most so many visits,
  * and writes the choice map of the best found. The search begins with no turn taken and goes through the turns
- * in the order of the sheet. Each visit to a turn goes on with it, if it excludes none of those taken, and when
+ * in the order of the sheet. Each visit to a turn goes on with it, if it conflicts with none of those taken, and when
  * all of that is done goes on without it. Behind the last turn, which is no visit, those taken replace the
  * best if they are worth more; the planned board is the best to begin with.
  *
  * The visits of the answer are the visits allowed or those of the whole search, whichever are fewer. Where
- * the search came to its end, no set of turns in which no two exclude each other is worth more than the worth; in any
+ * the search came to its end, no set of turns in which no two conflict is worth more than the worth; in any
  * case none is worth more than the worth and 'above' together. More visits never find less.
  *
  * Refusals: those of slopeboard_read but 11, in their order; then 22 for more than

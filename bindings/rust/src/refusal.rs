@@ -33,7 +33,7 @@ pub enum Refusal {
     BufferTooSmall = 11,
     /// The bytes are not those of a board (for this sheet).
     MalformedBoard = 12,
-    /// Two chosen turns exclude each other.
+    /// Two chosen turns conflict.
     ChosenConflict = 13,
     /// A turn could be chosen in addition.
     NotMaximal = 14,

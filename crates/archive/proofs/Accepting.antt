@@ -1,24 +1,24 @@
 -- The kept forms that are accepted: what they are made of is what is read of them, and the other way round. Assumes nothing.
-use Prim.Native.Nat.{ℕ, zero, suc, _+_, _<_, _≤_}
-use mathlib.Core.Path.{_≡_, refl, sym, _∙_, ap, ap₂}
-use mathlib.Core.Bool.{Bool, true, false}
+use Prim.Native.Nat.{ℕ, zero, suc, _+_, _≤_}
+use mathlib.Core.Path.{_≡_, refl, sym, _∙_, ap}
+use mathlib.Core.Bool.{true}
 use mathlib.Core.List.{List, [], _∷_, _++_}
 use mathlib.Core.Logic.{_↔_}
 use native.Mathlib.Omega.{arith}
 use lib.Dec.{ltb}
-use lib.ListN.{length, take, drop, length-append, length-drop, take-append-drop}
+use lib.ListN.{length, drop, length-drop, take-append-drop}
 use lib.Seq.{take-at, drop-at, drop-drop, length-take-le}
 use borrow.Author.Tests.{le-ltb, ltb-false}
 use Rattle.refusal.specs.Number.{truncated, trailingBytes}
-use Rattle.refusal.specs.Cause.{Cause, _when_, firstOf}
+use Rattle.refusal.specs.Cause.{_when_, firstOf}
 use Rattle.refusal.proofs.Order.{numbered, numbered-append, first-goes, clear-cons, clear-append}
 use Rattle.wire.specs.Number.{Bytes}
 use Rattle.wire.specs.Mark.{opensWith, keptMark}
 use Rattle.turns.specs.declared.Turn.{Turn}
 use Rattle.turns.specs.declared.Counts.{Counts}
-use Rattle.sheet.specs.Kind.{garage, three, Sound, mostTurns}
+use Rattle.sheet.specs.Kind.{garage, three, Sound}
 use Rattle.sheet.specs.Record.{firstCursor}
-use Rattle.sheet.specs.Read.{headerBytes, countsIn, turnCount, countCauses, headerCauses}
+use Rattle.sheet.specs.Read.{headerBytes, countsIn, turnCount, headerCauses}
 use Rattle.sheet.specs.Layout.{headerFor}
 use Rattle.sheet.specs.Accepted.{Legal}
 use Rattle.sheet.proofs.SoundKinds.{garage-sound, mark-iff}

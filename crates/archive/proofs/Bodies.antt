@@ -1,8 +1,8 @@
 -- Maps and turns that go together: their bytes in both forms, how long these are, and what is read of them. Assumes nothing.
-use Prim.Native.Nat.{ℕ, zero, suc, _+_, _*_, _/_, _%_, _<_, _≤_}
-use mathlib.Core.Path.{_≡_, refl, sym, _∙_, ap, ap₂}
+use Prim.Native.Nat.{ℕ, suc, _+_, _/_, _%_, _≤_}
+use mathlib.Core.Path.{_≡_, refl, _∙_, ap}
 use mathlib.Core.Bool.{Bool, true, false}
-use mathlib.Core.List.{List, [], _∷_, _++_, append-assoc}
+use mathlib.Core.List.{List, [], _∷_, _++_}
 use native.Mathlib.Omega.{arith}
 use native.Mathlib.Nat.{div-one}
 use lib.ListN.{length, getD, drop, length-append}
@@ -18,7 +18,7 @@ use Rattle.sheet.specs.declared.kind.Maps.{Maps}
 use Rattle.sheet.specs.Kind.{garage}
 use Rattle.sheet.specs.Record.{widthOf, badMapFor}
 use Rattle.sheet.specs.Layout.{recordOf}
-use Rattle.sheet.specs.Accepted.{Records, Carried}
+use Rattle.sheet.specs.Accepted.{Records}
 use Rattle.sheet.specs.Accepted as sheet
 use Rattle.sheet.proofs.SoundKinds.{garage-sound}
 use Rattle.sheet.proofs.Maps.{good-map-iff}

@@ -3,23 +3,22 @@ use Prim.Native.Nat.{ℕ, zero, suc, _+_, _-_, _*_, _<_, _≤_}
 use mathlib.Core.Path.{_≡_, refl, sym, _∙_, ap, ap₂}
 use mathlib.Core.List.{List, [], _∷_, _++_}
 use native.Mathlib.Omega.{arith}
-use native.Mathlib.Numerals.{add-one}
 use lib.Dec.{ltb, leb}
-use lib.ListN.{length, getD, set, take, drop, length-append, length-set}
+use lib.ListN.{length, getD, set, take, drop, length-set}
 use lib.Seq.{drop-length, length-take-le}
 use borrow.Author.Tests.{ltb-false}
 use Rattle.refusal.specs.Number.{truncated, badMap, bufferTooSmall, trailingBytes}
 use Rattle.refusal.specs.Cause.{_when_, firstOf}
-use Rattle.refusal.specs.Written.{Written, wrote}
+use Rattle.refusal.specs.Written.{Written}
 use Rattle.refusal.proofs.Order.{clear-cons, clear-append}
 use Rattle.refusal.proofs.Written.{kept-before, kept-small, wrote-enough}
 use Rattle.wire.specs.Number.{bytesAt, puts}
 use Rattle.wire.specs.Mark.{keptMark}
-use Rattle.wire.proofs.Puts.{puts-front, puts-append, puts-length}
+use Rattle.wire.proofs.Puts.{puts-front, puts-append}
 use Rattle.turns.specs.declared.Turn.{Turn}
 use Rattle.turns.specs.declared.Counts.{Counts}
-use Rattle.turns.specs.Turn.{rowNumbers, rows, turnsOfTable, tableRows, tableTurns}
-use Rattle.turns.proofs.Rows.{rows-length, turns-rows, table-turns-length}
+use Rattle.turns.specs.Turn.{rowNumbers, rows, turnsOfTable, tableRows}
+use Rattle.turns.proofs.Rows.{rows-length, turns-rows}
 use Rattle.sheet.specs.declared.answer.ReadAnswer.{ReadAnswer}
 use Rattle.sheet.specs.declared.record.Cursor.{Cursor}
 use Rattle.sheet.specs.Kind.{garage, mostTurns}
@@ -29,9 +28,8 @@ use Rattle.sheet.proofs.SoundKinds.{garage-sound}
 use Rattle.sheet.proofs.Headers.{header-numbered, header-fine}
 use Rattle.sheet.proofs.Scans.{record-numbered}
 use Rattle.sheet.proofs.Readings.{sheet-numbered}
-use Rattle.sheet.proofs.Tables.{turns-length, table-length}
-use Rattle.sheet.proofs.Whole.{whole-refusal, whole-accepted, whole-turns, whole-few, whole-table, whole-room, whole-rows}
-use Rattle.sheet.proofs.Unrefused.{few-turns}
+use Rattle.sheet.proofs.Tables.{turns-length}
+use Rattle.sheet.proofs.Whole.{whole-refusal, whole-accepted, whole-turns, whole-table}
 use Rattle.sheet.proofs.Prefix.{sheet-short}
 use Rattle.writer.specs.declared.WriteAnswer.{WriteAnswer}
 use Rattle.writer.specs.Answer.{written}

@@ -3,7 +3,7 @@ use Prim.Native.Nat.{ℕ, zero, suc, _+_, _-_, _*_, _<_, _≤_}
 use mathlib.Core.Path.{_≡_, refl, sym, _∙_, ap, subst, subst₂}
 use mathlib.Core.Bool.{Bool, true, false, true≢false}
 use mathlib.Core.List.{List, [], _∷_, _++_}
-use mathlib.Core.Logic.{_⊎_, inl, inr, ⊎-elim, _↔_}
+use mathlib.Core.Logic.{⊎-elim, _↔_}
 use native.Mathlib.Omega.{arith}
 use native.Mathlib.Nat.{zero-add, add-zero}
 use lib.Dec.{ltb}
@@ -16,14 +16,13 @@ use Rattle.refusal.proofs.Order.{none-iff}
 use Rattle.refusal.proofs.Written.{kept-first, number-first, enough-iff}
 use Rattle.refusal.proofs.Places.{causeAt, there-at, at-there, there-left, there-right, there-split}
 use Rattle.wire.specs.Number.{Bytes}
-use Rattle.turns.specs.declared.Turn.{Turn}
 use Rattle.turns.specs.Turn.{mostWorth, mostDriver, turnCauses}
 use Rattle.turns.proofs.Ranges.{outside-iff, past-iff}
 use Rattle.sheet.specs.declared.kind.Maps.{Maps}
 use Rattle.sheet.specs.Kind.{garage}
 use Rattle.sheet.specs.Record.{badMapFor, cursorAfter, firstCursor}
-use Rattle.sheet.specs.Read.{countsIn, countCauses, headerCauses, recordsCauses, causesFor, sheetCauses, turnCount}
-use Rattle.sheet.specs.Accepted.{CauseFor, WrongMap, LentCause, cursorOf, FirstAmong, Accepted}
+use Rattle.sheet.specs.Read.{countsIn, countCauses, headerCauses, causesFor, sheetCauses}
+use Rattle.sheet.specs.Accepted.{CauseFor, WrongMap, LentCause, cursorOf, Accepted}
 use Rattle.sheet.proofs.Maps.{bad-map-iff}
 use Rattle.sheet.proofs.Readings.{sheet-numbered}
 use Rattle.sheet.proofs.Accepting.{accepted-iff}

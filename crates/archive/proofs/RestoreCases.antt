@@ -1,5 +1,5 @@
 -- From a kept form to its sheet by cases, each premise in the form in which the code's calls and tests leave it. Assumes nothing.
-use Prim.Native.Nat.{ℕ, zero, suc, _+_, _-_, _*_, _<_, _≤_}
+use Prim.Native.Nat.{ℕ, _+_, _-_, _*_, _<_, _≤_}
 use mathlib.Core.Path.{_≡_, refl, sym, _∙_, ap, ap₂}
 use mathlib.Core.Bool.{Bool, true, false}
 use mathlib.Core.List.{List, [], _∷_, _++_}
@@ -11,30 +11,31 @@ use lib.Seq.{drop-cons, drop-length, take-all}
 use borrow.Author.Tests.{lt-ltb, le-ltb}
 use Rattle.refusal.specs.Number.{truncated, badMap, trailingBytes, bufferTooSmall}
 use Rattle.refusal.specs.Cause.{Cause, _when_, firstOf}
-use Rattle.refusal.specs.Written.{Written, wrote}
+use Rattle.refusal.specs.Written.{Written}
 use Rattle.refusal.proofs.Order.{first-stops, first-goes, clear-append}
 use Rattle.refusal.proofs.Written.{kept-before, kept-small, wrote-enough}
-use Rattle.wire.specs.Number.{bytesAt, valueAt, puts}
+use Rattle.wire.specs.Number.{bytesAt, puts}
 use Rattle.wire.specs.Mark.{sheetMark, keptMark}
 use Rattle.wire.proofs.Puts.{puts-front, puts-append}
 use Rattle.turns.specs.declared.Turn.{Turn}
 use Rattle.turns.specs.declared.Counts.{Counts}
-use Rattle.turns.specs.Turn.{rowNumbers, turnIn, turnsOfTable, Numbered}
+use Rattle.turns.specs.Turn.{turnIn, turnsOfTable, Numbered}
 use Rattle.turns.proofs.Rows.{turns-step, table-turns-length}
 use Rattle.sheet.specs.declared.kind.Kind.{Kind}
 use Rattle.sheet.specs.declared.kind.Maps.{Maps}
 use Rattle.sheet.specs.declared.header.Header.{Header}
 use Rattle.sheet.specs.declared.header.Header.the-variants.{Found, Refused}
-use Rattle.sheet.specs.Kind.{garage, mostTurns, tablePlaces}
+use Rattle.sheet.specs.Kind.{garage, mostTurns}
 use Rattle.sheet.specs.Record.{widthOf, recordBytes, badMapFor}
 use Rattle.sheet.specs.Read.{headerBytes, countsIn, turnCount, headerCauses, headerOf}
-use Rattle.sheet.specs.Layout.{fieldsOf, recordOf}
+use Rattle.sheet.specs.Layout.{recordOf}
 use Rattle.sheet.proofs.Headers.{header-numbered, header-few, header-fine}
 use Rattle.sheet.proofs.Readings.{header-found, header-refused}
-use Rattle.sheet.proofs.Fields.{width-most, record-length}
+use Rattle.sheet.proofs.Fields.{width-most}
 use Rattle.writer.specs.declared.WriteAnswer.{WriteAnswer}
 use Rattle.writing.specs.Write.{turnsCauses}
 use Rattle.writer.specs.Answer.{written}
+use Rattle.writer.specs.Over.{Over}
 use Rattle.columns.specs.Column.{widths, columnsIn, turnsAcross}
 use Rattle.archive.specs.Kept.{formWith, recordsBody, archive, keptMaps, columnsAt, keptEnd, keptTurns, restoredOf}
 use Rattle.archive.specs.Archive.{mapsCauses, formCauses, keptCauses, restoreCauses, restoreOf}
@@ -224,27 +225,33 @@ pub ruleset kept-cases = (kept-header, kept-header-stops, kept-count, kept-limit
 
 -- ---- the records
 
-pub record-put : (l : List ℕ) (at m : ℕ) (t : Turn) {l′ : List ℕ} → l′ ≡ puts (set l at m) (at + 1) (fieldsOf m t) → l′ ≡ puts l at (recordOf m t)
-unfolding recordOf
-record-put l at m t e = e
+module _ (l : List ℕ) (at m later : ℕ) (h : at + 1 + widthOf m + later ≤ length l) where
+  pub fields-room : at + 1 + widthOf m ≤ length (set l at m)
+  fields-room = rw length-set (omega arith)
+
+  pub fields-room-over : 2 ≤ later → at + 1 + widthOf m + 2 ≤ length (set l at m)
+  fields-room-over k = rw length-set (omega arith)
 
 pub record-kept : (l : List ℕ) (at m : ℕ) {n : ℕ} → n ≡ length (set l at m) → n ≡ length l
 record-kept l at m e = e ∙ length-set l at m
 
 module _ (maps table : List ℕ) (i at : ℕ) where
-  pub records-room : {e n o : ℕ} → i < length maps → at + (length maps - i) + widths (drop i maps) ≡ e → e ≤ n → o ≡ n → at + 1 + widthOf (getD maps i 0) ≤ o
+  pub records-room : {e n o : ℕ} → i < length maps → at + (length maps - i) + widths (drop i maps) ≡ e → e ≤ n → o ≡ n → at + 1 + widthOf (getD maps i 0) + (length maps - (i + 1)) ≤ o
   records-room h p q r = omega (arith, width-ahead maps i 0 h)
 
   pub records-size : {at′ e : ℕ} → i < length maps → at′ ≡ at + 1 + widthOf (getD maps i 0) → at + (length maps - i) + widths (drop i maps) ≡ e → at′ + (length maps - (i + 1)) + widths (drop (i + 1) maps) ≡ e
   records-size h p q = omega (arith, width-ahead maps i 0 h)
 
-  pub records-more : (l : List ℕ) {at′ : ℕ} {t : Turn} {l′ z : List ℕ} → i < length maps → t ≡ turnIn table i → at′ ≡ at + 1 + widthOf (getD maps i 0) → l′ ≡ puts l at (recordOf (getD maps i 0) t)
+  pub records-more : (l : List ℕ) {at′ : ℕ} {t : Turn} {l′ z : List ℕ} → i < length maps → t ≡ turnIn table i → Over (length maps - (i + 1)) l at (recordOf (getD maps i 0) t) l′ at′
       → puts l at (recordsBody (drop i maps) (turnsOfTable (length maps - i) table i)) ≡ z → puts l′ at′ (recordsBody (drop (i + 1) maps) (turnsOfTable (length maps - (i + 1)) table (i + 1))) ≡ z
   unfolding recordsBody
-  records-more l {at′} {t} h p q r e =
+  records-more l {at′} {t} h p o e =
       let m = getD maps i 0 in
-      let rest = recordsBody (drop (i + 1) maps) (turnsOfTable (length maps - (i + 1)) table (i + 1)) in
-      rw (r, p) (puts-append (recordOf m (turnIn table i)) rest l at at′ (omega (arith, record-length m (turnIn table i))) ∙ rw (map-ahead maps i h, turns-step (length maps) i table h) at e)
+      let k = length maps - (i + 1) in
+      let ts = turnsOfTable k table (i + 1) in
+      let n : length ts ≡ length (drop (i + 1) maps) = omega (arith, length-drop (i + 1) maps, table-turns-length k table (i + 1)) in
+      let s : k ≤ length (recordsBody (drop (i + 1) maps) ts) = omega (arith, records-length (drop (i + 1) maps) ts n, length-drop (i + 1) maps) in
+      o .then (recordsBody (drop (i + 1) maps) ts) s ∙ rw p (rw (map-ahead maps i h, turns-step (length maps) i table h) at e)
 
   pub records-done : (l : List ℕ) {z : List ℕ} → length maps ≤ i → i ≤ length maps → puts l at (recordsBody (drop i maps) (turnsOfTable (length maps - i) table i)) ≡ z → l ≡ z
   unfolding recordsBody

@@ -4,10 +4,10 @@ use mathlib.Core.Path.{_≡_, refl, sym, _∙_, ap, ap₂}
 use mathlib.Core.Bool.{true}
 use mathlib.Core.List.{List, [], _∷_, _++_}
 use native.Mathlib.Omega.{arith}
-use lib.ListN.{length, take, drop, length-append}
+use lib.ListN.{length, take, drop}
 use lib.Seq.{take-append-seam}
 use Rattle.refusal.specs.Cause.{firstOf}
-use Rattle.refusal.specs.Written.{Written, wrote}
+use Rattle.refusal.specs.Written.{wrote}
 use Rattle.refusal.proofs.Written.{wrote-all, wrote-enough}
 use Rattle.wire.specs.Number.{Bytes, bytesOf, bytesAt}
 use Rattle.wire.specs.Mark.{sheetMark, keptMark}
@@ -22,7 +22,7 @@ use Rattle.sheet.proofs.SoundKinds.{garage-sound}
 use Rattle.sheet.proofs.Readings.{sheet-numbered}
 use Rattle.sheet.proofs.Accepting.{sheet-reads}
 use Rattle.columns.specs.Column.{widths}
-use Rattle.archive.specs.Kept.{recordsBody, columnsBody, mapsFrom, sheetMaps, keptOf, keptMaps, keptTurns, restoredOf}
+use Rattle.archive.specs.Kept.{recordsBody, columnsBody, sheetMaps, keptOf, keptTurns, restoredOf}
 use Rattle.archive.specs.Archive.{keepCauses, keepOf, keptCauses, restoreCauses, restoreOf}
 use Rattle.archive.specs.AcceptedKept.{Together, KeptFor, AcceptedKept}
 use Rattle.archive.proofs.Bodies.{together-length, records-length, together-records, records-mapped, maps-read}

@@ -1,7 +1,7 @@
 // What both forms of a sheet share.
 ghost use mathlib.Core.Path.{_≡_};
 ghost use mathlib.Core.List.{_++_};
-ghost use Prim.Native.Nat.{_+_, _≤_};
+ghost use Prim.Native.Nat.{_≤_};
 ghost use lib.ListN.{length};
 ghost use Rattle.wire.specs.Number.{bytesAt, puts};
 ghost use Rattle.sheet.specs.Read.{headerBytes};

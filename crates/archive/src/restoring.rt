@@ -13,6 +13,7 @@ ghost use Rattle.sheet.specs.Read.{headerBytes, countsIn, turnCount};
 ghost use Rattle.sheet.specs.Layout.{recordOf};
 ghost use Rattle.writing.specs.Write.{turnsCauses};
 ghost use Rattle.writer.specs.Answer.{written};
+ghost use Rattle.writer.specs.Over.{Over};
 ghost use Rattle.columns.specs.Column.{widths, firstTurns};
 ghost use Rattle.archive.specs.Kept.{formSize, archive, keptMaps, columnsAt, keptTurns, tableRecords, restoredFirst};
 ghost use Rattle.archive.specs.Archive.{mapsCauses, formCauses, keptCauses, restoreOf};
@@ -138,13 +139,16 @@ fn judge_kept(k: &[u8], table: &mut [u16]) -> u8
     }
 }
 
-// A record from a place on; the place behind it.
-fn put_record(out: &mut [u8], at: usize, m: u8, t: Turn) -> usize
-    requires { ⌜ at + 1 + widthOf m ≤ length (now out) ⌝ }
-    ensures { λ r. ⌜ (r ≡ at + 1 + widthOf m) × (now (out .exit) ≡ puts (now (out .entry)) at (recordOf m t)) ⌝ }
+// A record from a place on, which at least so many bytes follow; the place behind it.
+fn put_record(out: &mut [u8], at: usize, m: u8, t: Turn, later: usize) -> usize
+    requires { ⌜ at + 1 + widthOf m + later ≤ length (now out) ⌝ }
+    ensures { λ r. ⌜ (r ≡ at + 1 + widthOf m) × Over later (now (out .entry)) at (recordOf m t) (now (out .exit)) r ⌝ }
 {
     out[at] = m;
-    writer::put_fields(&mut *out, at + 1, m, t)
+    if later < 2 {
+        return writer::put_fields(&mut *out, at + 1, m, t);
+    }
+    writer::put_fields_over(&mut *out, at + 1, m, t)
 }
 
 // The records of these maps and of the turns of a table, behind the header.
@@ -156,8 +160,9 @@ fn put_records(maps: &[u8], table: &[u16], out: &mut [u8])
     let mut i = 0;
     while i < maps.len() {
         let t = turns::turn_at(table, i);
-        at = put_record(&mut *out, at, maps[i], t);
+        let m = maps[i];
         i += 1;
+        at = put_record(&mut *out, at, m, t, maps.len() - i);
     }
 }
 

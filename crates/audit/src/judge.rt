@@ -21,10 +21,11 @@ use replay::fault_at;
 use replay::steps_fault;
 
 // The first cause that the choice gives, 0 if none. Here and below, the room is for the rows of the
-// chosen turns: nothing is said of what it holds afterwards.
+// chosen turns, and then for all rows by end: nothing is said of what it holds afterwards.
 fn choice_fault(p: Size, cols: &[u16; PLACES], map: &[u8], room: &mut [u16; PLACES]) -> u8
     requires { ⌜ Lent p (now cols) (now map) × (length (now room) ≡ columnPlaces) ⌝ }
     ensures { λ r. ⌜ r ≡ firstOf (choiceCauses (turnsBy p (now (cols .entry))) (choiceIn (p .count) (now (map .entry)))) ⌝ }
+    ensures { λ _. ⌜ length (now (room .exit)) ≡ columnPlaces ⌝ }
 {
     if choices::is_independent(p, cols, map, &mut *room) {
         if choices::is_maximal(p, cols, map, &mut *room) {
@@ -69,7 +70,7 @@ fn rules_fault(
     }
     let n = p.count;
     let mut space = [0i32; MOST_TURNS];
-    steps_fault(&mut space[..n], p, cols, steps, m)
+    steps_fault(&mut space[..n], p, cols, steps, m, &mut *room)
 }
 
 // The cause that the sums of a board give, 0 if none.

@@ -18,7 +18,7 @@ use Rattle.problem.specs.Ways.{turnRow}
 use Rattle.problem.specs.Columns.{columnPlaces, rowIn, withRow, within, turnsBy, Held}
 use Rattle.problem.proofs.Posed.{put-length}
 use Rattle.problem.proofs.Rows.{row-new, row-other, row-is}
-use Rattle.hallmodel.specs.Hall.{Hall, isWide, isSmall}
+use Rattle.hallmodel.specs.Hall.{Hall, wideDraw, isWide, isSmall}
 use Rattle.hallmodel.specs.Plan.{turnsAmong}
 use Rattle.charging.specs.declared.among.Among.{Among}
 use Rattle.charging.specs.Among.{hallBy, ofKind, kindRow, amongRow}
@@ -28,11 +28,11 @@ use Rattle.charging.specs.Bounds.{HallHeld}
 
 module _ (a : Among) (r : Row) {u d : ℕ} (e : u ≡ a .units) (f : d ≡ r .groomer) where
   pub kind-wide : a .wide ≡ true → ltb u (2 * d) ≡ kindRow a r
-  unfolding kindRow
+  unfolding kindRow wideDraw
   kind-wide w = rw (w, e, f)
 
   pub kind-small : a .wide ≡ false → not (ltb u (2 * d)) ≡ kindRow a r
-  unfolding kindRow
+  unfolding kindRow wideDraw
   kind-small w = rw (w, e, f)
 
 pub worth-own : (a : Among) (r : Row) {b : Bool} → b ≡ kindRow a r → b ≡ true → r .worth ≡ cond (kindRow a r) (r .worth) 0
@@ -125,6 +125,7 @@ module _ (a : Among) (cols own : List ℕ) where
         record {
           places = w;
           few = held .held .few;
+          slopes = λ t l. rw among-turns (held .held .slopes t l);
           starts = λ t l. rw among-turns (held .held .starts t l);
           ends = λ t l. rw among-turns (held .held .ends t l);
           worths = λ t l. rw among-turns (least-worth (ofKind a cols t) (H .windows .worth t) (held .held .worths t l));

@@ -1,5 +1,5 @@
 -- The steps of one kind: what the loop over the small windows' steps keeps, and that the steps written are the kind's. Assumes nothing.
-use mathlib.Core.Path.{_≡_, sym, _∙_, ap}
+use mathlib.Core.Path.{_≡_, refl, sym, _∙_, ap}
 use mathlib.Core.Bool.{true, false, cond}
 use mathlib.Core.List.{List, [], _∷_}
 use Prim.Native.Nat.{ℕ}
@@ -12,6 +12,8 @@ use Rattle.model.specs.Pick.{pick, nextStep, planBy, steps}
 use Rattle.board.specs.Board.{stepBytes}
 use Rattle.problem.specs.Columns.{turnsBy}
 use Rattle.problem.proofs.Rows.{count-is}
+use Rattle.relabelling.specs.Relabelling.{relabel, relabelAll}
+use Rattle.stepping.proofs.Planning.{Put, put-start}
 use Rattle.hallmodel.specs.Hall.{Hall, isWide, isSmall}
 use Rattle.hallmodel.specs.Plan.{turnsAmong, smallTakes, wideSteps, smallSteps}
 use Rattle.hallmodel.proofs.Open.{first-only}
@@ -50,8 +52,17 @@ module _ (a : Among) (cols own : List ℕ) (s : List ℤ) where
     pub small-taken : {s′ : List ℤ} → s′ ≡ next s (record { turn = j; amount = left s j }) → s′ ≡ next s (nextStep T s)
     small-taken q = q ∙ ap (next s) next-is
 
-    pub small-written : (l : List ℕ) (at : ℕ) {l′ : List ℕ} → l′ ≡ puts l at (stepBytes (record { turn = j; amount = left s j } ∷ [])) → l′ ≡ puts l at (stepBytes (nextStep T s ∷ []))
-    small-written l at q = q ∙ ap (λ (x : Step). puts l at (stepBytes (x ∷ []))) next-is
+    -- under its own number
+    pub small-written : (l : List ℕ) (at : ℕ) {l′ : List ℕ} → l′ ≡ puts l at (stepBytes (record { turn = j; amount = left s j } ∷ [])) → l′ ≡ puts l at (stepBytes (relabel (λ t. t) (nextStep T s) ∷ []))
+    small-written l at q = q ∙ ap (λ (x : Step). puts l at (stepBytes (relabel (λ t. t) x ∷ []))) next-is
+
+  relabel-none : (xs : List Step) → relabelAll (λ t. t) xs ≡ xs
+  unfolding relabelAll
+  relabel-none [] = refl
+  relabel-none (x ∷ xs) = ap (λ (ys : List Step). x ∷ ys) (relabel-none xs)
+
+  pub small-start : (l : List ℕ) → Put (a .size) own next (λ t. t) s 0 l (puts l 0 (stepBytes (planBy T next (a .size .count) s)))
+  small-start l = rw (relabel-none (planBy T next (a .size .count) s)) at (put-start (a .size) own next s (λ t. t) l)
 
 pub ruleset small-cases = (small-taken, small-written)
 

@@ -20,7 +20,7 @@ use Rattle.problem.specs.declared.ways.Row.{Row}
 use Rattle.problem.specs.Columns.{rowIn}
 use Rattle.problem.proofs.Rows.{slope-at, groomer-at, start-at, end-at}
 use Rattle.ratio.proofs.Steps.{change-more}
-use Rattle.hallmodel.specs.Hall.{Hall, isWide, isSmall, sameVehicle, shareMinute}
+use Rattle.hallmodel.specs.Hall.{Hall, wideDraw, isWide, isSmall, sameVehicle, shareMinute}
 use Rattle.hallmodel.specs.Plan.{roundedUp, smallTakes}
 use Rattle.charging.specs.declared.among.Among.{Among}
 use Rattle.charging.specs.Among.{hallBy}
@@ -82,7 +82,7 @@ module _ (a : Among) (cols : List ℕ) (s : List ℤ) where
   H = hallBy a cols
 
   pub touch-draw : (t : ℕ) {y : Row} {o : Bool} → t < a .size .count → y ≡ rowIn cols t → o ≡ isOpen s t → o ≡ true → OnlySmall a cols s → 2 * y .groomer ≤ a .units
-  unfolding OnlySmall isSmall isWide
+  unfolding OnlySmall isSmall isWide wideDraw
   touch-draw t l e f g h = let q = ltb-false (a .units) (2 * H .windows .groomer t) (not-true _ (h t (sym f ∙ g))) in omega (arith, q, groomer-at (a .size) cols t l e)
 
   takes-is : (j amount t : ℕ) {x y : Row} → j < a .size .count → t < a .size .count → x ≡ rowIn cols j → y ≡ rowIn cols t → rowTakes (a .units) x amount y ≡ smallTakes H j amount t

@@ -12,7 +12,6 @@ use Rattle.turns.specs.Turn.{mostWorth}
 use Rattle.sheet.specs.Kind.{mostTurns}
 use Rattle.model.specs.Steps.{Step, initial, afterStepBy}
 use Rattle.model.specs.Rules.{Right}
-use Rattle.model.specs.Pick.{steps}
 use Rattle.model.proofs.Limits.{AllWithin, amount-within}
 use Rattle.model.proofs.Planned.{planBy-right, planned-right, steps-few}
 use Rattle.board.specs.Board.{stepAt, stepsIn, stepBytes}

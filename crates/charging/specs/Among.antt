@@ -1,12 +1,11 @@
 -- The windows of one kind in a hall that columns hold: which they are, and what the engine gets of them (request R-14). Assumes nothing.
 use mathlib.Core.Bool.{Bool, not, cond}
 use mathlib.Core.List.{List}
-use Prim.Native.Nat.{ℕ, _*_}
-use lib.Dec.{ltb}
+use Prim.Native.Nat.{ℕ}
 use Rattle.model.specs.Steps.{Step}
 use Rattle.problem.specs.declared.ways.Row.{Row}
 use Rattle.problem.specs.Columns.{turnsBy}
-use Rattle.hallmodel.specs.Hall.{Hall, isWide, isSmall}
+use Rattle.hallmodel.specs.Hall.{Hall, wideDraw, isWide, isSmall}
 use Rattle.hallmodel.specs.Plan.{wideSteps, smallSteps}
 use Rattle.charging.specs.declared.among.Among.{Among}
 
@@ -24,7 +23,7 @@ stepsBy a cols = cond (a .wide) (wideSteps (hallBy a cols)) (smallSteps (hallBy 
 
 -- a row is of that kind
 unfoldable pub kindRow : Among → Row → Bool
-kindRow a r = let beyond = ltb (a .units) (2 * r .groomer) in cond (a .wide) beyond (not beyond)
+kindRow a r = let wide = wideDraw (a .units) (r .groomer) in cond (a .wide) wide (not wide)
 
 -- what the engine gets of a row: one groomer, no driver, and no worth where it is of the other kind
 unfoldable pub amongRow : Among → Row → Row

@@ -6,14 +6,14 @@ use Prim.Native.Nat.{ℕ, _≤_, _<_}
 use lib.IntN.{ℤ}
 use Rattle.model.specs.Steps.{isOpen}
 use Rattle.problem.specs.Columns.{turnsBy, Held}
-use Rattle.hallmodel.specs.Hall.{mostUnits, mostVehicles, isSmall}
+use Rattle.hallmodel.specs.Hall.{hallGap, mostUnits, mostVehicles, isSmall}
 use Rattle.charging.specs.declared.among.Among.{Among}
 use Rattle.charging.specs.Among.{hallBy}
 
 -- columns that hold a hall's windows within what every charging sheet keeps to
 pub record HallHeld (a : Among) (cols : List ℕ) : Type 0 where
   pub held : Held (a .size) cols
-  pub gapless : a .size .gap ≡ 0
+  pub gapless : a .size .gap ≡ hallGap
   pub units-from : 1 ≤ a .units
   pub units-to : a .units ≤ mostUnits
   pub vehicles : (t : ℕ) → t < a .size .count → turnsBy (a .size) cols .slope t ≤ mostVehicles

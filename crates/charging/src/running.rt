@@ -7,7 +7,7 @@ ghost use Prim.Native.Nat.{_+_, _*_, _≤_, _<_};
 ghost use lib.ListN.{length};
 ghost use Rattle.wire.specs.Number.{puts};
 ghost use Rattle.model.specs.Steps.{isOpen, left, afterStepBy};
-ghost use Rattle.model.specs.Pick.{pick, planBy};
+ghost use Rattle.model.specs.Pick.{planBy};
 ghost use Rattle.board.specs.Board.{stepSize, stepBytes};
 ghost use Rattle.problem.specs.Columns.{turnsBy, Held};
 ghost use Rattle.ratio.specs.Bounds.{Residuals};
@@ -88,7 +88,8 @@ pub fn plan_among(a: Among, cols: &[u16; PLACES], out: &mut [u8]) -> usize
     let mut own = [0u16; PLACES];
     put_among(a, cols, &mut own);
     if a.wide {
-        return stepping::plan_steps(a.size, &own, &mut *out);
+        let mut room = [0u16; PLACES];
+        return stepping::plan_steps(a.size, &own, &mut *out, &mut room);
     }
     plan_small(a, cols, &own, &mut *out)
 }

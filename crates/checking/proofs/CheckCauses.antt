@@ -1,40 +1,70 @@
 -- The check gives exactly the number of the first cause in its order, and passes a board exactly where none is there. Assumes nothing.
 use Prim.Native.Nat.{ℕ, _+_, _<_, _≤_}
-use mathlib.Core.Path.{_≡_, refl, sym, _∙_}
+use mathlib.Core.Path.{_≡_, refl, sym, _∙_, ap}
 use mathlib.Core.Logic.{_↔_, _⊎_, inl, inr, _≢_}
-use mathlib.Core.List.{List}
+use mathlib.Core.List.{List, [], _∷_, _++_}
 use mathlib.Core.Bool.{Bool, true, false, not, _&&_, _||_}
 use native.Mathlib.Omega.{arith}
 use native.Mathlib.Decide.{ℕ-discrete, decLt}
 use lib.Dec.{eqb}
+use lib.IntN.{ℤ}
 use borrow.Author.Tests.{eqb-false, ne-eqb, not-true, not-false}
 use Rattle.refusal.specs.Cause.{firstOf, There, here, later}
 use Rattle.refusal.proofs.Order.{first-stops, first-goes, none-given, none-iff}
 use Rattle.wire.specs.Number.{Bytes}
 use Rattle.model.specs.Turns.{Turns, conflict, PositiveLengths}
-use Rattle.model.specs.Steps.{isOpen, initial, afterSteps, tally}
+use Rattle.model.specs.Steps.{Step, isOpen, initial, afterStep, afterSteps, tally}
 use Rattle.lists.specs.Lists.{every}
 use Rattle.model.specs.Choice.{has, chosen, fits}
-use Rattle.model.specs.Rules.{independent, maximal, noneOpen, sums}
+use Rattle.model.specs.Rules.{independent, maximal, right, allRight, noneOpen, sums, Right, Each, done, step}
 use Rattle.lists.proofs.Bools.{and-1, and-2, or-cases, or-1, or-2, or-false-1, or-false-2, not-both, every-not}
 use Rattle.model.proofs.Minutes.{conflict-is}
 use Rattle.model.proofs.Filled.{fits-apart}
-use Rattle.model.proofs.Readings.{independent-is, maximal-is, allRight-is, noneOpen-is, sums-is}
+use Rattle.model.proofs.Readings.{independent-is, maximal-is, right-is, allRight-is, noneOpen-is, sums-is}
 use Rattle.sheet.specs.Read.{turnCount, sheetCauses}
 use Rattle.sheet.specs.Accepted
 use Rattle.sheet.specs.Accepted.{Accepted, SheetCause, placeOf, FirstAmong}
 use Rattle.sheet.proofs.Causes.{refused-iff, first-same, cause-there}
 use Rattle.sheet.proofs.Readings.{sheet-numbered}
 use Rattle.sheet.proofs.Accepting.{accepted-iff}
-use Rattle.board.specs.Board.{boardTurns, boardSteps, boardTally, boardWorth, boardChoice, writtenSteps}
-use Rattle.opening.specs.Open.{malformed, openOf, OpenCause}
+use Rattle.board.specs.Board.{boardTurns, boardTally, boardWorth, boardChoice, writtenSteps}
+use Rattle.opening.specs.Open.{malformed, OpenCause}
 use Rattle.refusal.specs.Number.{malformedBoard}
 use Rattle.opening.proofs.Openings.{open-refused, shut}
 use Rattle.opening.proofs.OpenCauses.{open-refused-iff}
 use Rattle.problem.specs.Problem.{sheetTurns}
 use Rattle.problem.proofs.Posed.{sheet-lengths}
-use Rattle.checking.specs.Check.{choiceCauses, stepCauses, ruleCauses, sumCauses, boardCauses, checkCauses, checkOf, BoardCause, no-board, other-count, two-conflict, room-left, step-wrong, turn-open, sums-differ, CheckCause, of-sheet, of-board, FirstCheckCause, Passes, BoardKeeps}
+use Rattle.checking.specs.Check.{choiceCauses, stepCauses, ruleCauses, sumCauses, boardCauses, checkCauses, checkOf, OneWrong, BoardCause, no-board, other-count, two-conflict, room-left, step-wrong, turn-open, sums-differ, CheckCause, of-sheet, of-board, FirstCheckCause, Passes, BoardKeeps}
 use Rattle.checking.proofs.Passing.{check-number, board-numbered, passes-parts, parts-pass}
+
+-- ---- steps of which one is not right
+
+module _ (T : Turns) where
+  -- the first that is not right, from a state on
+  record WrongFrom (s : List ℤ) (xs : List Step) : Type 0 where
+    before : List Step
+    wrong : Step
+    behind : List Step
+    steps : xs ≡ before ++ (wrong ∷ behind)
+    before-right : Each (afterStep T) (Right T) s before
+    not-right : Right T (afterSteps T s before) wrong → ⊥
+
+  one-wrong : (s : List ℤ) (xs : List Step) → allRight T s xs ≡ false → WrongFrom s xs
+  unfolding allRight afterSteps
+  one-wrong s [] e = absurd (not-both refl e)
+  one-wrong s (x ∷ xs) e = go (right T s x) refl (one-wrong (afterStep T s x) xs)
+    where
+      go : (r : Bool) → right T s x ≡ r → (allRight T (afterStep T s x) xs ≡ false → WrongFrom (afterStep T s x) xs) → WrongFrom s (x ∷ xs)
+      go false f ih = record { before = []; wrong = x; behind = xs; steps = refl; before-right = done; not-right = λ p. not-both (right-is T s x .1 p) f }
+      go true f ih =
+          let w = ih (rw f at e) in
+          record { before = x ∷ w .before; wrong = w .wrong; behind = w .behind; steps = ap (λ (ys : List Step). x ∷ ys) (w .steps); before-right = step (right-is T s x .0 f) (w .before-right); not-right = w .not-right }
+
+  -- each step of a run that is right throughout is right where it stands
+  right-there : (s : List ℤ) (xs : List Step) (x : Step) (ys : List Step) → Each (afterStep T) (Right T) s (xs ++ (x ∷ ys)) → Right T (afterSteps T s xs) x
+  unfolding afterSteps
+  right-there s [] x ys (step p ps) = p
+  right-there s (z ∷ xs) x ys (step p ps) = right-there (afterStep T s z) xs x ys ps
 
 module _ (T : Turns) (lengths : PositiveLengths T) (b : List ℕ) where
   -- ---- each test that fails, in words
@@ -87,6 +117,14 @@ module _ (T : Turns) (lengths : PositiveLengths T) (b : List ℕ) where
       outer : (t : ℕ) × (t < T .count) × (not (isOpen (afterSteps T (initial T) (writtenSteps b)) t) ≡ false) → BoardCause T b 16 4
       outer (t, l, f) = turn-open t l (not-false (isOpen (afterSteps T (initial T) (writtenSteps b)) t) f)
 
+  wrong-cause : not (allRight T (initial T) (writtenSteps b)) ≡ true → BoardCause T b 15 3
+  wrong-cause e =
+      let w = one-wrong T (initial T) (writtenSteps b) (not-true (allRight T (initial T) (writtenSteps b)) e) in
+      step-wrong (record { before = w .before; wrong = w .wrong; behind = w .behind; steps = w .steps; before-right = w .before-right; not-right = w .not-right })
+
+  cause-wrong : OneWrong T (writtenSteps b) → allRight T (initial T) (writtenSteps b) ≡ true → ⊥
+  cause-wrong w e = w .not-right (right-there T (initial T) (w .before) (w .wrong) (w .behind) (rw (w .steps) at (allRight-is T (initial T) (writtenSteps b) .0 e)))
+
   sums-cause : not (sums T (boardChoice b) (writtenSteps b) (boardTally b) (boardWorth b)) ≡ true → BoardCause T b 17 5
   sums-cause e = go (ℕ-discrete (boardTally b) (tally (writtenSteps b))) (ℕ-discrete (boardWorth b) (chosen (T .count) (boardChoice b) (T .worth))) (decLt (boardWorth b) (boardTally b))
     where
@@ -107,7 +145,7 @@ module _ (T : Turns) (lengths : PositiveLengths T) (b : List ℕ) where
   board-cause (here e) = form-cause e
   board-cause (later (here e)) = conflict-cause e
   board-cause (later (later (here e))) = room-cause e
-  board-cause (later (later (later (here e)))) = step-wrong (λ r. not-both (allRight-is T (initial T) (writtenSteps b) .1 r) (not-true _ e))
+  board-cause (later (later (later (here e)))) = wrong-cause e
   board-cause (later (later (later (later (here e))))) = open-cause e
   board-cause (later (later (later (later (later (here e)))))) = sums-cause e
 
@@ -117,7 +155,7 @@ module _ (T : Turns) (lengths : PositiveLengths T) (b : List ℕ) where
   cause-board (other-count n) = here (cause-count n)
   cause-board (two-conflict x y l m d p q c) = later (here (refuted _ (λ e. independent-is T (boardChoice b) lengths .0 e x y l m d p q c)))
   cause-board (room-left t l h n) = later (later (here (refuted _ (λ e. let w = maximal-is T (boardChoice b) lengths .0 e t l h in n (w .0) (w .1) (w .2) (w .3)))))
-  cause-board (step-wrong n) = later (later (later (here (refuted _ (λ e. n (allRight-is T (initial T) (writtenSteps b) .0 e))))))
+  cause-board (step-wrong w) = later (later (later (here (refuted _ (cause-wrong w)))))
   cause-board (turn-open t l o) = later (later (later (later (here (refuted _ (λ e. not-both o (noneOpen-is T (afterSteps T (initial T) (writtenSteps b)) .0 e t l)))))))
   cause-board (sums-differ d) = later (later (later (later (later (here (refuted _ (λ e. differ d (sums-is T (boardChoice b) (writtenSteps b) (boardTally b) (boardWorth b) .0 e))))))))
     where

@@ -18,7 +18,7 @@ use Rattle.model.specs.Promises.{Promises}
 use Rattle.lists.proofs.Bools.{or-false-1, or-false-2}
 use Rattle.model.proofs.Readings.{keeps-is}
 use Rattle.model.proofs.Promised.{keeps-promises}
-use Rattle.sheet.specs.Read.{turnCount, sheetCauses}
+use Rattle.sheet.specs.Read.{sheetCauses}
 use Rattle.sheet.specs.Accepted.{Accepted}
 use Rattle.sheet.proofs.Accepting.{accepted-iff}
 use Rattle.sheet.proofs.Readings.{sheet-numbered}

@@ -70,6 +70,15 @@ pub record BoardKeeps (s b : List ℕ) : Type 0 where
   pub form : WellFormed b (turnCount s) (boardSteps b)
   pub rules : KeepsRules (sheetTurns s) (boardChoice b) (writtenSteps b) (boardTally b) (boardWorth b)
 
+-- one of these steps is not right: each step before it is right where it stands, and it is not, once these have taken their amounts
+pub record OneWrong (T : Turns) (xs : List Step) : Type 0 where
+  pub before : List Step
+  pub wrong : Step
+  pub behind : List Step
+  pub steps : xs ≡ before ++ (wrong ∷ behind)
+  pub before-right : Each (afterStep T) (Right T) (initial T) before
+  pub not-right : Right T (afterSteps T (initial T) before) wrong → ⊥
+
 -- a cause to refuse b as a board for these turns is there: its number, and its place in the order
 pub data BoardCause (T : Turns) (b : List ℕ) : ℕ → ℕ → Type 0 where
   -- 12: it does not open, or is for another number of turns
@@ -79,9 +88,9 @@ pub data BoardCause (T : Turns) (b : List ℕ) : ℕ → ℕ → Type 0 where
   two-conflict : (x y : ℕ) → x < T .count → y < T .count → x ≢ y → has (boardChoice b) x ≡ true → has (boardChoice b) y ≡ true → Conflict T x y → BoardCause T b chosenConflict 1
   -- 14
   room-left : (t : ℕ) → t < T .count → has (boardChoice b) t ≡ false → ((u : ℕ) → u < T .count → has (boardChoice b) u ≡ true → Conflict T u t → ⊥) → BoardCause T b notMaximal 2
-  -- 15: not each step in order is right where it stands
-  step-wrong : (Each (afterStep T) (Right T) (initial T) (writtenSteps b) → ⊥) → BoardCause T b wrongStep 3
-  -- 16
+  -- 15
+  step-wrong : OneWrong T (writtenSteps b) → BoardCause T b wrongStep 3
+  -- 16: after all written steps. Where one of them is not right, 15 is given before; so where 16 is given, each step that took its amount is right
   turn-open : (t : ℕ) → t < T .count → isOpen (afterSteps T (initial T) (writtenSteps b)) t ≡ true → BoardCause T b turnLeftOpen 4
   -- 17
   sums-differ : (boardTally b ≢ tally (writtenSteps b)) ⊎ (boardWorth b ≢ chosen (T .count) (boardChoice b) (T .worth)) ⊎ (boardWorth b < boardTally b) → BoardCause T b wrongSums 5

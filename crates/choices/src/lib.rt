@@ -3,7 +3,7 @@
 mod room;
 mod rules;
 
-pub use room::has_room;
+pub use room::take_if_room;
 pub use rules::chosen_worth;
 pub use rules::is_independent;
 pub use rules::is_maximal;

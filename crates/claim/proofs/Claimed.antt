@@ -1,6 +1,5 @@
 -- The claim holds. That s is a string of bytes is used only where acceptance is meant in words: of lists of any numbers the promises hold as well. Assumes nothing.
-use mathlib.Core.Path.{_≡_, refl, sym, ap, _∙_}
-use mathlib.Core.Logic.{_↔_}
+use mathlib.Core.Path.{_≡_, sym, ap, _∙_}
 use mathlib.Core.Bool.{Bool}
 use mathlib.Core.List.{List}
 use lib.ListN.{length, take, drop}
@@ -17,19 +16,19 @@ use Rattle.model.specs.Choice.{chosen, choice, goBack}
 use Rattle.model.specs.Rules.{KeepsRules}
 use Rattle.model.specs.Ceiling.{ceiling}
 use Rattle.model.specs.IntervalSelection.{Selects}
+use Rattle.model.proofs.Filled.{goBack-length}
+use Rattle.model.proofs.Filling.{filled-is}
 use Rattle.model.proofs.Promised.{planned-keeps}
 use Rattle.model.proofs.Selection.{selection-exists, selection-unique, selection-filled}
-use Rattle.sheet.specs.Read.{turnCount, sheetCauses}
-use Rattle.sheet.specs.Accepted.{Accepted}
+use Rattle.sheet.specs.Read.{sheetCauses}
 use Rattle.sheet.proofs.Readings.{sheet-numbered}
 use Rattle.sheet.specs.Kind.{garage}
 use Rattle.sheet.proofs.SoundKinds.{garage-sound}
-use Rattle.sheet.proofs.Accepting.{sheet-reads, accepted-iff}
-use Rattle.board.specs.Board.{boardTurns, boardSteps, boardTally, boardWorth, boardChoice, writtenSteps}
-use Rattle.opening.specs.Open.{WellFormed}
+use Rattle.sheet.proofs.Accepting.{sheet-reads, accepted-iff, accepted-no-cause}
+use Rattle.board.specs.Board.{boardTally, boardWorth, boardChoice, writtenSteps}
 use Rattle.problem.specs.Problem.{sheetTurns}
 use Rattle.problem.proofs.Posed.{sheet-count, sheet-lengths}
-use Rattle.checking.specs.Check.{Passes, BoardKeeps, checkOf, checked}
+use Rattle.checking.specs.Check.{Passes, checkOf, checked}
 use Rattle.checking.proofs.Passing.{formed-board, parts-pass, passes-iff, passes-answer, passes-promises}
 use Rattle.checking.proofs.CheckCauses.{keeps-no-cause, passes-no-cause}
 use Rattle.planning.specs.Plan.{planCauses, plannedBoard, planOf}
@@ -74,11 +73,13 @@ module _ (s lent : List ℕ) (z : planOf s lent .refusal ≡ 0) where
 
 module _ (s : List ℕ) (e : firstOf (sheetCauses s) ≡ 0) where
   made : {S : List Bool} {xs : List Step} → Selects (sheetTurns s) S xs → ByMethod s S xs
-  made d =
+  made {S} d =
       let r = planned-back s e in
       let u = selection-unique (sheetTurns s) (sheet-lengths s e) d in
+      let chosen-is = r .chosen-turns ∙ selection-filled (sheetTurns s) (sheet-lengths s e) d in
       record {
-        choice = r .chosen-turns ∙ selection-filled (sheetTurns s) (sheet-lengths s e) d;
+        choice = chosen-is;
+        filled = rw chosen-is (filled-is (sheetTurns s) (sheet-lengths s e) S (ap length (u .0) ∙ goBack-length (sheetTurns s) (steps (sheetTurns s))));
         steps = r .step-list ∙ sym (u .1);
         tally-is = r .tallied ∙ ap tally (sym (u .1));
         worth-is = planned-rules s e .worth-is;
@@ -90,13 +91,14 @@ pub claim : (s b : List ℕ) → Bytes s → Claim s b
 claim s b y =
     record {
       reading = λ a. let r = sheet-reads garage garage-sound s (a .counts) (a .turns) (a .sheet) in record { counts = r .1; turns = r .2; count = r .3 };
+      accepted-no-cause = accepted-no-cause y;
       exactly = passes-iff s b y;
       keeps-no-cause = keeps-no-cause s b y;
       passes-no-cause = passes-no-cause s b;
       answers = passes-answer s b;
       ours = λ a. planned-passes s (accepted-iff y .1 a);
       plans = plan-accepted-iff y;
-      writes = plan-front s;
+      writes = plan-wrote s;
       method-returns = λ a. (goBack (sheetTurns s) (steps (sheetTurns s)), steps (sheetTurns s), selection-exists (sheetTurns s) (sheet-lengths s (accepted-iff y .1 a)));
       method = λ a S xs d. made s (accepted-iff y .1 a) d;
       promises = passes-promises s b;

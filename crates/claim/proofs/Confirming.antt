@@ -1,26 +1,18 @@
 -- Planning, then checking, by its cases. Assumes nothing.
 use Prim.Native.Nat.{ℕ, _≤_}
-use mathlib.Core.Path.{_≡_, refl, sym, _∙_, ap}
-use mathlib.Core.Bool.{Bool, true, false, cond}
-use mathlib.Core.List.{List, [], _∷_, _++_}
+use mathlib.Core.Path.{_≡_, sym, _∙_, ap}
+use mathlib.Core.List.{List, _++_}
 use native.Mathlib.Omega.{arith}
-use lib.Dec.{eqb}
 use lib.ListN.{length, take, drop, length-append}
 use lib.Seq.{take-append-seam}
 use borrow.Author.Tests.{ne-eqb}
-use Rattle.refusal.specs.Cause.{Cause, _when_, firstOf}
 use Rattle.refusal.specs.Written.{Written, wrote}
-use Rattle.refusal.proofs.Order.{clear-append}
-use Rattle.refusal.proofs.Written.{wrote-all}
-use Rattle.sheet.specs.Read.{sheetCauses}
-use Rattle.sheet.proofs.Readings.{sheet-numbered}
 use Rattle.checking.specs.declared.CheckAnswer.{CheckAnswer}
-use Rattle.checking.specs.Check.{checked, checkOf}
+use Rattle.checking.specs.Check.{checkOf}
 use Rattle.planner.specs.declared.PlanAnswer.{PlanAnswer}
-use Rattle.planning.specs.Plan.{planCauses, plannedBoard, planOf}
+use Rattle.planning.specs.Plan.{plannedBoard, planOf}
 use Rattle.planner.specs.Answer.{planned}
-use Rattle.planning.proofs.PlanCauses.{plan-number}
-use Rattle.claim.specs.Confirm.{Confirmation, confirmed, plannedSums, confirmOf}
+use Rattle.claim.specs.Confirm.{confirmed, confirmOf}
 use Rattle.claim.proofs.Claimed.{planned-answer, plan-accepted, plan-wrote}
 
 module _ (s lent out : List ℕ) (a : PlanAnswer) (e : planned a out ≡ planOf s lent) where

@@ -3,15 +3,17 @@ use mathlib.Core.Path.{_≡_}
 use mathlib.Core.Logic.{_↔_}
 use mathlib.Core.Bool.{Bool}
 use mathlib.Core.List.{List}
-use lib.ListN.{length, take}
+use lib.ListN.{length}
 use Prim.Native.Nat.{ℕ, _≤_}
+use Rattle.refusal.specs.Written.{wrote}
 use Rattle.model.specs.Steps.{Step, tally}
 use Rattle.model.specs.Choice.{chosen, fits, fill}
+use Rattle.model.specs.Filling.{FilledUp}
 use Rattle.model.specs.Ceiling.{ceiling}
 use Rattle.model.specs.Promises.{Promises}
 use Rattle.model.specs.IntervalSelection.{Selects}
 use Rattle.sheet.specs.Read.{countsIn, turnCount, turnsOf}
-use Rattle.sheet.specs.Accepted.{Accepted}
+use Rattle.sheet.specs.Accepted.{Accepted, SheetCause}
 use Rattle.board.specs.Board.{boardTally, boardWorth, boardLength, boardChoice, writtenSteps}
 use Rattle.problem.specs.Problem.{sheetTurns}
 use Rattle.checking.specs.Check.{Passes, BoardKeeps, BoardCause, CheckCause, checkOf, checked}
@@ -27,6 +29,8 @@ pub record ReadsAs (s : List ℕ) (a : Accepted s) : Type 0 where
 pub record ByMethod (s : List ℕ) (S : List Bool) (xs : List Step) : Type 0 where
   -- its choice is S, filled up
   pub choice : boardChoice (plannedBoard s) ≡ fill (fits (sheetTurns s)) (sheetTurns s .count) S
+  -- the same in words: besides S just the turns, in turn order, that conflict with none chosen
+  pub filled : FilledUp (sheetTurns s) S (boardChoice (plannedBoard s))
   -- its steps are xs, and its tally is their sum
   pub steps : writtenSteps (plannedBoard s) ≡ xs
   pub tally-is : boardTally (plannedBoard s) ≡ tally xs
@@ -37,6 +41,8 @@ pub record ByMethod (s : List ℕ) (S : List Bool) (xs : List Step) : Type 0 whe
 pub record Claim (s b : List ℕ) : Type 0 where
   -- the turns and counts that are read of an accepted sheet are those of its reading in words
   pub reading : (a : Accepted s) → ReadsAs s a
+  -- s is accepted exactly if no cause to refuse a sheet is there
+  pub accepted-no-cause : Accepted s ↔ ((k r : ℕ) → SheetCause s k r → ⊥)
   -- the check passes b for s exactly if s is accepted and b keeps the rules for it
   pub exactly : Passes s b ↔ (Accepted s × BoardKeeps s b)
   -- b keeps the rules for an accepted s exactly if no cause from 12 to 17 to refuse it is there
@@ -49,8 +55,8 @@ pub record Claim (s b : List ℕ) : Type 0 where
   pub ours : Accepted s → Passes s (plannedBoard s)
   -- the planner refuses nothing exactly if s is accepted and the lent bytes hold a board with as many steps as turns
   pub plans : (lent : List ℕ) → (planOf s lent .refusal ≡ 0) ↔ (Accepted s × (boardLength (turnCount s) (turnCount s) ≤ length lent))
-  -- then what it writes is its board: in whatever bytes it is lent, the first so many
-  pub writes : (lent : List ℕ) → planOf s lent .refusal ≡ 0 → take (planOf s lent .bytes) (planOf s lent .lent) ≡ plannedBoard s
+  -- then, whatever bytes it is lent, it returns as many bytes as its board has; the lent bytes begin with this board, and behind it hold what they held
+  pub writes : (lent : List ℕ) → planOf s lent .refusal ≡ 0 → planOf s lent ≡ wrote (plannedBoard s) lent
   -- the published algorithm returns a choice and makes steps, and whatever these are, the planner's board is theirs
   pub method-returns : Accepted s → (S : List Bool) × (xs : List Step) × Selects (sheetTurns s) S xs
   pub method : Accepted s → (S : List Bool) (xs : List Step) → Selects (sheetTurns s) S xs → ByMethod s S xs

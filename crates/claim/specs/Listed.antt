@@ -3,6 +3,7 @@ use Prim.Native.Nat.{ℕ, _+_}
 use mathlib.Core.Path.{_≡_}
 use mathlib.Core.List.{List}
 use lib.ListN.{length}
+use Rattle.refusal.specs.Written.{wrote}
 use Rattle.lists.specs.Lists.{sum, below}
 use Rattle.sheet.specs.Read.{countsIn}
 use Rattle.choicemap.specs.Choice.{onesIn}
@@ -13,17 +14,22 @@ use Rattle.checking.specs.Check.{Passes, checkOf}
 use Rattle.rounds.specs.Round.{roundOf, Round}
 use Rattle.lines.specs.declared.lines.Sums.{Sums}
 use Rattle.lines.specs.Text.{listingOf}
+use Rattle.listing.specs.List.{listOf}
 
 -- the sums of a last line, as an answer of the check has them
 abbrev pub sumsIn : CheckAnswer → Sums
 sumsIn answer = record { worth = answer .worth; tally = answer .tally; ceiling = answer .ceiling }
 
--- text is the listing of the sheet s and of the board b
-pub record ListPromised (s b text : List ℕ) : Type 0 where
+-- the text for a sheet s and a board b: of all groomers of s, of its turns as far as b chooses them, and of the sums that the check answers for b
+abbrev pub textFor : List ℕ → List ℕ → List ℕ
+textFor s b = listingOf (countsIn s .groomers) (sheetTurns s) (boardChoice b) (sumsIn (checkOf s b))
+
+-- of an answer that refuses nothing, and a board b
+pub record ListPromised (s b lent : List ℕ) : Type 0 where
   -- the board passes
   pub passes : Passes s b
-  -- the sheet's groomers, its turns as far as the board chooses them, and the check's own sums, are the whole text
-  pub text-is : text ≡ listingOf (countsIn s .groomers) (sheetTurns s) (boardChoice b) (sumsIn (checkOf s b))
+  -- the answer is the number of bytes of their text; the lent bytes begin with this text, and behind it hold what they held
+  pub writes : listOf s lent ≡ wrote (textFor s b) lent
   -- below a groomer's heading stand just its chosen turns, each once, by start
   pub rounds : (h : ℕ) → Round (sheetTurns s) (boardChoice b) h (roundOf (sheetTurns s) (boardChoice b) h)
   -- there are as many turn lines as ones in the board's map

@@ -1,7 +1,7 @@
 -- A column by its cases, each premise in the form in which the code's calls and tests leave it. Assumes nothing.
 use Prim.Native.Nat.{ℕ, zero, suc, _+_, _-_, _*_, _/_, _%_, _<_, _≤_}
 use mathlib.Core.Path.{_≡_, refl, sym, _∙_, ap}
-use mathlib.Core.List.{List, [], _∷_, _++_}
+use mathlib.Core.List.{List, _∷_}
 use native.Mathlib.Omega.{arith}
 use native.Mathlib.Numerals.{add-one}
 use native.Mathlib.Nat.{add-zero}
@@ -10,12 +10,12 @@ use lib.Seq.{drop-cons, drop-length}
 use Rattle.wire.specs.Number.{puts}
 use Rattle.wire.proofs.Puts.{puts-append}
 use Rattle.turns.specs.Turn.{rowNumbers, rowOf, turnIn, turnsOfTable}
-use Rattle.turns.proofs.Rows.{turns-step, turns-end}
-use Rattle.sheet.specs.Record.{widthOf, field}
+use Rattle.turns.proofs.Rows.{turns-step}
+use Rattle.sheet.specs.Record.{field}
 use Rattle.sheet.specs.Layout.{fieldBytes}
 use Rattle.sheet.proofs.Fields.{field-length}
 use Rattle.columns.specs.declared.Field.{Field}
-use Rattle.columns.specs.Column.{ColumnsLaid, slopes, groomers, starts, lengths, worths, drivers, sizeIn, fieldIn, fieldValue, columnSize, valuesOf, columnOf, columnRead, widths, spread}
+use Rattle.columns.specs.Column.{ColumnsLaid, slopes, groomers, starts, lengths, worths, drivers, sizeIn, fieldIn, fieldValue, columnSize, valuesOf, columnOf, columnRead, spread}
 
 -- ---- the fields
 

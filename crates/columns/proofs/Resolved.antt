@@ -5,13 +5,12 @@ use mathlib.Core.List.{List, [], _∷_, _++_, append-assoc}
 use native.Mathlib.Omega.{arith}
 use native.Mathlib.Numerals.{add-one}
 use native.Mathlib.Nat.{add-zero, div-one}
-use lib.ListN.{length, getD, drop, length-drop}
+use lib.ListN.{length, getD, drop}
 use lib.Seq.{drop-cons, drop-drop, drop-length}
 use Rattle.wire.specs.Number.{Bytes}
 use Rattle.wire.proofs.Numbers.{byte-front}
 use Rattle.turns.specs.declared.Turn.{Turn}
 use Rattle.turns.specs.Turn.{rowOf}
-use Rattle.sheet.specs.Record.{field}
 use Rattle.sheet.specs.Accepted.{Carried}
 use Rattle.sheet.proofs.Fields.{field-read, field-stands}
 use Rattle.sheet.proofs.Records.{field-carried}

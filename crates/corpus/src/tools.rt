@@ -1,6 +1,6 @@
 // What every entry needs: the numbers of a case, what lent buffers hold before the call, checksums.
 ghost use mathlib.Core.Path.{_≡_};
-ghost use Prim.Native.Nat.{_+_, _*_, _≤_, _<_};
+ghost use Prim.Native.Nat.{_+_, _*_, _<_};
 ghost use lib.ListN.{length};
 ghost use Rattle.corpus.specs.Line.{numberOr, longHeld, countsHeld, drawHeld, unpacked, heldBefore, numberBefore, byteBefore, mixed, sumOf};
 

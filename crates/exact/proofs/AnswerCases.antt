@@ -1,5 +1,5 @@
 -- The entry's answer by its cases, each premise in the form in which the code's calls and tests leave it. Assumes nothing.
-use Prim.Native.Nat.{ℕ, zero, suc, _+_, _-_, _<_, _≤_}
+use Prim.Native.Nat.{ℕ, zero, suc, _+_, _<_, _≤_}
 use mathlib.Core.Path.{_≡_, refl, sym, ap, _∙_}
 use mathlib.Core.Bool.{Bool, true, false, not, cond}
 use mathlib.Core.List.{List, [], _∷_, _++_}
@@ -15,7 +15,7 @@ use Rattle.refusal.proofs.Order.{first-stops, first-goes}
 use Rattle.sheet.specs.declared.answer.ReadAnswer.{ReadAnswer}
 use Rattle.sheet.specs.Read.{turnCount, sheetCauses, answerOf}
 use Rattle.sheet.proofs.Readings.{sheet-numbered}
-use Rattle.sheet.proofs.Unrefused.{few-slopes, few-groomers}
+use Rattle.sheet.proofs.Unrefused.{few-groomers}
 use Rattle.sheet.proofs.Whole.{whole-refusal, whole-accepted, whole-turns}
 use Rattle.choicemap.specs.Choice.{choiceIn, mapBytes, mapOf, Clean}
 use Rattle.choicemap.proofs.Clean.{clean-map, zeros-clean, zeros-choice, map-length}
@@ -23,7 +23,7 @@ use Rattle.problem.specs.declared.columns.Size.{Size}
 use Rattle.problem.specs.Columns.{turnsBy, Held}
 use Rattle.problem.specs.Problem.{sheetTurns}
 use Rattle.problem.specs.Load.{shiftSize, Posed}
-use Rattle.problem.proofs.Posed.{sheet-count, sheet-slopes, sheet-groomers}
+use Rattle.problem.proofs.Posed.{sheet-count, sheet-groomers}
 use Rattle.problem.proofs.Rows.{count-is}
 use Rattle.model.specs.Turns.{Turns}
 use Rattle.exact.specs.declared.BestAnswer.{BestAnswer}
@@ -135,7 +135,6 @@ module _ (s lent : List ℕ) {r : ReadAnswer} (e : r ≡ answerOf s) where
       pub best-ranged : Ranged p cols
       best-ranged =
           record {
-            slopes = λ t h. rw turns-are (omega (arith, sheet-slopes s sound t (inside t h), few-slopes s sound));
             groomers = λ t h. rw turns-are (omega (arith, sheet-groomers s sound t (inside t h), few-groomers s sound));
           }
 

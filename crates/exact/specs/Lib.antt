@@ -1,4 +1,3 @@
 pub mod Exact
 pub mod Answer
-pub mod Held
 pub mod Sheet

@@ -40,7 +40,7 @@ pub record BestOfSheet (s : List ℕ) : Type 0 where
   pub planned-worth : boardWorth (plannedBoard s) ≡ bestWorth (sheetTurns s)
   -- and the same choice map, bit for bit
   pub planned-map : boardMap (plannedBoard s) ≡ mapOf (bestChoice (sheetTurns s))
-  -- of two best sets that differ, this one is without the latest of the turns in which they differ
+  -- of two best sets, this one leaves out the latest of a groomer's turns in which they differ
   pub latest : LeavesOutLatest (sheetTurns s) (bestChoice (sheetTurns s))
 
 -- of an answer that refuses nothing
@@ -52,7 +52,7 @@ pub record BestPromised (s lent : List ℕ) : Type 0 where
   pub apart : Independent (sheetTurns s) (answeredChoice s lent)
   -- they earn the answer's worth
   pub earns : chosen (sheetTurns s .count) (answeredChoice s lent) (sheetTurns s .worth) ≡ exactOf s lent .worth
-  -- of two sets that earn as much and differ, theirs is the one without the latest of the turns in which they differ
+  -- of two sets that earn as much, theirs leaves out the latest of a groomer's turns in which they differ
   pub latest : (R : List ℕ) → Feasible (sheetTurns s) R → worthOf (sheetTurns s) R ≡ exactOf s lent .worth → (x : ℕ) → has (answeredChoice s lent) x ≡ true → isAmong R x ≡ false →
       (y : ℕ) × (isAmong R y ≡ true) × (has (answeredChoice s lent) y ≡ false) × Later (sheetTurns s) y x
   -- the first bytes are their map: no other bit is set there

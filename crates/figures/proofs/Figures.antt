@@ -1,20 +1,26 @@
--- The numbers are those: each equation is computed. Assumes nothing.
+-- The numbers are those: each equation is computed, or is a law with its number written out. Assumes nothing.
 use Prim.Native.Nat.{_%_}
 use mathlib.Core.Path.{refl, sym}
+use native.Mathlib.Numerals.{unary-clauses}
 use Rattle.turns.specs.Turn.{outsideRange}
+use Rattle.turns.proofs.Ranges.{inside-iff, within-iff}
 use Rattle.sheet.specs.Kind.{garage, withTurns}
-use Rattle.sheet.specs.Record.{widthOf}
+use Rattle.sheet.specs.Record.{widthOf, field, turnFrom}
+use Rattle.sheet.proofs.Accepting.{read-accepted-iff}
 use Rattle.screen.specs.Screen.{liftDesk}
 use Rattle.archive.specs.Kept.{archive}
 use Rattle.problem.specs.Problem.{problemOf, sheetTurns}
+use Rattle.planning.proofs.PlanCauses.{plan-accepted-iff}
 use Rattle.trial.specs.Draw.{nextDraw, turnDrawn}
 use Rattle.trial.proofs.Draws.{ten-thousandth}
 use Rattle.trial.proofs.Drawings.{length-first, length-second, length-third, length-fourth}
+use Rattle.hallmodel.specs.Hall.{isWide, wideDraw}
+use Rattle.hallmodel.specs.Plan.{roundedUp, smallTakes}
 use Rattle.hall.specs.Charge.{chargingSheet}
 use Rattle.figures.specs.Figures.{Figures}
 
 pub figures : Figures
-unfolding outsideRange garage withTurns widthOf liftDesk archive problemOf sheetTurns nextDraw turnDrawn chargingSheet
+unfolding outsideRange garage withTurns widthOf field turnFrom liftDesk archive problemOf sheetTurns nextDraw turnDrawn isWide wideDraw roundedUp smallTakes chargingSheet
 figures =
     record {
       groomers = refl;
@@ -24,6 +30,9 @@ figures =
       worth = refl;
       driver = refl;
       from-one = λ most. refl;
+      to-most = inside-iff;
+      times = within-iff;
+      least-left = refl;
       gap = refl;
       sheet-gap = λ s. refl;
       sheet-mark = refl;
@@ -41,7 +50,15 @@ figures =
       length-bytes = refl;
       worth-bytes = refl;
       driver-bytes = refl;
+      bit-0 = λ s at p. refl;
+      bit-1 = λ s at p. simp unary-clauses refl;
+      bit-2 = λ s at p. simp unary-clauses refl;
+      bit-3 = λ s at p. simp unary-clauses refl;
+      bit-4 = λ s at p. simp unary-clauses refl;
+      bit-5 = λ s at p. simp unary-clauses refl;
+      every-bit = λ s at p. simp unary-clauses refl;
       row = refl;
+      reader-need = read-accepted-iff;
       garage-kind = refl;
       lift-desk-kind = refl;
       kept-kind = refl;
@@ -54,6 +71,7 @@ figures =
       map-bytes = λ n. refl;
       step-bytes = refl;
       board-bytes = λ n m. refl;
+      planner-need = plan-accepted-iff;
       screen = refl;
       searched = refl;
       delay = refl;
@@ -62,6 +80,8 @@ figures =
       units = refl;
       vehicles = refl;
       hall-gap = refl;
+      wide = λ H t. refl;
+      small-share = λ H j amount t e f. rw (e, f);
       next-draw = λ x. refl;
       seed = refl;
       ten-thousandth = ten-thousandth;

@@ -1,17 +1,22 @@
--- The numbers that the format's description fixes, on one page: each is an equation of a definition with a literal (documents 01 and 02). Assumes nothing.
-use Prim.Native.Nat.{ℕ, _+_, _*_, _/_, _%_, _≤_}
+-- The numbers that the format's description fixes, on one page: each is said of a definition with a literal, mostly as an equation (documents 01 and 02). Assumes nothing.
+use Prim.Native.Nat.{ℕ, _+_, _-_, _*_, _/_, _%_, _≤_}
 use mathlib.Core.Path.{_≡_}
-use mathlib.Core.Bool.{Bool, true}
+use mathlib.Core.Bool.{Bool, true, false}
+use mathlib.Core.Logic.{_↔_}
 use mathlib.Core.List.{List, [], _∷_}
+use lib.Dec.{ltb}
 use lib.ListN.{length}
+use lib.IntN.{pos, negℤ}
 use Rattle.refusal.specs.Number.{truncated, badMagic, badCounts, tooManyTurns, badMap, badSlope, badGroomer, badTime, badWorth, trailingBytes, bufferTooSmall, malformedBoard, chosenConflict, notMaximal, wrongStep, turnLeftOpen, wrongSums, partialTurn, badDriver, tooManyForScreen, notSingleTurns, tooManyToSearch, badSeed, badDelays, badDraw}
-use Rattle.wire.specs.Number.{valueAt}
+use Rattle.wire.specs.Number.{valueAt, Bytes}
 use Rattle.wire.specs.Mark.{sheetMark, boardMark, keptMark, chargingMark}
 use Rattle.turns.specs.declared.Counts.{Counts}
-use Rattle.turns.specs.Turn.{shiftMinutes, mostWorth, mostDriver, rowNumbers, outsideRange}
+use Rattle.turns.specs.declared.Turn.{Turn}
+use Rattle.turns.specs.Turn.{shiftMinutes, mostWorth, mostDriver, rowNumbers, outsideRange, pastShift}
 use Rattle.sheet.specs.Kind.{firstMap, fullMap, mostGroomers, mostSlopes, mostTurns, garage}
-use Rattle.sheet.specs.Record.{widthOf}
-use Rattle.sheet.specs.Read.{headerBytes, countsIn, turnCount}
+use Rattle.sheet.specs.Record.{widthOf, turnFrom}
+use Rattle.sheet.specs.Read.{headerBytes, countsIn, turnCount, readOf}
+use Rattle.sheet.specs.Accepted.{Accepted}
 use Rattle.screen.specs.Screen.{screenTurns, liftDesk}
 use Rattle.archive.specs.Kept.{archive}
 use Rattle.choicemap.specs.Choice.{mapBytes}
@@ -20,12 +25,14 @@ use Rattle.problem.specs.Problem.{shiftGap, sheetTurns}
 use Rattle.model.specs.Turns.{Turns, NoDrivers}
 use Rattle.model.specs.Feasible.{Feasible, worthOf, OneTurnASlope}
 use Rattle.model.specs.Promises.{Promises}
+use Rattle.ratio.specs.Bounds.{leastResidual}
+use Rattle.planning.specs.Plan.{planOf}
 use Rattle.improve.specs.Improve.{mostSearched}
 use Rattle.trial.specs.Draw.{mostDraw, nextDraw, drawNumber, turnDraws, turnDrawn}
 use Rattle.playing.specs.Day.{overMinutes, mostDelay}
 use Rattle.playing.specs.Standing.{noTurnInHand}
-use Rattle.hallmodel.specs.Hall.{mostUnits, mostVehicles, hallGap, Hall, Allowed}
-use Rattle.hallmodel.specs.Plan.{smallSteps, hallWorth}
+use Rattle.hallmodel.specs.Hall.{mostUnits, mostVehicles, hallGap, Hall, draw, sameVehicle, shareMinute, isWide, Allowed}
+use Rattle.hallmodel.specs.Plan.{smallTakes, smallSteps, hallWorth}
 use Rattle.hallmodel.specs.Promises.{worthOfWindows, HallPromises}
 use Rattle.hall.specs.Charge.{chargingSheet}
 
@@ -42,6 +49,12 @@ pub record Figures : Type 0 where
   pub driver : mostDriver ≡ 40
   -- groomers, slopes and worths are counted from 1: 0 is out of their range
   pub from-one : (most : ℕ) → outsideRange 0 most ≡ true
+  -- and the greatest number is still in it
+  pub to-most : (x most : ℕ) → (outsideRange x most ≡ false) ↔ ((1 ≤ x) × (x ≤ most))
+  -- a length is at least 1, and an end of 960 is still right
+  pub times : (start len : ℕ) → (pastShift start len ≡ false) ↔ ((1 ≤ len) × (start + len ≤ 960))
+  -- what remains of a worth is never below -59,999
+  pub least-left : leastResidual ≡ negℤ (pos 59999)
   -- ten free minutes between two turns of a groomer or of a driver, on every sheet
   pub gap : shiftGap ≡ 10
   pub sheet-gap : (s : List ℕ) → sheetTurns s .gap ≡ 10
@@ -66,8 +79,21 @@ pub record Figures : Type 0 where
   pub length-bytes : widthOf 8 ≡ 2
   pub worth-bytes : widthOf 16 ≡ 2
   pub driver-bytes : widthOf 32 ≡ 1
+  -- a record with one bit alone takes that field from its bytes, and all others from the turn before
+  pub bit-0 : (s : List ℕ) (at : ℕ) (p : Turn) → turnFrom s at 1 p ≡ record { slope = valueAt s at 1; groomer = p .groomer; start = p .start; length = p .length; worth = p .worth; driver = p .driver }
+  pub bit-1 : (s : List ℕ) (at : ℕ) (p : Turn) → turnFrom s at 2 p ≡ record { slope = p .slope; groomer = valueAt s at 1; start = p .start; length = p .length; worth = p .worth; driver = p .driver }
+  pub bit-2 : (s : List ℕ) (at : ℕ) (p : Turn) → turnFrom s at 4 p ≡ record { slope = p .slope; groomer = p .groomer; start = valueAt s at 2; length = p .length; worth = p .worth; driver = p .driver }
+  pub bit-3 : (s : List ℕ) (at : ℕ) (p : Turn) → turnFrom s at 8 p ≡ record { slope = p .slope; groomer = p .groomer; start = p .start; length = valueAt s at 2; worth = p .worth; driver = p .driver }
+  pub bit-4 : (s : List ℕ) (at : ℕ) (p : Turn) → turnFrom s at 16 p ≡ record { slope = p .slope; groomer = p .groomer; start = p .start; length = p .length; worth = valueAt s at 2; driver = p .driver }
+  pub bit-5 : (s : List ℕ) (at : ℕ) (p : Turn) → turnFrom s at 32 p ≡ record { slope = p .slope; groomer = p .groomer; start = p .start; length = p .length; worth = p .worth; driver = valueAt s at 1 }
+  -- with all bits the fields stand in this order
+  pub every-bit :
+      (s : List ℕ) (at : ℕ) (p : Turn)
+      → turnFrom s at 0x3F p ≡ record { slope = valueAt s at 1; groomer = valueAt s (at + 1) 1; start = valueAt s (at + 2) 2; length = valueAt s (at + 4) 2; worth = valueAt s (at + 6) 2; driver = valueAt s (at + 8) 1 }
   -- a turn has six numbers in a table
   pub row : rowNumbers ≡ 6
+  -- and so many places the reader needs for each
+  pub reader-need : {s : List ℕ} → Bytes s → (lent : List ℕ) → (readOf s lent .answer .refusal ≡ 0) ↔ (Accepted s × (6 * turnCount s ≤ length lent))
   -- the four kinds of sheet: mark, greatest counts, maps, and the refusals of counts, turns, slope and groomer. The garage's
   pub garage-kind :
       garage
@@ -96,6 +122,8 @@ pub record Figures : Type 0 where
   pub map-bytes : (n : ℕ) → mapBytes n ≡ (n + 7) / 8
   pub step-bytes : stepSize ≡ 4
   pub board-bytes : (n m : ℕ) → boardLength n m ≡ 15 + (n + 7) / 8 + 4 * m
+  -- the planner needs the bytes of a board with as many steps as turns
+  pub planner-need : {s : List ℕ} → Bytes s → (lent : List ℕ) → (planOf s lent .refusal ≡ 0) ↔ (Accepted s × (15 + (turnCount s + 7) / 8 + 4 * turnCount s ≤ length lent))
   -- ---- the other parts
 
   -- the lift desk's screen shows 96 turns; 64 turns are searched
@@ -109,6 +137,10 @@ pub record Figures : Type 0 where
   pub units : mostUnits ≡ 48
   pub vehicles : mostVehicles ≡ 60
   pub hall-gap : hallGap ≡ 0
+  -- a window is wide where twice its draw is above the units
+  pub wide : (H : Hall) (t : ℕ) → isWide H t ≡ ltb (H .units) (2 * draw H t)
+  -- a step takes from a small window of another vehicle that shares a minute: twice its draw times the amount, by the units, rounded up
+  pub small-share : (H : Hall) (j amount t : ℕ) → sameVehicle H j t ≡ false → shareMinute H j t ≡ true → smallTakes H j amount t ≡ (2 * draw H t * amount + (H .units - 1)) / H .units
   -- ---- drawn sheets
 
   -- the generator, the greatest seed, and the ten-thousandth draw from seed 1

@@ -1,23 +1,23 @@
--- Choosing among the windows of one kind, by its cases: one window, going back over the steps. Assumes nothing.
-use Prim.Native.Nat.{ℕ, _+_, _-_, _<_, _≤_}
-use mathlib.Core.Path.{_≡_, refl, sym, _∙_, ap}
+-- Choosing among the windows of one kind, by its cases: one window, and all of a list. Assumes nothing.
+use Prim.Native.Nat.{ℕ, _<_}
+use mathlib.Core.Path.{_≡_, sym, _∙_, ap}
 use mathlib.Core.Bool.{Bool, true, false, _&&_}
-use mathlib.Core.List.{List, _∷_, map}
+use mathlib.Core.List.{List}
 use native.Mathlib.Omega.{arith}
-use lib.ListN.{drop, replicate, drop-of-length-le}
+use lib.ListN.{replicate}
 use Rattle.lists.proofs.Bools.{and-1, and-2}
 use Rattle.model.specs.Steps.{Step}
-use Rattle.model.specs.Choice.{choose, back, fill}
+use Rattle.model.specs.Choice.{choose, chooseEach}
 use Rattle.model.proofs.Choices.{choose-set, choose-not}
 use Rattle.choicemap.specs.Choice.{choiceIn, withTurn, Clean}
-use Rattle.board.specs.Board.{stepAt, stepsIn}
 use Rattle.choicemap.proofs.Clean.{choice-with, choice-length}
-use Rattle.board.proofs.StepBytes.{steps-length}
 use Rattle.problem.specs.declared.ways.Row.{Row}
 use Rattle.problem.specs.Ways.{turnRow}
-use Rattle.problem.specs.Columns.{rowIn}
+use Rattle.problem.specs.Columns.{rowIn, turnsBy}
 use Rattle.problem.proofs.Rows.{count-is, row-is}
-use Rattle.chooser.proofs.Fitting.{bit-inside, room-clean, steps-next}
+use Rattle.chooser.specs.Asked.{askedTurns}
+use Rattle.chooser.proofs.Numbers.{asked-room, asked-size, asked-numbers, asked-chosen, each-start, each-more, each-done}
+use Rattle.chooser.proofs.Fitting.{bit-inside, room-clean}
 use Rattle.hallmodel.specs.Hall.{Hall, windowCount, vehicleFree, supplyLasts, staysAllowed}
 use Rattle.hallmodel.specs.Plan.{fitsAmong, chooseAmong}
 use Rattle.charging.specs.declared.among.Among.{Among}
@@ -25,7 +25,6 @@ use Rattle.charging.specs.Among.{hallBy, ofKind, kindRow}
 use Rattle.charging.specs.Bounds.{HallHeld}
 use Rattle.charging.proofs.OneKind.{kind-is}
 use Rattle.hall.specs.Supply.{allowedRow, RoomFor, WithWindow, Supplied}
-use Rattle.hall.specs.OneKind.{backOver}
 use Rattle.hall.proofs.Supplies.{row-in-hall, lasts-room, row-stays, supplied-put, supplied-none}
 
 -- ---- one window
@@ -74,29 +73,15 @@ module _ (a : Among) (cols map used : List ℕ) (j : ℕ) {r : Row} {q : Bool} (
 
 pub ruleset allowed-cases = (row-in-hall, bit-inside, room-clean, allowed-none, allowed-room, allowed-added, allowed-supplied)
 
--- ---- back over the steps: i of the m steps are passed
+-- ---- all windows of the list
 
-module _ (a : Among) (cols : List ℕ) (m : ℕ) (steps : List ℕ) where
-  back-goes : (x : Step) (xs : List Step) → backOver a cols (x ∷ xs) ≡ choose (fitsAmong (hallBy a cols) (ofKind a cols)) (backOver a cols xs) (x .turn)
-  unfolding backOver back
-  back-goes x xs = refl
+-- none chosen yet
+pub ruleset list-cases = (supplied-none, each-start, each-more, each-done)
 
-  pub passed-none : {S : List Bool} → S ≡ replicate (a .size .count) false → S ≡ backOver a cols (drop (m - 0) (stepsIn m steps))
-  unfolding backOver back
-  passed-none e = e ∙ sym (rw (drop-of-length-le (stepsIn m steps) {i = m - 0} (omega (arith, steps-length m steps))))
+-- going back over the steps, then filling
+pub chosen-among : (a : Among) (cols : List ℕ) (xs : List Step) {list : List ℕ} {S : List Bool} → list ≡ askedTurns (a .size .count) xs → S ≡ chooseEach (fitsAmong (hallBy a cols) (ofKind a cols)) list (replicate (a .size .count) false)
+    → S ≡ chooseAmong (hallBy a cols) (ofKind a cols) xs
+unfolding chooseAmong turnsBy
+chosen-among a cols xs e f = f ∙ rw e (asked-chosen (fitsAmong (hallBy a cols) (ofKind a cols)) (a .size .count) xs)
 
-  pub passed-more : (i : ℕ) {r : ℕ} {S S′ : List Bool} → i < m → r ≡ stepAt steps (m - (i + 1)) .turn → S′ ≡ choose (fitsAmong (hallBy a cols) (ofKind a cols)) S r → S ≡ backOver a cols (drop (m - i) (stepsIn m steps))
-      → S′ ≡ backOver a cols (drop (m - (i + 1)) (stepsIn m steps))
-  passed-more i {r} {S} l e o q = o ∙ rw (steps-next m steps i l, back-goes (stepAt steps (m - (i + 1))) (drop (m - i) (stepsIn m steps)), ← q, ← e)
-
-  pub passed-all : (i : ℕ) {S : List Bool} → m ≤ i → S ≡ backOver a cols (drop (m - i) (stepsIn m steps)) → S ≡ backOver a cols (stepsIn m steps)
-  passed-all i h e = let q : m - i ≡ 0 = omega arith in rw q at e
-
-pub ruleset passed-cases = (passed-none, passed-more, passed-all)
-
--- both
-pub chosen-among : (a : Among) (cols : List ℕ) (xs : List Step) {S U : List Bool} → U ≡ fill (fitsAmong (hallBy a cols) (ofKind a cols)) (a .size .count) S → S ≡ backOver a cols xs → U ≡ chooseAmong (hallBy a cols) (ofKind a cols) xs
-unfolding chooseAmong backOver
-chosen-among a cols xs e f = e ∙ rw (f, count-is (a .size) cols)
-
-pub ruleset both-cases = (supplied-none, chosen-among)
+pub ruleset both-cases = (asked-room, asked-size, asked-numbers, chosen-among)

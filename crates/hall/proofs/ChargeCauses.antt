@@ -24,7 +24,7 @@ use Rattle.sheet.proofs.Causes.{first-same}
 use Rattle.sheet.proofs.ReadCauses.{lent-causes-iff-for}
 use Rattle.choicemap.specs.Choice.{mapBytes}
 use Rattle.problem.proofs.Posed.{sheet-count-for, sheet-lengths-for}
-use Rattle.hallmodel.specs.Hall.{HallInRange}
+use Rattle.hallmodel.specs.Hall.{hallGap, HallInRange}
 use Rattle.hallmodel.specs.Promises.{HallPromises}
 use Rattle.hallmodel.proofs.Halls.{hall-promises}
 use Rattle.hall.specs.Charge.{chargingSheet, hallOf, chargeCauses, hallFound, hallRefused, chargeOf, AcceptedCharging, ChargeCause, FirstChargeCause}
@@ -69,10 +69,10 @@ module _ (s lent : List ℕ) (e : chargeOf s lent .refusal ≡ 0) where
   unfolding hallOf
   charge-in-range =
       let z = charge-accepted .0 in
-      let n = sheet-count-for chargingSheet charging-sound 0 s z in
+      let n = sheet-count-for chargingSheet charging-sound hallGap s z in
       record {
         supplied = omega (arith, units-of s z);
-        lengths = sheet-lengths-for chargingSheet charging-sound 0 s z;
+        lengths = sheet-lengths-for chargingSheet charging-sound hallGap s z;
         draws-from = λ t l. draw-of s z t (omega (arith, n)) .0;
         draws-to = λ t l. draw-of s z t (omega (arith, n)) .1;
       }

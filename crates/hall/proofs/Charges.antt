@@ -1,5 +1,5 @@
 -- The plans and the entry's answer by their cases, each premise in the form in which the code's calls and tests leave it. Assumes nothing.
-use Prim.Native.Nat.{ℕ, _+_, _-_, _*_, _<_, _≤_}
+use Prim.Native.Nat.{ℕ, _+_, _*_, _<_, _≤_}
 use mathlib.Core.Path.{_≡_, refl, sym, ap, _∙_}
 use mathlib.Core.Bool.{Bool, true, false, cond}
 use mathlib.Core.List.{List, [], _∷_, _++_, append-nil}
@@ -32,7 +32,7 @@ use Rattle.problem.proofs.Posed.{sheet-count-for, sheet-slopes-for, sheet-groom
 use Rattle.problem.proofs.Rows.{count-is}
 use Rattle.choices.specs.Below.{chosenBelow}
 use Rattle.choices.specs.Bounds.{StepsOf}
-use Rattle.hallmodel.specs.Hall.{mostUnits, mostVehicles, Hall, windowCount}
+use Rattle.hallmodel.specs.Hall.{hallGap, mostUnits, mostVehicles, Hall, windowCount}
 use Rattle.hallmodel.specs.Plan.{chooseAmong, wideChoice, smallChoice, worthIn, hallChoice, hallWorth}
 use Rattle.hallmodel.proofs.Allowing.{chosen-length}
 use Rattle.hallmodel.proofs.Halls.{greater-first, greater-second, plan-length}
@@ -61,6 +61,9 @@ module _ (a : Among) (cols : List ℕ) (held : HallHeld a cols) {m : ℕ} (e : m
   pub kind-room : 4 * m ≤ length l′
   kind-room = rw p (omega (arith, puts-length (stepBytes (stepsBy a cols)) l 0, written-few a cols held e, room))
 
+  pub kind-few : m ≤ mostTurns
+  kind-few = omega (arith, written-few a cols held e, held .held .few)
+
   pub kind-steps-of : StepsOf (a .size .count) m l′
   unfolding StepsOf
   kind-steps-of = written-inside a cols held e l room p
@@ -77,7 +80,7 @@ module _ (a : Among) (cols : List ℕ) (held : HallHeld a cols) {m : ℕ} (e : m
     pub kind-map-is : Clean (a .size .count) map → map ≡ mapOf (kindChoice a cols)
     kind-map-is d = clean-map (a .size .count) map d ∙ ap mapOf choice-is
 
-pub ruleset kind-cases = (kind-room, kind-steps-of, kind-worth-is, kind-map-is)
+pub ruleset kind-cases = (kind-room, kind-few, kind-steps-of, kind-worth-is, kind-map-is)
 
 -- ---- of the two plans the one of greater worth
 
@@ -192,11 +195,11 @@ module _ (s : List ℕ) (z : firstOf (causesFor chargingSheet s) ≡ 0) where
   unfolding chargingSheet
   vehicles-of = legal-header chargingSheet charging-sound s z .slopes-to
 
-  pub vehicle-of : (t : ℕ) → t < turnCount s → problemOf 0 (turnsOf s) .slope t ≤ mostVehicles
-  vehicle-of t l = omega (arith, sheet-slopes-for chargingSheet charging-sound 0 s z t l, vehicles-of)
+  pub vehicle-of : (t : ℕ) → t < turnCount s → problemOf hallGap (turnsOf s) .slope t ≤ mostVehicles
+  vehicle-of t l = omega (arith, sheet-slopes-for chargingSheet charging-sound hallGap s z t l, vehicles-of)
 
-  pub draw-of : (t : ℕ) → t < turnCount s → (1 ≤ problemOf 0 (turnsOf s) .groomer t) × (problemOf 0 (turnsOf s) .groomer t ≤ countsIn s .groomers)
-  draw-of t l = sheet-groomers-for chargingSheet charging-sound 0 s z t l
+  pub draw-of : (t : ℕ) → t < turnCount s → (1 ≤ problemOf hallGap (turnsOf s) .groomer t) × (problemOf hallGap (turnsOf s) .groomer t ≤ countsIn s .groomers)
+  draw-of t l = sheet-groomers-for chargingSheet charging-sound hallGap s z t l
 
 -- ---- the answer
 
@@ -225,15 +228,15 @@ module _ (s lent : List ℕ) {K : Kind} {r : ReadAnswer} (k : K ≡ chargingShee
 
     module _ (cols : List ℕ) (w : r .refusal ≡ 0 → (gap : ℕ) → PosedFor gap s cols) where
       abbrev size : Size
-      size = record { count = r .turns; gap = 0 }
+      size = record { count = r .turns; gap = hallGap }
 
-      turns-are : turnsBy size cols ≡ problemOf 0 (turnsOf s)
-      turns-are = rw count (w f 0 .turns)
+      turns-are : turnsBy size cols ≡ problemOf hallGap (turnsOf s)
+      turns-are = rw count (w f hallGap .turns)
 
-      pub charge-held : HeldHall (r .groomers) (record { count = r .turns; gap = 0 }) cols
+      pub charge-held : HeldHall (r .groomers) (record { count = r .turns; gap = hallGap }) cols
       charge-held =
           record {
-            held = rw count (w f 0 .held);
+            held = rw count (w f hallGap .held);
             gapless = refl;
             units-from = rw units (units-of s accepted .0);
             units-to = rw units (units-of s accepted .1);
@@ -247,7 +250,7 @@ module _ (s lent : List ℕ) {K : Kind} {r : ReadAnswer} (k : K ≡ chargingShee
 
       window-count : windowCount (hallOf s) ≡ turnCount s
       unfolding hallOf
-      window-count = sheet-count-for chargingSheet charging-sound 0 s accepted
+      window-count = sheet-count-for chargingSheet charging-sound hallGap s accepted
 
       causes-first : firstOf (chargeCauses s (length lent)) ≡ cond (ltb (length lent) (mapBytes (turnCount s))) bufferTooSmall 0
       unfolding chargeCauses firstOf
@@ -261,7 +264,7 @@ module _ (s lent : List ℕ) {K : Kind} {r : ReadAnswer} (k : K ≡ chargingShee
           go true = refl
           go false = refl
 
-      pub charge-found : {x : ChargeAnswer} {lent′ : List ℕ} → charged x lent′ ≡ chargeIn (hallIn (r .groomers) (record { count = r .turns; gap = 0 }) cols) lent → charged x lent′ ≡ chargeOf s lent
+      pub charge-found : {x : ChargeAnswer} {lent′ : List ℕ} → charged x lent′ ≡ chargeIn (hallIn (r .groomers) (record { count = r .turns; gap = hallGap }) cols) lent → charged x lent′ ≡ chargeOf s lent
       charge-found h = h ∙ ap (λ (H : Hall). chargeIn H lent) hall-is ∙ whole
 
 pub ruleset charge-cases = (charging-given, charge-fault, charge-held, charge-found)

@@ -9,7 +9,7 @@ use Rattle.sheet.specs.Read.{turnCount}
 use Rattle.choicemap.specs.Choice.{mapBytes, mapOf, choiceIn}
 use Rattle.choicemap.proofs.Clean.{map-length, map-choice}
 use Rattle.problem.proofs.Posed.{sheet-count-for}
-use Rattle.hallmodel.specs.Hall.{windowCount}
+use Rattle.hallmodel.specs.Hall.{hallGap}
 use Rattle.hallmodel.specs.Plan.{wideChoice, smallChoice, worthIn, hallChoice, hallWorth}
 use Rattle.hallmodel.proofs.Halls.{greater-first, greater-second, plan-length}
 use Rattle.hall.specs.Charge.{chargingSheet, hallOf, chargeOf, Charged}
@@ -24,7 +24,7 @@ module _ (s lent : List ℕ) (e : chargeOf s lent .refusal ≡ 0) where
   -- a bit for each window
   bits : length S ≡ turnCount s
   unfolding hallOf
-  bits = plan-length (hallOf s) ∙ sheet-count-for chargingSheet charging-sound 0 s (charge-accepted s lent e .0)
+  bits = plan-length (hallOf s) ∙ sheet-count-for chargingSheet charging-sound hallGap s (charge-accepted s lent e .0)
 
   places : length (mapOf S) ≡ mapBytes (turnCount s)
   places = map-length S ∙ ap mapBytes bits

@@ -10,15 +10,15 @@ use Rattle.lists.specs.Lists.{every, tab}
 use Rattle.model.specs.Turns.{overlapping, overlap, bySlope, oneGroomer, byGroomer, oneDriver, byDriver, conflict}
 use Rattle.model.specs.Steps.{isOpen, left, initial, reduced, lessened, change, afterStep, afterStepBy}
 use Rattle.model.specs.Pick.{sooner, better, best, pick, nextStep, planBy, plan, steps}
-use Rattle.model.specs.Choice.{chosen, choose, back, fill}
+use Rattle.model.specs.Choice.{chosen, choose, chooseEach, back, fill}
 use Rattle.choicemap.specs.Choice.{byteOf, mapOf}
-use Rattle.hallmodel.specs.Hall.{sameVehicle, shareMinute, chargesAt, drawAt, isWide, isSmall, drawnAt, vehicleFree, supplyLasts, staysAllowed}
+use Rattle.hallmodel.specs.Hall.{sameVehicle, shareMinute, chargesAt, drawAt, wideDraw, isWide, isSmall, drawnAt, vehicleFree, supplyLasts, staysAllowed}
 use Rattle.hallmodel.specs.Plan.{turnsAmong, wideSteps, roundedUp, smallTakes, smallSteps, fitsAmong, chooseAmong, wideChoice, smallChoice, worthIn, greaterOf, hallChoice, hallWorth}
 use Rattle.hall.specs.Charge.{chargingSheet, hallOf, chargeCauses, chargeOf}
 use Rattle.hall.specs.Cases.{ChargeCases}
 
 pub worked-charging : ChargeCases
-unfolding firstOf opensWith outsideRange pastShift turnCauses widthOf field turnFrom badMapFor endAt turnAt cursorAfter recordCauses firstCursor countCauses headerCauses recordsCauses turnsFrom causesFor turnsOf problemOf every tab overlapping overlap bySlope oneGroomer byGroomer oneDriver byDriver conflict isOpen left initial reduced lessened change afterStep afterStepBy sooner better best pick nextStep planBy plan steps chosen choose back fill byteOf mapOf sameVehicle shareMinute chargesAt drawAt isWide isSmall drawnAt vehicleFree supplyLasts staysAllowed turnsAmong wideSteps roundedUp smallTakes smallSteps fitsAmong chooseAmong wideChoice smallChoice worthIn greaterOf hallChoice hallWorth chargingSheet hallOf chargeCauses chargeOf
+unfolding firstOf opensWith outsideRange pastShift turnCauses widthOf field turnFrom badMapFor endAt turnAt cursorAfter recordCauses firstCursor countCauses headerCauses recordsCauses turnsFrom causesFor turnsOf problemOf every tab overlapping overlap bySlope oneGroomer byGroomer oneDriver byDriver conflict isOpen left initial reduced lessened change afterStep afterStepBy sooner better best pick nextStep planBy plan steps chosen choose back chooseEach fill byteOf mapOf sameVehicle shareMinute chargesAt drawAt isWide wideDraw isSmall drawnAt vehicleFree supplyLasts staysAllowed turnsAmong wideSteps roundedUp smallTakes smallSteps fitsAmong chooseAmong wideChoice smallChoice worthIn greaterOf hallChoice hallWorth chargingSheet hallOf chargeCauses chargeOf
 worked-charging =
     record {
       one-unit = refl;

@@ -1,20 +1,14 @@
 -- The plan of one kind in a hall that columns hold, for the inner functions (request R-14). Assumes nothing.
 use Prim.Native.Nat.{ℕ}
 use mathlib.Core.Bool.{Bool, false}
-use mathlib.Core.List.{List, map}
-use Rattle.model.specs.Steps.{Step}
-use Rattle.model.specs.Choice.{back}
+use mathlib.Core.List.{List}
 use Rattle.problem.specs.declared.columns.Size.{Size}
 use Rattle.problem.specs.Columns.{turnsBy}
 use Rattle.hallmodel.specs.Hall.{Hall}
-use Rattle.hallmodel.specs.Plan.{fitsAmong, chooseAmong}
+use Rattle.hallmodel.specs.Plan.{chooseAmong}
 use Rattle.charging.specs.declared.among.Among.{Among}
 use Rattle.charging.specs.Among.{hallBy, ofKind, stepsBy}
 use Rattle.charging.specs.Bounds.{HallHeld}
-
--- going back over some steps, among the windows of the kind
-unfoldable pub backOver : Among → List ℕ → List Step → List Bool
-backOver a cols xs = back (fitsAmong (hallBy a cols) (ofKind a cols)) (a .size .count) (map (λ (x : Step). x .turn) xs)
 
 -- the kind's plan
 unfoldable pub kindChoice : Among → List ℕ → List Bool

@@ -12,7 +12,7 @@ use lib.Seq.{getD-set-same}
 use borrow.Author.Tests.{leb-true, leb-false, not-false}
 use Rattle.lists.specs.Lists.{sum, All, more}
 use Rattle.model.specs.Steps.{Step}
-use Rattle.model.specs.Choice.{has, chosen, members, back, fill}
+use Rattle.model.specs.Choice.{has, chosen, members, back, fill, chooseEach}
 use Rattle.model.specs.Feasible.{Distinct}
 use Rattle.lists.proofs.Bools.{and-1, and-2, not-both, fails, every-at, every-not, second-fails}
 use Rattle.lists.proofs.Sums.{all-map}
@@ -220,7 +220,7 @@ module _ (H : Hall) where
 
     -- filled with all windows a plan is full: each of the kind is chosen or does not stay allowed
     pub chosen-full : (xs : List Step) (t : ℕ) → t < windowCount H → kind t ≡ true → (has (filledTo (windowCount H) xs) t ≡ true) ⊎ (staysAllowed H (filledTo (windowCount H) xs) t ≡ false)
-    unfolding fitsAmong fill
+    unfolding fitsAmong fill back chooseEach
     chosen-full xs t l k = go (fill-full (fitsAmong H kind) unfit-more (windowCount H) (filledTo 0 xs) (omega (arith, chosen-length 0 xs)) t l)
       where
         go : (has (filledTo (windowCount H) xs) t ≡ true) ⊎ (fitsAmong H kind (filledTo (windowCount H) xs) t ≡ false) → (has (filledTo (windowCount H) xs) t ≡ true) ⊎ (staysAllowed H (filledTo (windowCount H) xs) t ≡ false)

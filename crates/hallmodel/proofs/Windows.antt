@@ -15,7 +15,7 @@ use Rattle.model.specs.Rules.{Right}
 use Rattle.lists.proofs.Bools.{and-1, and-2, and-of}
 use Rattle.model.proofs.Conflicts
 use Rattle.model.proofs.Picks.{pick-same}
-use Rattle.hallmodel.specs.Hall.{Hall, windowCount, vehicle, draw, sameVehicle, shareMinute, chargesAt, drawAt, isWide, isSmall}
+use Rattle.hallmodel.specs.Hall.{Hall, windowCount, vehicle, draw, sameVehicle, shareMinute, chargesAt, drawAt, wideDraw, isWide, isSmall}
 use Rattle.hallmodel.specs.Plan.{turnsAmong}
 
 module _ (H : Hall) where
@@ -91,11 +91,11 @@ module _ (H : Hall) where
   -- ---- the two kinds
 
   pub wide-is : (t : ℕ) → isWide H t ≡ true → H .units < 2 * draw H t
-  unfolding isWide
+  unfolding isWide wideDraw
   wide-is t e = ltb-true (H .units) (2 * draw H t) e
 
   pub small-is : (t : ℕ) → isSmall H t ≡ true → 2 * draw H t ≤ H .units
-  unfolding isSmall isWide
+  unfolding isSmall isWide wideDraw
   small-is t e = ltb-false (H .units) (2 * draw H t) (not-true (ltb (H .units) (2 * draw H t)) e)
 
   -- ---- the windows of a kind as one groomer's turns

@@ -7,14 +7,14 @@ use Rattle.lists.specs.Lists.{every, tab}
 use Rattle.model.specs.Turns.{overlapping, overlap, bySlope, oneGroomer, byGroomer, oneDriver, byDriver, conflict}
 use Rattle.model.specs.Steps.{isOpen, left, initial, reduced, lessened, change, afterStep, afterStepBy}
 use Rattle.model.specs.Pick.{sooner, better, best, pick, nextStep, planBy, plan, steps}
-use Rattle.model.specs.Choice.{chosen, members, choose, back, fill}
-use Rattle.hallmodel.specs.Hall.{sameVehicle, shareMinute, chargesAt, drawAt, isWide, isSmall, drawnAt, vehicleFree, supplyLasts, staysAllowed}
+use Rattle.model.specs.Choice.{chosen, members, choose, chooseEach, back, fill}
+use Rattle.hallmodel.specs.Hall.{sameVehicle, shareMinute, chargesAt, drawAt, wideDraw, isWide, isSmall, drawnAt, vehicleFree, supplyLasts, staysAllowed}
 use Rattle.hallmodel.specs.Plan.{turnsAmong, wideSteps, roundedUp, smallTakes, smallSteps, fitsAmong, chooseAmong, wideChoice, smallChoice, worthIn, greaterOf, hallChoice, hallWorth}
 use Rattle.hallmodel.specs.Cases.{HallCases, hallWith, oneUnit, twelveUnits}
 use Rattle.hallmodel.proofs.Allowing.{chosen-allowed}
 
 pub hall-cases : HallCases
-unfolding every tab overlapping overlap bySlope oneGroomer byGroomer oneDriver byDriver conflict isOpen left initial reduced lessened change afterStep afterStepBy sooner better best pick nextStep planBy plan steps chosen members choose back fill sameVehicle shareMinute chargesAt drawAt isWide isSmall drawnAt vehicleFree supplyLasts staysAllowed turnsAmong wideSteps roundedUp smallTakes smallSteps fitsAmong chooseAmong wideChoice smallChoice worthIn greaterOf hallChoice hallWorth hallWith oneUnit twelveUnits
+unfolding every tab overlapping overlap bySlope oneGroomer byGroomer oneDriver byDriver conflict isOpen left initial reduced lessened change afterStep afterStepBy sooner better best pick nextStep planBy plan steps chosen members choose back chooseEach fill sameVehicle shareMinute chargesAt drawAt isWide wideDraw isSmall drawnAt vehicleFree supplyLasts staysAllowed turnsAmong wideSteps roundedUp smallTakes smallSteps fitsAmong chooseAmong wideChoice smallChoice worthIn greaterOf hallChoice hallWorth hallWith oneUnit twelveUnits
 hall-cases =
     record {
       one-unit-worth = refl;

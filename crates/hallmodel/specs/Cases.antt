@@ -5,7 +5,7 @@ use mathlib.Core.List.{List, [], _∷_, map}
 use Prim.Native.Nat.{ℕ, _+_, _*_, _<_}
 use lib.ListN.{length, getD}
 use Rattle.lists.specs.Lists.{tab, below}
-use Rattle.hallmodel.specs.Hall.{Hall, Allowed}
+use Rattle.hallmodel.specs.Hall.{hallGap, Hall, Allowed}
 use Rattle.hallmodel.specs.Plan.{smallSteps, hallChoice, hallWorth}
 use Rattle.hallmodel.specs.Promises.{worthOfWindows}
 
@@ -30,7 +30,7 @@ hallWith units ws =
       windows =
           record {
             count = length ws;
-            gap = 0;
+            gap = hallGap;
             slope = λ t. at t .vehicle;
             groomer = λ t. at t .draw;
             start = λ t. at t .start;

@@ -45,7 +45,7 @@ sameVehicle H x y = eqb (vehicle H x) (vehicle H y)
 
 -- they share a minute; to touch is not enough, and no free minutes are needed
 unfoldable pub shareMinute : Hall → ℕ → ℕ → Bool
-shareMinute H x y = overlapping 0 (H .windows .start x) (H .windows .end x) (H .windows .start y) (H .windows .end y)
+shareMinute H x y = overlapping hallGap (H .windows .start x) (H .windows .end x) (H .windows .start y) (H .windows .end y)
 
 -- a minute is one of window t's: from its start on, before its end
 unfoldable pub chargesAt : Hall → ℕ → ℕ → Bool
@@ -55,9 +55,13 @@ chargesAt H minute t = leb (H .windows .start t) minute && ltb minute (H .window
 unfoldable pub drawAt : Hall → ℕ → ℕ → ℕ
 drawAt H minute t = cond (chargesAt H minute t) (draw H t) 0
 
--- a wide window draws more than half of the units
+-- a draw is wide that is more than half of the units
+unfoldable pub wideDraw : ℕ → ℕ → Bool
+wideDraw units d = ltb units (2 * d)
+
+-- a wide window has a wide draw
 unfoldable pub isWide : Hall → ℕ → Bool
-isWide H t = ltb (H .units) (2 * draw H t)
+isWide H t = wideDraw (H .units) (draw H t)
 
 -- every other one is small
 unfoldable pub isSmall : Hall → ℕ → Bool

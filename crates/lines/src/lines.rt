@@ -1,7 +1,7 @@
 // The lines of the listing, each put behind the one before it. Each function returns the place
 // behind what it put.
 ghost use mathlib.Core.Path.{_≡_};
-ghost use Prim.Native.Nat.{_+_, _*_, _≤_, _<_};
+ghost use Prim.Native.Nat.{_+_, _≤_, _<_};
 ghost use lib.ListN.{length};
 ghost use Rattle.wire.specs.Number.{puts};
 ghost use Rattle.text.specs.Place.{lastPlace};

@@ -1,11 +1,11 @@
 -- The listing's answer by its cases, each premise in the form in which the code's calls and tests leave it. Assumes nothing.
-use Prim.Native.Nat.{ℕ, _+_, _-_, _*_, _<_, _≤_}
+use Prim.Native.Nat.{ℕ, _+_, _*_, _<_, _≤_}
 use mathlib.Core.Path.{_≡_, refl, sym, _∙_, ap}
 use mathlib.Core.List.{List, [], _∷_, _++_}
 use mathlib.Core.Bool.{true, false}
 use native.Mathlib.Omega.{arith}
 use lib.Dec.{ltb}
-use lib.ListN.{length, take, drop, replicate}
+use lib.ListN.{length, take, drop}
 use Rattle.refusal.specs.Number.{bufferTooSmall}
 use Rattle.refusal.specs.Cause.{_when_, firstOf}
 use Rattle.refusal.specs.Written.{Written}
@@ -26,7 +26,7 @@ use Rattle.model.proofs.Readings.{allRight-is}
 use Rattle.model.proofs.Promised.{planned-keeps}
 use Rattle.sheet.specs.declared.answer.ReadAnswer.{ReadAnswer}
 use Rattle.sheet.specs.Kind.{mostTurns}
-use Rattle.sheet.specs.Read.{countsIn, turnCount, sheetCauses, answerOf}
+use Rattle.sheet.specs.Read.{countsIn, sheetCauses, answerOf}
 use Rattle.sheet.proofs.Readings.{sheet-numbered}
 use Rattle.sheet.proofs.Whole.{whole-refusal, whole-accepted, whole-answer, whole-turns}
 use Rattle.choicemap.specs.Choice.{choiceIn, Clean}

@@ -11,8 +11,7 @@ use Rattle.refusal.specs.Cause.{firstOf}
 use Rattle.lists.specs.Lists.{sum, below}
 use Rattle.model.specs.Turns.{Turns, PositiveLengths}
 use Rattle.model.specs.Steps.{tally}
-use Rattle.model.specs.Pick.{steps}
-use Rattle.model.specs.Choice.{chosen, choice}
+use Rattle.model.specs.Choice.{choice}
 use Rattle.model.specs.Rules.{Independent}
 use Rattle.model.proofs.Planned.{planned-right}
 use Rattle.model.proofs.Limits.{sums-limits}

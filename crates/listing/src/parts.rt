@@ -1,10 +1,10 @@
 // The parts of the listing: one a groomer, by number, then the sums.
 ghost use mathlib.Core.Path.{_≡_};
-ghost use Prim.Native.Nat.{_+_, _*_, _≤_, _<_};
+ghost use Prim.Native.Nat.{_+_, _≤_, _<_};
 ghost use lib.ListN.{length};
 ghost use Rattle.wire.specs.Number.{puts};
 ghost use Rattle.text.specs.Place.{lastPlace};
-ghost use Rattle.problem.specs.Columns.{turnsBy, Held};
+ghost use Rattle.problem.specs.Columns.{turnsBy};
 ghost use Rattle.choicemap.specs.Choice.{choiceIn};
 ghost use Rattle.listing.specs.Ready.{Ready};
 ghost use Rattle.lines.specs.Text.{groomerText, groomersFrom, listingOf};

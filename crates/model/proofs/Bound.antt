@@ -1,7 +1,7 @@
 -- No feasible set earns more than the steps account for (5.2.1 with the machines of 5.2.4; 5.2.2 where no slope has two turns), with a driver as a further machine. The source bounds the set returned; here any right steps that leave no turn open bound every feasible set. Assumes nothing.
 use mathlib.Core.Path.{_≡_}
 use mathlib.Core.List.{List, [], _∷_}
-use mathlib.Core.Bool.{Bool, true, false, _&&_}
+use mathlib.Core.Bool.{Bool, true, _&&_}
 use Prim.Native.Nat.{ℕ, _+_, _*_, _≤_, _<_}
 use native.Mathlib.Omega.{arith}
 use lib.IntN.{ℤ}

@@ -1,26 +1,25 @@
 -- The ceiling: the count of groups is the fewest in words, and no feasible set is worth more than the amounts so counted (5.2.1, 5.2.4: the groups are those of the bound; fewer are enough where fewer hold what a step touches). Assumes nothing.
-use mathlib.Core.Path.{_≡_, refl, sym}
+use mathlib.Core.Path.{_≡_, refl}
 use mathlib.Core.Logic.{_⊎_, inl, inr}
 use mathlib.Core.List.{List, [], _∷_}
 use mathlib.Core.Bool.{Bool, true, false, not, cond, _&&_, _||_}
 use Prim.Native.Nat.{ℕ, _+_, _*_, _≤_, _<_}
 use native.Mathlib.Omega.{arith}
 use native.Mathlib.Nat.{mul-le-mul-right}
-use native.Mathlib.Decide.{ℕ-discrete}
 use lib.Dec.{eqb}
 use lib.IntN.{ℤ}
 use lib.ListN.{length}
-use borrow.Author.Tests.{eqb-true, eq-eqb, not-false}
+use borrow.Author.Tests.{eq-eqb, not-false}
 use Rattle.lists.specs.Lists.{sum, All}
 use Rattle.model.specs.Turns.{Turns, PositiveLengths, NoDrivers, bySlope, byGroomer, byDriver, conflict}
 use Rattle.model.specs.Steps.{Step, touches, taken, initial, afterStep, afterSteps, total, tally}
 use Rattle.model.specs.Rules.{Right, Each, done, step}
 use Rattle.model.specs.Feasible.{Feasible, worthOf, OneTurnASlope}
 use Rattle.model.specs.Ceiling.{Groups, groupsOf, groupCount, inGroups, holdAll, fewestGroups, stepCost, ceiling, HoldAll, Fewest}
-use Rattle.lists.proofs.Bools.{and-1, and-2, and-of, or-cases, or-1, or-2, or-false-1, or-false-2, not-both, fails, every-at, every-of, second-fails, not-two}
+use Rattle.lists.proofs.Bools.{or-cases, or-1, or-2, not-both, every-at, every-of, second-fails, not-two}
 use Rattle.model.proofs.Account.{each-map}
 use Rattle.model.proofs.Groups.{Apart, held, joined, joinedAll, Clique, Cliques}
-use Rattle.model.proofs.Bound.{Group, slope-group, groomer-group, driver-group, by-groups, bound-cost, total-times, apart-set}
+use Rattle.model.proofs.Bound.{slope-group, groomer-group, driver-group, by-groups, bound-cost, total-times, apart-set}
 use Rattle.model.proofs.Conflicts
 use Rattle.model.proofs.Residuals
 use Rattle.model.proofs.Residuals.{Closed, RightSteps}

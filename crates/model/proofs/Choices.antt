@@ -1,7 +1,7 @@
 -- Choosing one turn after another wherever it fits, for any test of what fits, and sums over the chosen turns. Of the source only lines 8 to 11 of 5.2.1: add J if that is feasible. Assumes nothing.
 use mathlib.Core.Path.{_≡_, refl, sym, ap, _∙_}
 use mathlib.Core.Logic.{_⊎_, inl, inr}
-use mathlib.Core.List.{List, [], _∷_}
+use mathlib.Core.List.{List, [], _∷_, _++_}
 use mathlib.Core.Bool.{Bool, true, false, cond}
 use Prim.Native.Nat.{ℕ, zero, suc, _+_, _≤_, _<_}
 use native.Mathlib.Omega.{arith}
@@ -11,7 +11,7 @@ use lib.ListN.{length, set, replicate, length-set}
 use lib.Seq.{getD-set-same, getD-set-other}
 use borrow.Author.Tests.{eqb-true}
 use Rattle.lists.specs.Lists.{sum, below}
-use Rattle.model.specs.Choice.{has, chosen, choose, back, fill}
+use Rattle.model.specs.Choice.{has, chosen, choose, chooseEach, back, fill}
 use Rattle.lists.proofs.Bools.{not-both, up-to}
 use Rattle.lists.proofs.Sums.{sum-add, sum-mono, sum-point, sum-room, all-of, all-below}
 
@@ -54,20 +54,34 @@ module _ (fits : List Bool → ℕ → Bool) where
   unfolding choose
   choose-not S j e = rw e
 
-  -- what one turn more keeps, if it fits, going back and filling keep
+  -- a list behind another one comes before it
+  pub each-both : (is js : List ℕ) (S : List Bool) → chooseEach fits (is ++ js) S ≡ chooseEach fits is (chooseEach fits js S)
+  unfolding chooseEach
+  each-both [] js S = refl
+  each-both (i ∷ is) js S = ap (λ (U : List Bool). choose fits U i) (each-both is js S)
+
+  -- going back, then filling, is one list: i - 1, .., 0, and behind them the steps' turns
+  pub each-fill-back : (i n : ℕ) (js : List ℕ) → chooseEach fits (below i ++ js) (replicate n false) ≡ fill fits i (back fits n js)
+  unfolding fill back
+  each-fill-back i n js = each-both (below i) js (replicate n false)
+
+  -- what one turn more keeps, if it fits, each of a list keeps, and so do going back and filling
   module _ (P : List Bool → Type 0) (put : (S : List Bool) (j : ℕ) → fits S j ≡ true → P S → P (set S j true)) where
     pub choose-kept : (S : List Bool) (j : ℕ) → P S → P (choose fits S j)
     choose-kept S j p = choose-cases P S j (λ e. put S j e p) (λ e. p)
 
+    pub each-kept : (js : List ℕ) (S : List Bool) → P S → P (chooseEach fits js S)
+    unfolding chooseEach
+    each-kept [] S p = p
+    each-kept (j ∷ js) S p = choose-kept (chooseEach fits js S) j (each-kept js S p)
+
     pub back-kept : (n : ℕ) → P (replicate n false) → (js : List ℕ) → P (back fits n js)
     unfolding back
-    back-kept n p [] = p
-    back-kept n p (j ∷ js) = choose-kept (back fits n js) j (back-kept n p js)
+    back-kept n p js = each-kept js (replicate n false) p
 
     pub fill-kept : (i : ℕ) (S : List Bool) → P S → P (fill fits i S)
     unfolding fill
-    fill-kept zero S p = p
-    fill-kept (suc i) S p = choose-kept (fill fits i S) i (fill-kept i S p)
+    fill-kept i S p = each-kept (below i) S p
 
   pub fill-length : (i : ℕ) (S : List Bool) → length (fill fits i S) ≡ length S
   fill-length i S = fill-kept (λ U. length U ≡ length S) (λ U j e p. length-set U j true ∙ p) i S refl
@@ -78,7 +92,7 @@ module _ (fits : List Bool → ℕ → Bool) where
   -- what does not fit never fits later: then each turn below i is chosen after filling, or does not fit
   module _ (shut : (S : List Bool) (j t : ℕ) → fits S t ≡ false → fits (set S j true) t ≡ false) where
     pub fill-full : (i : ℕ) (S : List Bool) → i ≤ length S → (t : ℕ) → t < i → (has (fill fits i S) t ≡ true) ⊎ (fits (fill fits i S) t ≡ false)
-    unfolding fill
+    unfolding fill chooseEach
     fill-full zero S l t m = absurd (omega arith)
     fill-full (suc i) S l t m = up-to Settled i (λ u k. older u (fill-full i S (omega arith) u k)) newest t m
       where

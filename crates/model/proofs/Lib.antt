@@ -15,3 +15,4 @@ pub mod Members
 pub mod Promised
 pub mod Limits
 pub mod Selection
+pub mod Filling

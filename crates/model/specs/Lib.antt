@@ -8,3 +8,4 @@ pub mod Feasible
 pub mod Promises
 pub mod IntervalSelection
 pub mod Ceiling
+pub mod Filling

@@ -11,11 +11,10 @@ use lib.ListN.{length}
 use borrow.Author.Tests.{leb-true, le-leb, ltb-true, lt-ltb}
 use Rattle.lists.proofs.Bools.{and-1, and-2, and-of, not-apart}
 use Rattle.model.specs.Turns.{Turns, PositiveLengths, Holds}
-use Rattle.model.proofs.Conflicts.{overlap-lt}
 use Rattle.numbering.specs.Numbering.{numberIn, numbersOf, greatest, usedOf, Assignment, different, holdsMinute, heldTogether}
 use Rattle.numbering.proofs.Smallest.{greatest-above, greatest-there}
 use Rattle.numbering.proofs.Counting.{different-least, different-most, all-had}
-use Rattle.numbering.proofs.Numbers.{numbers-greedy, numbers-assignment}
+use Rattle.numbering.proofs.Numbers.{numbers-places, numbers-from-one, numbers-greedy, numbers-assignment}
 
 module _ (T : Turns) where
   -- the test is the words
@@ -48,7 +47,7 @@ module _ (T : Turns) where
   number-to t = greatest-above (numbersOf T) t
 
   pub different-used : different number (T .count) ≤ usedOf T
-  different-used = different-most number (T .count) (usedOf T) (λ t l. (numbers-greedy T .from-one t l, number-to t))
+  different-used = different-most number (T .count) (usedOf T) (λ t l. (numbers-from-one T t l, number-to t))
 
   -- no minute is held by more turns
   pub together-most : (minute : ℕ) → heldTogether T minute ≤ usedOf T
@@ -57,7 +56,7 @@ module _ (T : Turns) where
   -- no turns use none
   pub used-none : T .count ≡ 0 → usedOf T ≡ 0
   unfolding usedOf greatest
-  used-none e = none (numbersOf T) (numbers-greedy T .places ∙ e)
+  used-none e = none (numbersOf T) (numbers-places T ∙ e)
     where
       none : (xs : List ℕ) → length xs ≡ 0 → greatest xs ≡ 0
       none [] q = refl
@@ -67,7 +66,7 @@ module _ (T : Turns) where
     -- a turn with the greatest number, and the minute of its start
     last : (t : ℕ) × (t < T .count) × (number t ≡ usedOf T)
     unfolding usedOf
-    last = let (t, l, e) = greatest-there (numbersOf T) (omega (arith, numbers-greedy T .places)) in (t, omega (arith, numbers-greedy T .places), e)
+    last = let (t, l, e) = greatest-there (numbersOf T) (omega (arith, numbers-places T)) in (t, omega (arith, numbers-places T), e)
 
     abbrev minute : ℕ
     minute = T .start (last .0)
@@ -80,8 +79,8 @@ module _ (T : Turns) where
         go (yes e) =
             (last .0, last .1, holds-minute-iff minute (last .0) .1 (record { begun = omega arith; not-over = omega (arith, lengths (last .0) (last .1)) }), last .2 ∙ sym e)
         go (no e) =
-            let taken = numbers-greedy T .smallest (last .0) (k + 1) (last .1) (omega arith) (omega (arith, last .2)) in
-            (taken .turn, taken .inside, holds-minute-iff minute (taken .turn) .1 (record { begun = taken .before .values; not-over = overlap-lt T (taken .turn) (last .0) (taken .overlaps) .1 }), taken .has-it)
+            let taken = numbers-greedy T lengths .smallest (last .0) (k + 1) (last .1) (omega arith) (omega (arith, last .2)) in
+            (taken .turn, taken .inside, holds-minute-iff minute (taken .turn) .1 (record { begun = taken .before .values; not-over = omega (arith, taken .its-minute .not-over, taken .own-minute .begun) }), taken .has-it)
 
     used-held : usedOf T ≤ heldTogether T minute
     unfolding heldTogether

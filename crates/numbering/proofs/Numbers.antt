@@ -10,13 +10,13 @@ use lib.ListN.{length, set, replicate, length-set, length-replicate, getD-replic
 use lib.Seq.{getD-set-same, getD-set-other}
 use borrow.Author.Tests.{eqb-true, eq-eqb, ne-eqb, not-true, not-false}
 use Rattle.lists.proofs.Bools.{and-1, and-2, and-of, not-both, fails, every-at, every-of, every-not}
-use Rattle.model.specs.Turns.{Turns, overlap}
+use Rattle.model.specs.Turns.{Turns, PositiveLengths, overlap}
 use Rattle.model.proofs.Conflicts.{overlap-sym}
-use Rattle.model.proofs.Minutes.{minute-overlap}
+use Rattle.model.proofs.Minutes.{overlap-minute, minute-overlap}
 use Rattle.sorting.specs.Sorting.{AllOf, timesIn}
 use Rattle.sorting.specs.Order.{Ascending}
 use Rattle.numbering.specs.Numbering.{numberIn, freeFor, numberFor, numberAll, numbersOf, orderByStart, Before, TakenFor, GreedyNumbers, Assignment}
-use Rattle.numbering.specs.Underway.{Underway}
+use Rattle.numbering.specs.Underway.{TakenBy, Underway}
 use Rattle.numbering.proofs.Smallest.{first-from, first-below, first-least, first-passes}
 use Rattle.numbering.proofs.Orders.{order-length, order-inside, order-rising, order-has}
 
@@ -134,10 +134,10 @@ module _ (T : Turns) (t : ℕ) (ts numbers : List ℕ) (w : Underway T (t ∷ ts
       go (no p) (yes q) = rw q (apart-next x p (sym (still-has x p) ∙ e ∙ ap (numberIn after) q ∙ now-has))
       go (no p) (no q) = w .apart x y d (omega (arith, still-has x p)) (sym (still-has x p) ∙ e ∙ still-has y q)
 
-  after-smallest : (x k : ℕ) → 1 ≤ k → k < numberIn after x → TakenFor T after x k
+  after-smallest : (x k : ℕ) → 1 ≤ k → k < numberIn after x → TakenBy T after x k
   after-smallest x k a l = go (ℕ-discrete x t)
     where
-      go : Dec (x ≡ t) → TakenFor T after x k
+      go : Dec (x ≡ t) → TakenBy T after x k
       go (yes p) =
           let (u, i, h, o) = next-taken k a (omega (arith, ap (numberIn after) p, now-has)) in
           let had : 1 ≤ numberIn numbers u = omega arith in
@@ -228,15 +228,27 @@ module _ (T : Turns) where
   pub numbers-assignment : Assignment T (numberIn (numbersOf T))
   numbers-assignment x y minute l m d e p q = not-both (minute-overlap T x y minute p q) (same-number-apart x y l m d e)
 
-  -- each number is the smallest from 1 that is free when its turn comes
-  pub numbers-greedy : GreedyNumbers T (numbersOf T)
+  pub numbers-places : length (numbersOf T) ≡ T .count
+  numbers-places = numbers-underway .places
+
+  pub numbers-from-one : (t : ℕ) → t < T .count → 1 ≤ numberIn (numbersOf T) t
   unfolding timesIn
-  numbers-greedy =
+  numbers-from-one t l = numbers-underway .rest t l refl
+
+  -- what the test finds taken is taken in words, where every turn is a minute long or longer
+  taken-words : PositiveLengths T → {numbers : List ℕ} {t k : ℕ} → t < T .count → TakenBy T numbers t k → TakenFor T numbers t k
+  taken-words lengths {t = t} l b =
+      let m = overlap-minute T (b .turn) t (lengths (b .turn) (b .inside)) (lengths t l) (b .overlaps) in
+      record { turn = b .turn; inside = b .inside; before = b .before; has-it = b .has-it; minute = m .0; its-minute = m .1; own-minute = m .2 }
+
+  -- each number is the smallest from 1 that is free when its turn comes
+  pub numbers-greedy : PositiveLengths T → GreedyNumbers T (numbersOf T)
+  numbers-greedy lengths =
       record {
-        places = numbers-underway .places;
-        from-one = λ t l. numbers-underway .rest t l refl;
-        free = λ t l k. not-both (k .overlaps) (same-number-apart (k .turn) t (k .inside) l (λ e. before-another (k .turn) t (k .before) e) (k .has-it));
-        smallest = λ t k l. numbers-underway .smallest t k;
+        places = numbers-places;
+        from-one = numbers-from-one;
+        free = λ t l k. not-both (minute-overlap T (k .turn) t (k .minute) (k .its-minute) (k .own-minute)) (same-number-apart (k .turn) t (k .inside) l (λ e. before-another (k .turn) t (k .before) e) (k .has-it));
+        smallest = λ t k l a m. taken-words lengths l (numbers-underway .smallest t k a m);
       }
     where
       before-another : (x y : ℕ) → Before T x y → x ≡ y → ⊥

@@ -1,6 +1,6 @@
 -- Every turn gets a number, that of the groomer who does it, where any groomer can do any turn. Groomer fields and slopes play no part (request R-4). Assumes nothing.
 use mathlib.Core.Path.{_≡_}
-use mathlib.Core.Bool.{Bool, true, not, cond, _&&_}
+use mathlib.Core.Bool.{Bool, not, cond, _&&_}
 use mathlib.Core.List.{List, [], _∷_}
 use Prim.Native.Nat.{ℕ, zero, suc, _+_, _≤_, _<_, max}
 use lib.Dec.{leb, ltb, eqb}
@@ -54,13 +54,15 @@ usedOf T = greatest (numbersOf T)
 abbrev pub Before : Turns → ℕ → ℕ → Type 0
 Before T x y = StandsBefore (T .start) x y
 
--- number k is taken when turn t's turn comes: a turn before it has got k and overlaps it
+-- number k is taken when turn t's turn comes: a turn before it has got k, and both hold some minute, each lengthened by the gap
 pub record TakenFor (T : Turns) (numbers : List ℕ) (t k : ℕ) : Type 0 where
   pub turn : ℕ
   pub inside : turn < T .count
   pub before : Before T turn t
   pub has-it : numberIn numbers turn ≡ k
-  pub overlaps : overlap T turn t ≡ true
+  pub minute : ℕ
+  pub its-minute : Holds T turn minute
+  pub own-minute : Holds T t minute
 
 -- numbers for all turns, each the smallest from 1 that is free when its turn comes
 pub record GreedyNumbers (T : Turns) (numbers : List ℕ) : Type 0 where

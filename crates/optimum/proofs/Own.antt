@@ -13,15 +13,15 @@ use borrow.Author.Tests.{leb-true, le-leb, eqb-true, eq-eqb, ne-eqb}
 use Rattle.lists.specs.Lists.{sum, below, All, none, more}
 use Rattle.lists.proofs.Bools.{not-both, fails}
 use Rattle.lists.proofs.Sums.{all-map, all-of}
-use Rattle.model.specs.Turns.{Turns, PositiveLengths, NoDrivers, conflict}
+use Rattle.model.specs.Turns.{Turns, PositiveLengths, NoDrivers}
 use Rattle.model.specs.Choice.{has, chosen}
-use Rattle.model.specs.Feasible.{Feasible, worthOf, OneTurnASlope}
+use Rattle.model.specs.Feasible.{worthOf, OneTurnASlope}
 use Rattle.model.proofs.Bound.{apart-set}
 use Rattle.model.proofs.Choices.{none-chosen}
 use Rattle.optimum.specs.Table.{turnOrder, Best, bestOf, bestWorth, marked, isAmong}
 use Rattle.optimum.specs.Groomers.{keep, ownTurns, groomerWorth, groomersWorth, OwnSet, MostOfGroomer}
 use Rattle.optimum.proofs.Members.{among-all, marked-from, marked-earns}
-use Rattle.optimum.proofs.Ordering.{Before, Ordered, empty, first, order-ordered, order-range, order-sum}
+use Rattle.optimum.proofs.Ordering.{Ordered, empty, first, order-ordered, order-range, order-sum}
 use Rattle.optimum.proofs.Tables.{best-none, best-earns, best-every, leads-groomer, apart-among, best-feasible, taking-best}
 use Rattle.optimum.proofs.Groomers.{groomers-add}
 

@@ -10,14 +10,14 @@ use lib.Dec.{leb, eqb}
 use lib.IntN.{ℤ}
 use lib.ListN.{length, set, List·getD-eq-default}
 use borrow.Author.Tests.{leb-true, leb-false, eq-eqb}
-use Rattle.lists.specs.Lists.{sum, All, more}
+use Rattle.lists.specs.Lists.{sum, All}
 use Rattle.lists.proofs.Bools.{and-1, and-2, or-1, or-2, not-both, fails}
 use Rattle.lists.proofs.Sums.{sum-add, sum-mono, sum-zero, all-of, all-map}
 use Rattle.model.specs.Turns.{Turns, NoDrivers, conflict}
 use Rattle.model.specs.Steps.{Step, left, initial, touches, taken, afterStep, afterSteps, final, tally}
 use Rattle.model.specs.Rules.{Right, done, step}
 use Rattle.model.specs.Pick.{pick, nextStep, plan, steps, Precedes, earlier, richer, lower}
-use Rattle.model.specs.Choice.{has, chosen, fits, back, fill, goBack, choice}
+use Rattle.model.specs.Choice.{has, chosen, fits, chooseEach, back, fill, goBack, choice}
 use Rattle.model.specs.Feasible.{OneTurnASlope}
 use Rattle.model.proofs.Groups.{Apart, Clique, share, one-of}
 use Rattle.model.proofs.Bound.{single-group}
@@ -38,7 +38,7 @@ turnsIn xs = map (λ (x : Step). x .turn) xs
 
 -- what going back chooses are turns of steps
 back-from : (fits : List Bool → ℕ → Bool) (n : ℕ) (js : List ℕ) (x : ℕ) → has (back fits n js) x ≡ true → isAmong js x ≡ true
-unfolding back isAmong
+unfolding back chooseEach isAmong
 back-from fits n [] x e = absurd (none-chosen n x e)
 back-from fits n (j ∷ js) x e =
     choose-cases fits (λ S. has S x ≡ true → (eqb x j || isAmong js x) ≡ true) (back fits n js) j
@@ -78,7 +78,7 @@ module _ (T : Turns) where
   choice-keeps t e = fill-keeps (fits T) (T .count) (goBack T (steps T)) t e
 
   back-earns : tally (steps T) ≤ chosen (T .count) (goBack T (steps T)) (T .worth)
-  unfolding fill
+  unfolding fill chooseEach
   back-earns = filled-earns T 0 (planned-right T)
 
 module _ (T : Turns) (free : NoDrivers T) (single : OneTurnASlope T) where

@@ -1,15 +1,18 @@
 -- The order of steps by its cases, each premise in the form in which the code's calls and tests leave it. Assumes nothing.
-use Prim.Native.Nat.{ℕ, _+_, _<_, _≤_}
-use mathlib.Core.Path.{_≡_, refl, sym, _∙_}
+use Prim.Native.Nat.{ℕ, zero, suc, _+_, _<_, _≤_}
+use mathlib.Core.Path.{_≡_, sym, _∙_, ap}
 use mathlib.Core.List.{List}
 use mathlib.Core.Bool.{Bool, true, false, not, _&&_, _||_}
 use native.Mathlib.Omega.{arith}
 use native.Mathlib.Numerals.{add-one}
+use native.Mathlib.Decide.{ℕ-discrete}
 use lib.IntN.{ℤ}
 use lib.Dec.{ltb}
+use lib.ListN.{length}
 use borrow.Author.Tests.{eq-eqb, ne-eqb, lt-ltb, le-ltb}
 use Rattle.lists.specs.Lists.{every}
-use Rattle.model.specs.Turns.{Turns}
+use Rattle.lists.proofs.Bools.{every-of, not-three}
+use Rattle.model.specs.Turns.{Turns, oneGroomer, oneDriver}
 use Rattle.model.specs.Steps.{isOpen, left}
 use Rattle.model.specs.Rules.{noEarlier, right}
 use Rattle.problem.specs.declared.ways.Row.{Row}
@@ -18,6 +21,8 @@ use Rattle.problem.specs.declared.columns.Size.{Size}
 use Rattle.problem.specs.Ways.{sharedOf}
 use Rattle.problem.specs.Columns.{rowIn, turnsBy}
 use Rattle.problem.proofs.Rows.{count-is, rows-groomer-is, rows-driver-is, end-at}
+use Rattle.placing.specs.Placing.{EndsRise}
+use Rattle.ratio.specs.Bounds.{ClosedTo}
 use Rattle.ratio.specs.Below.{earliestBelow}
 
 -- ---- one turn
@@ -29,18 +34,42 @@ earlier-is p cols s j t h k e f g q = rw (e, rows-groomer-is p cols j t h k f g 
 
 -- ---- all turns
 
-pub earliest-start : (T : Turns) (s : List ℤ) (j : ℕ) → true ≡ earliestBelow T s j 0
-unfolding earliestBelow every
-earliest-start T s j = refl
+-- closed turns are none of them
+closed-not : (T : Turns) (s : List ℤ) (j t : ℕ) → isOpen s t ≡ false → noEarlier T s j t ≡ true
+unfolding noEarlier
+closed-not T s j t e = rw e
+
+pub earliest-from : (T : Turns) (s : List ℤ) (j t : ℕ) → ClosedTo t s → true ≡ earliestBelow T s j t
+unfolding earliestBelow
+earliest-from T s j t c = sym (every-of (noEarlier T s j) t (λ u l. closed-not T s j u (c .closed u l)))
 
 pub earliest-more : (T : Turns) (s : List ℤ) (j t : ℕ) {r all : Bool} → r ≡ noEarlier T s j t → all ≡ earliestBelow T s j t → (r && all) ≡ earliestBelow T s j (t + 1)
 unfolding earliestBelow every
 earliest-more T s j t e f = rw (add-one, e, f)
 
-pub earliest-done : (T : Turns) (s : List ℤ) (j t : ℕ) {n : ℕ} {all : Bool} → n ≤ t → t ≤ n → all ≡ earliestBelow T s j t → all ≡ earliestBelow T s j n
-earliest-done T s j t {n} l m e = let q : t ≡ n = omega arith in rw q at e
+-- from j on no turn ends earlier
+later-not : (T : Turns) (s : List ℤ) (j k : ℕ) → EndsRise T → j ≤ k → k < T .count → noEarlier T s j k ≡ true
+unfolding noEarlier
+later-not T s j k r h l = not-three (isOpen s k) (oneGroomer T j k || oneDriver T j k) (ltb (T .end k) (T .end j)) (λ o g. le-ltb (T .end k) (T .end j) (r .rise j k h l))
 
-pub ruleset earliest-cases = (earliest-start, earliest-more, earliest-done)
+-- a test that passes from t on
+every-rest : (p : ℕ → Bool) (t n : ℕ) → t ≤ n → ((k : ℕ) → t ≤ k → k < n → p k ≡ true) → every p t ≡ every p n
+unfolding every
+every-rest p t zero h f = let q : t ≡ 0 = omega arith in rw q
+every-rest p t (suc n) h f = go (ℕ-discrete t (suc n)) (λ l. every-rest p t n l (λ k a b. f k a (omega arith)))
+  where
+    go : Dec (t ≡ suc n) → (t ≤ n → every p t ≡ every p n) → every p t ≡ (p n && every p n)
+    go (yes q) ih = ap (every p) q
+    go (no q) ih = rw (f n (omega arith) (omega arith)) (ih (omega arith))
+
+pub earliest-done : (p : Size) (cols : List ℕ) (s : List ℤ) (j t : ℕ) {all : Bool} → EndsRise (turnsBy p cols) → j ≤ t → t ≤ p .count → all ≡ earliestBelow (turnsBy p cols) s j t → all ≡ earliestBelow (turnsBy p cols) s j (p .count)
+unfolding earliestBelow
+earliest-done p cols s j t r l m e = e ∙ every-rest (noEarlier (turnsBy p cols) s j) t (p .count) m (λ k a b. later-not (turnsBy p cols) s j k r (omega arith) (omega (arith, count-is p cols)))
+
+pub earliest-inside : {s : List ℤ} {t n : ℕ} → ClosedTo t s → length s ≡ n → t ≤ n
+earliest-inside c e = omega (arith, c .within)
+
+pub ruleset earliest-cases = (earliest-from, earliest-more, earliest-done, earliest-inside)
 
 -- ---- a step
 

@@ -3,7 +3,8 @@ ghost use mathlib.Core.Path.{_≡_};
 ghost use Prim.Native.Nat.{_<_};
 ghost use Rattle.model.specs.Rules.{noEarlier, right};
 ghost use Rattle.problem.specs.Columns.{turnsBy, Held};
-ghost use Rattle.ratio.specs.Bounds.{Residuals};
+ghost use Rattle.placing.specs.Placing.{EndsRise};
+ghost use Rattle.ratio.specs.Bounds.{Residuals, ClosedTo};
 ghost use Rattle.ratio.specs.Below.{earliestBelow};
 use problem::PLACES;
 use problem::Size;
@@ -26,15 +27,15 @@ fn is_no_earlier(rest: &[i32], p: Size, cols: &[u16; PLACES], j: usize, t: usize
     !(live & (shared.groomer | shared.driver) & earlier)
 }
 
-// Whether no open turn of j's groomer or driver has an earlier end.
-fn is_earliest(rest: &[i32], p: Size, cols: &[u16; PLACES], j: usize) -> bool
-    requires { ⌜ (j < p .count) × Residuals (p .count) (now rest) × Held p (now cols) ⌝ }
+// Whether no open turn of j's groomer or driver has an earlier end. The turns stand in order of end, so that
+// only those before j can have one, and those before a turn are closed.
+fn is_earliest(rest: &[i32], p: Size, cols: &[u16; PLACES], j: usize, from: usize) -> bool
+    requires { ⌜ (j < p .count) × Residuals (p .count) (now rest) × Held p (now cols) × ClosedTo from (now rest) × EndsRise (turnsBy p (now cols)) ⌝ }
     ensures { λ r. ⌜ r ≡ earliestBelow (turnsBy p (now (cols .entry))) (now (rest .entry)) j (p .count) ⌝ }
 {
-    let n = p.count;
     let mut all = true;
-    let mut t = 0;
-    while t < n {
+    let mut t = from;
+    while t < j {
         let one = is_no_earlier(rest, p, cols, j, t);
         all = one & all;
         t += 1;
@@ -42,18 +43,24 @@ fn is_earliest(rest: &[i32], p: Size, cols: &[u16; PLACES], j: usize) -> bool
     all
 }
 
-// Whether a step on a turn of the sheet is right where it stands.
-pub fn is_right(rest: &[i32], p: Size, cols: &[u16; PLACES], turn: u16, amount: u16) -> bool
-    requires { ⌜ Residuals (p .count) (now rest) × Held p (now cols) ⌝ }
-    ensures { λ r. ⌜ r ≡ right (turnsBy p (now (cols .entry))) (now (rest .entry)) (record { turn = turn; amount = amount }) ⌝ }
+// Whether a step is right where it stands.
+pub fn is_right(
+    rest: &[i32],
+    p: Size,
+    cols: &[u16; PLACES],
+    j: usize,
+    amount: u16,
+    from: usize,
+) -> bool
+    requires { ⌜ Residuals (p .count) (now rest) × Held p (now cols) × ClosedTo from (now rest) × EndsRise (turnsBy p (now cols)) ⌝ }
+    ensures { λ r. ⌜ r ≡ right (turnsBy p (now (cols .entry))) (now (rest .entry)) (record { turn = j; amount = amount }) ⌝ }
 {
-    let j = turn as usize;
     if p.count <= j {
         return false;
     }
     if is_open(rest, j) {
         if amount == left_of(rest, j) {
-            return is_earliest(rest, p, cols, j);
+            return is_earliest(rest, p, cols, j, from);
         }
     }
     false

@@ -24,7 +24,7 @@ use Rattle.problem.proofs.Posed.{sheet-count}
 use Rattle.partition.specs.declared.PartitionAnswer.{PartitionAnswer}
 use Rattle.numbering.specs.Numbering.{numbersOf, usedOf}
 use Rattle.partition.specs.Partition.{partitionCauses, partitioned, partitionRefused, partitionOf}
-use Rattle.numbering.proofs.Numbers.{numbers-greedy}
+use Rattle.numbering.proofs.Numbers.{numbers-places}
 
 -- ---- the answer for any causes
 
@@ -79,7 +79,7 @@ module _ (s lent : List ℕ) {r : ReadAnswer} (e : r ≡ answerOf s) where
       unfolding partitionCauses
       partition-done a b h =
           let T = sheetTurns s in
-          let size : length (numbersOf T) ≡ r .turns = numbers-greedy T .places ∙ sheet-count s sound ∙ sym count in
+          let size : length (numbersOf T) ≡ r .turns = numbers-places T ∙ sheet-count s sound ∙ sym count in
           rw (a, b, turns-are, ← size) (sym (answered s lent (enough-iff (sheetCauses s) (length lent) (turnCount s) (sheet-numbered s) .1 (sound, omega (arith, count)))))
 
 pub ruleset partition-cases = (partition-fault, partition-small, partition-gap, partition-held, partition-places, places-part, partition-done)

@@ -14,7 +14,7 @@ use Rattle.problem.specs.Problem.{sheetTurns}
 use Rattle.problem.proofs.Posed.{sheet-count, sheet-lengths}
 use Rattle.numbering.specs.Numbering.{numberIn, numbersOf, usedOf, Before, GreedyNumbers, PartitionPromises}
 use Rattle.partition.specs.Partition.{partitionCauses, partitionOf}
-use Rattle.numbering.proofs.Numbers.{numbers-greedy, numbers-assignment}
+use Rattle.numbering.proofs.Numbers.{numbers-places, numbers-greedy, numbers-assignment}
 use Rattle.numbering.proofs.Fewest.{together-most, together-reached, fewest, used-different}
 use Rattle.partition.proofs.PartitionCauses.{partition-number}
 use Rattle.partition.proofs.Answers.{answered}
@@ -24,7 +24,7 @@ use Rattle.partition.proofs.Answers.{answered}
 pub numbers-promised : (T : Turns) → PositiveLengths T → PartitionPromises T (numbersOf T) (usedOf T)
 numbers-promised T lengths =
     record {
-      greedy = numbers-greedy T;
+      greedy = numbers-greedy T lengths;
       no-overlap = numbers-assignment T;
       uses = used-different T lengths;
       no-minute-above = together-most T;
@@ -40,7 +40,7 @@ partition-promised s lent z =
     let T = sheetTurns s in
     let clear = sym (partition-number s lent) ∙ z in
     let sound = enough-iff (sheetCauses s) (length lent) (turnCount s) (sheet-numbered s) .0 clear .0 in
-    let size : length (numbersOf T) ≡ turnCount s = numbers-greedy T .places ∙ sheet-count s sound in
+    let size : length (numbersOf T) ≡ turnCount s = numbers-places T ∙ sheet-count s sound in
     rw (answered s lent clear, take-at (numbersOf T) (drop (length (numbersOf T)) lent) (turnCount s) size) (numbers-promised T (sheet-lengths s sound))
 
 -- ---- the words fix the numbers: no two lists are the smallest free numbers
@@ -52,7 +52,7 @@ no-smaller T xs ys a b t m same = go (decLt (numberIn ys t) (numberIn xs t))
     go : Dec (numberIn ys t < numberIn xs t) → numberIn xs t ≤ numberIn ys t
     go (yes l) =
         let k = a .smallest t (numberIn ys t) m (b .from-one t m) l in
-        absurd (b .free t m (record { turn = k .turn; inside = k .inside; before = k .before; has-it = sym (same (k .turn) (k .inside) (k .before)) ∙ k .has-it; overlaps = k .overlaps }))
+        absurd (b .free t m (record { turn = k .turn; inside = k .inside; before = k .before; has-it = sym (same (k .turn) (k .inside) (k .before)) ∙ k .has-it; minute = k .minute; its-minute = k .its-minute; own-minute = k .own-minute }))
     go (no l) = omega arith
 
 module _ (T : Turns) (xs ys : List ℕ) (a : GreedyNumbers T xs) (b : GreedyNumbers T ys) where

@@ -1,6 +1,6 @@
 -- The planner's answer by its cases, each premise in the form in which the code's calls and tests leave it. Assumes nothing.
-use Prim.Native.Nat.{ℕ, _+_, _*_, _<_, _≤_}
-use mathlib.Core.Path.{_≡_, refl, sym, _∙_}
+use Prim.Native.Nat.{ℕ, _<_, _≤_}
+use mathlib.Core.Path.{_≡_, sym}
 use mathlib.Core.List.{List}
 use native.Mathlib.Omega.{arith}
 use lib.ListN.{length}
@@ -9,20 +9,16 @@ use Rattle.refusal.specs.Cause.{firstOf}
 use Rattle.refusal.proofs.Written.{kept-before, kept-small, wrote-enough}
 use Rattle.wire.specs.Number.{puts}
 use Rattle.wire.proofs.Puts.{puts-front}
-use Rattle.turns.specs.Turn.{mostWorth}
-use Rattle.model.specs.Turns.{Turns}
 use Rattle.sheet.specs.declared.answer.ReadAnswer.{ReadAnswer}
-use Rattle.sheet.specs.Kind.{mostTurns}
 use Rattle.sheet.specs.Read.{turnCount, sheetCauses, answerOf}
 use Rattle.sheet.proofs.Readings.{sheet-numbered}
-use Rattle.sheet.proofs.Unrefused.{few-turns}
 use Rattle.sheet.proofs.Whole.{whole-refusal, whole-accepted, whole-turns}
 use Rattle.board.specs.Board.{boardLength}
 use Rattle.problem.specs.declared.columns.Size.{Size}
 use Rattle.problem.specs.Columns.{turnsBy, Held}
 use Rattle.problem.specs.Problem.{sheetTurns}
 use Rattle.problem.specs.Load.{shiftSize, Posed}
-use Rattle.problem.proofs.Posed.{sheet-count, sheet-worths}
+use Rattle.problem.proofs.Posed.{sheet-count}
 use Rattle.planner.specs.declared.PlanAnswer.{PlanAnswer}
 use Rattle.planning.specs.Plan.{boardFor, plannedBoard, planCauses, planOf}
 use Rattle.planner.specs.Answer.{planned, planRefused}

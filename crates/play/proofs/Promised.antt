@@ -30,7 +30,7 @@ use Rattle.playing.proofs.Days.{day-is, doing-is}
 use Rattle.playing.proofs.Standings.{standing-is}
 use Rattle.day.specs.Table.{Days}
 use Rattle.play.specs.declared.PlayAnswer.{PlayAnswer}
-use Rattle.play.specs.Minutes.{minuteOf, minutesFrom}
+use Rattle.play.specs.Minutes.{minutesFrom}
 use Rattle.play.specs.Play.{Play, playCauses, dayAt, standingsOf, played, playOf}
 use Rattle.play.specs.Promises.{MovedByMinutes, PlayPromised, PlayedAlike}
 use Rattle.play.proofs.Standings.{append-left, minutes-say, minutes-more, table-there}

@@ -41,7 +41,7 @@ pub record PlayPromised (s b delays : List ℕ) (lent : List Standing) : Type 0 
   pub behind : drop (countsIn s .groomers) (playOf s b delays lent .list) ≡ drop (countsIn s .groomers) lent
   -- the day that is spoken of is that of the groomer, whose number is one above its place
   pub days : (g : ℕ) → DayIs (sheetTurns s) (boardChoice b) (delayIn delays) (suc g) (dayAt s b delays g)
-  -- and in each of its minutes that is done which the day says
+  -- and what is done in a minute of that day is what the words give for it
   pub doings : (g m : ℕ) → DoingIs (dayAt s b delays g) m (doingAt (dayAt s b delays g) m)
   -- a turn that is worked there is chosen, and the groomer's
   pub its-own : (g m u : ℕ) → doingAt (dayAt s b delays g) m ≡ works u → (has (boardChoice b) u ≡ true) × (sheetTurns s .groomer u ≡ suc g)

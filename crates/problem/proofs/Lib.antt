@@ -1,3 +1,4 @@
 pub mod Conflicting
 pub mod Rows
+pub mod Flagging
 pub mod Posed

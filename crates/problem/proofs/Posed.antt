@@ -1,6 +1,6 @@
 -- From a sheet's table to the columns, by cases, and the problem that they then pose. Assumes nothing.
 use mathlib.Core.Path.{_≡_, refl, sym, _∙_, ap}
-use mathlib.Core.Bool.{Bool, true, false, cond}
+use mathlib.Core.Bool.{cond}
 use mathlib.Core.List.{List, _++_}
 use Prim.Native.Nat.{ℕ, _+_, _*_, _≤_, _<_}
 use native.Mathlib.Omega.{arith}
@@ -25,7 +25,7 @@ use Rattle.sheet.proofs.Whole.{whole-accepted-for, whole-turns-for, whole-few-f
 use Rattle.problem.specs.declared.ways.Row.{Row}
 use Rattle.problem.specs.declared.columns.Size.{Size}
 use Rattle.problem.specs.Ways.{rowFor}
-use Rattle.problem.specs.Columns.{columnPlaces, rowIn, withRow, within, turnsBy, Held}
+use Rattle.problem.specs.Columns.{columnPlaces, rowIn, withRow, within, turnsBy}
 use Rattle.problem.specs.Problem.{noTurn, problemOf, shiftGap, sheetTurns}
 use Rattle.problem.specs.Load.{EndsFit, RowsOf, PosedFor, Posed}
 use Rattle.problem.proofs.Rows.{row-length, row-new, row-other}
@@ -144,6 +144,7 @@ module _ (K : Kind) (sound : Sound K) (gap : ℕ) (s : List ℕ) (z : firstOf (c
               record {
                 places = w;
                 few = few-turns-for;
+                slopes = λ t h. rw posed-turns (omega (arith, sheet-slopes-for t h, legal-header K sound s z .slopes-to, sound .slopes));
                 starts = λ t h. rw posed-turns (sheet-starts-for t h);
                 ends = λ t h. rw posed-turns (sheet-ends-for t h);
                 worths = λ t h. rw posed-turns (sheet-worths-for t h);

@@ -9,7 +9,7 @@ use lib.Seq.{getD-set-same, getD-set-other, getD-take, getD-drop, ext-getD, leng
 use borrow.Author.Tests.{lt-ltb}
 use Rattle.lists.specs.Lists.{tab}
 use Rattle.lists.proofs.Sums.{tab-length, tab-at}
-use Rattle.model.specs.Turns.{Turns, PositiveLengths, oneGroomer, oneDriver, conflict}
+use Rattle.model.specs.Turns.{PositiveLengths, oneGroomer, oneDriver, conflict}
 use Rattle.sheet.specs.Kind.{mostTurns}
 use Rattle.problem.specs.declared.ways.Row.{Row}
 use Rattle.problem.specs.declared.ways.Ways.{Ways}

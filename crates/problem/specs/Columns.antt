@@ -19,6 +19,10 @@ columnCount = 6
 abbrev pub columnPlaces : ℕ
 columnPlaces = columnCount * mostTurns
 
+-- the numbers that a slope can have: every kind of sheet has it in a byte
+abbrev pub slopePlaces : ℕ
+slopePlaces = 256
+
 -- the row at place i
 unfoldable pub rowIn : List ℕ → ℕ → Row
 rowIn cols i =
@@ -56,10 +60,11 @@ turnsBy p cols =
 
 -- ---- as statements
 
--- columns that hold a problem within what every sheet keeps to: not more turns, each at least a minute long, within the shift, and no dearer
+-- columns that hold a problem within what every sheet keeps to: not more turns, each with a slope's number, at least a minute long, within the shift, and no dearer
 pub record Held (p : Size) (cols : List ℕ) : Type 0 where
   pub places : length cols ≡ columnPlaces
   pub few : p .count ≤ mostTurns
+  pub slopes : (t : ℕ) → t < p .count → turnsBy p cols .slope t < slopePlaces
   pub starts : (t : ℕ) → t < p .count → turnsBy p cols .start t < turnsBy p cols .end t
   pub ends : (t : ℕ) → t < p .count → turnsBy p cols .end t ≤ shiftMinutes
   pub worths : (t : ℕ) → t < p .count → turnsBy p cols .worth t ≤ mostWorth

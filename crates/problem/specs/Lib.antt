@@ -1,4 +1,5 @@
 pub mod Ways
 pub mod Columns
+pub mod Flags
 pub mod Problem
 pub mod Load

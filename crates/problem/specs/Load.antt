@@ -8,7 +8,6 @@ use Rattle.problem.specs.declared.columns.Size.{Size}
 use Rattle.problem.specs.Ways.{rowFor}
 use Rattle.problem.specs.Columns.{rowIn, turnsBy, Held}
 use Rattle.problem.specs.Problem.{problemOf, shiftGap, sheetTurns}
-use Rattle.model.specs.Turns.{Turns}
 
 -- a shift of n turns
 abbrev pub shiftSize : ℕ → Size

@@ -1,5 +1,6 @@
 // A sheet's turns as the engine holds them: in columns of numbers; and by which ways two turns conflict.
 mod columns;
+mod flags;
 mod posing;
 mod ways;
 
@@ -10,6 +11,9 @@ pub use columns::ends;
 pub use columns::put_row;
 pub use columns::row_at;
 pub use columns::starts;
+pub use flags::SLOPES;
+pub use flags::is_clear;
+pub use flags::set_flag;
 pub use posing::SHIFT_GAP;
 pub use posing::load;
 pub use posing::load_as;

@@ -2,9 +2,10 @@
 mod counting;
 mod residuals;
 
+pub use counting::apply_counted;
 pub use counting::ceiling_of;
-pub use counting::replay_step;
 pub use residuals::apply_step;
+pub use residuals::first_open;
 pub use residuals::is_open;
 pub use residuals::left_of;
 pub use residuals::lower;

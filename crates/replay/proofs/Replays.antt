@@ -1,84 +1,141 @@
 -- Replaying by its cases: what the loops over the written steps keep as they go on. Assumes nothing.
 use Prim.Native.Nat.{ℕ, _+_, _-_, _<_, _≤_}
 use mathlib.Core.Path.{_≡_, refl, sym, _∙_, ap}
-use mathlib.Core.List.{List}
-use mathlib.Core.Bool.{Bool, true, false, cond, true≢false}
+use mathlib.Core.List.{List, [], _∷_}
+use mathlib.Core.Bool.{Bool, true, false, not, cond, true≢false}
 use native.Mathlib.Omega.{arith}
+use native.Mathlib.Nat.{zero-add}
 use lib.IntN.{ℤ}
 use lib.ListN.{length}
 use Rattle.refusal.specs.Number.{wrongStep, turnLeftOpen}
-use Rattle.refusal.specs.Cause.{firstOf}
+use Rattle.refusal.specs.Cause.{_when_, firstOf}
+use Rattle.turns.specs.Turn.{mostWorth}
 use Rattle.model.specs.Turns.{Turns}
 use Rattle.model.specs.Steps.{Step, initial, afterStep, afterSteps}
-use Rattle.model.specs.Rules.{right, allRight, noneOpen}
+use Rattle.model.specs.Rules.{Right, right, allRight, noneOpen}
 use Rattle.model.specs.Ceiling.{stepCost, ceiling}
+use Rattle.model.proofs.Readings.{right-is}
 use Rattle.board.specs.Board.{stepAt, stepsIn}
 use Rattle.problem.specs.declared.columns.Size.{Size}
 use Rattle.problem.specs.Columns.{turnsBy}
+use Rattle.problem.proofs.Rows.{count-is}
+use Rattle.relabelling.specs.Relabelling.{relabel, relabelAll}
+use Rattle.relabelling.proofs.Relabelling.{first-alike, none-open-same, all-right-same, after-all-same, costs-same}
+use Rattle.placing.specs.Placing.{placeAt, PutByEnd, PlacesOf}
+use Rattle.placing.proofs.Placed.{put-relabelled, list-places}
+use Rattle.ratio.specs.Bounds.{Residuals, ClosedTo}
 use Rattle.ratio.specs.Below.{closedBelow}
 use Rattle.ratio.specs.Counting.{costsFrom}
-use Rattle.ratio.proofs.Replaying.{step-is, stepsFrom, steps-from-start, steps-from-more, steps-from-none, costs-start, costs-more, costs-done, ceiling-is}
+use Rattle.ratio.proofs.Signed.{left-small}
+use Rattle.ratio.proofs.Replaying.{stepsFrom, steps-from-start, steps-from-more, steps-from-none, ceiling-is}
 use Rattle.replay.specs.declared.replay.Judgement.{Judgement}
 use Rattle.checking.specs.Check.{stepCauses}
 use Rattle.replay.specs.Judged.{faultAt, judged}
+use Rattle.replay.specs.Moves.{movesIn}
 use Rattle.replay.proofs.Faults.{fault-judged, none-judged}
 
 -- ---- one step
 
-module _ (size : Size) (cols : List ℕ) (s : List ℤ) (bytes : List ℕ) (i j a : ℕ) {r : Bool} (e : r ≡ right (turnsBy size cols) s (record { turn = j; amount = a })) (p : j ≡ stepAt bytes i .turn) (q : a ≡ stepAt bytes i .amount) where
-  one-right : r ≡ right (turnsBy size cols) s (stepAt bytes i)
-  one-right = e ∙ ap (right (turnsBy size cols) s) (step-is bytes i p q)
+module _ (p : Size) (cols : List ℕ) (s : List ℤ) (j a : ℕ) {r : Bool} (e : r ≡ right (turnsBy p cols) s (record { turn = j; amount = a })) where
+  pub one-false : r ≡ false → false ≡ right (turnsBy p cols) s (record { turn = j; amount = a })
+  one-false f = sym f ∙ e
 
-  pub one-false : r ≡ false → false ≡ right (turnsBy size cols) s (stepAt bytes i)
-  one-false f = sym f ∙ one-right
+  module _ (t : r ≡ true) where
+    pub one-true : true ≡ right (turnsBy p cols) s (record { turn = j; amount = a })
+    one-true = sym t ∙ e
 
-  pub one-true : r ≡ true → true ≡ right (turnsBy size cols) s (stepAt bytes i)
-  one-true f = sym f ∙ one-right
+    is-right : Right (turnsBy p cols) s (record { turn = j; amount = a })
+    is-right = right-is (turnsBy p cols) s (record { turn = j; amount = a }) .0 (sym e ∙ t)
 
-  pub one-is-right : r ≡ true → right (turnsBy size cols) s (stepAt bytes i) ≡ true
-  one-is-right f = sym one-right ∙ f
+    pub one-inside : j < p .count
+    one-inside = omega (arith, is-right .inside, count-is p cols)
 
-pub ruleset one-cases = (one-false, one-true)
+    pub one-amount : Residuals (p .count) s → a ≤ mostWorth
+    one-amount own = omega (arith, is-right .owed, left-small s j (own .small))
+
+pub ruleset one-cases = (one-false, one-true, one-inside, one-amount)
+
+pub place-of-turn : (places : List ℕ) {t u r : ℕ} → t ≡ u → r ≡ placeAt places t → r ≡ placeAt places u
+place-of-turn places e q = q ∙ ap (placeAt places) e
+
+-- ---- the steps from i on, by place
+
+unfoldable pub movesFrom : List ℕ → ℕ → ℕ → List ℕ → List Step
+movesFrom places k i bytes = relabelAll (placeAt places) (stepsFrom k i bytes)
+
+module _ (places : List ℕ) (m i : ℕ) (bytes : List ℕ) where
+  moves-none : m ≤ i → movesFrom places (m - i) i bytes ≡ []
+  unfolding movesFrom relabelAll
+  moves-none h = ap (relabelAll (placeAt places)) (steps-from-none m i bytes h)
+
+  module _ {j a : ℕ} (p : j ≡ placeAt places (stepAt bytes i .turn)) (q : a ≡ stepAt bytes i .amount) where
+    move-is : _≡_ {A = Step} (record { turn = j; amount = a }) (relabel (placeAt places) (stepAt bytes i))
+    move-is = λ k. record { turn = p k; amount = q k }
+
+    moves-more : i < m → movesFrom places (m - i) i bytes ≡ record { turn = j; amount = a } ∷ movesFrom places (m - (i + 1)) (i + 1) bytes
+    unfolding movesFrom relabelAll
+    moves-more h = ap (relabelAll (placeAt places)) (steps-from-more m i bytes h) ∙ ap (λ (x : Step). x ∷ relabelAll (placeAt places) (stepsFrom (m - (i + 1)) (i + 1) bytes)) (sym move-is)
+
+moves-start : (places : List ℕ) (m : ℕ) (bytes : List ℕ) → movesFrom places (m - 0) 0 bytes ≡ movesIn places m bytes
+unfolding movesFrom movesIn
+moves-start places m bytes = ap (relabelAll (placeAt places)) (steps-from-start m bytes)
 
 -- ---- the loop
 
-module _ (T : Turns) (s : List ℤ) (bytes : List ℕ) (m i : ℕ) where
-  applied : {r : Bool} {s′ : List ℤ} → r ≡ true → s′ ≡ cond r (afterStep T s (stepAt bytes i)) s → s′ ≡ afterStep T s (stepAt bytes i)
-  applied t p = rw t at p
+module _ (T : Turns) (s : List ℤ) (places bytes : List ℕ) (m i : ℕ) where
+  module _ {j a : ℕ} (u : j ≡ placeAt places (stepAt bytes i .turn)) (v : a ≡ stepAt bytes i .amount) where
+    abbrev x : Step
+    x = record { turn = j; amount = a }
 
-  pub replay-more-right : {r z : Bool} {s′ : List ℤ} → r ≡ right T s (stepAt bytes i) → r ≡ true → s′ ≡ cond r (afterStep T s (stepAt bytes i)) s → i < m
-      → allRight T s (stepsFrom (m - i) i bytes) ≡ z → allRight T s′ (stepsFrom (m - (i + 1)) (i + 1) bytes) ≡ z
-  unfolding allRight
-  replay-more-right e t p h q = rw (applied t p) (rw (steps-from-more m i bytes h, ← e, t) at q)
+    applied : {r : Bool} {s′ : List ℤ} → r ≡ true → s′ ≡ cond r (afterStep T s x) s → s′ ≡ afterStep T s x
+    applied t p = rw t at p
 
-  pub replay-more-after : {r : Bool} {z s′ : List ℤ} → r ≡ true → s′ ≡ cond r (afterStep T s (stepAt bytes i)) s → i < m
-      → afterSteps T s (stepsFrom (m - i) i bytes) ≡ z → afterSteps T s′ (stepsFrom (m - (i + 1)) (i + 1) bytes) ≡ z
-  unfolding afterSteps
-  replay-more-after t p h q = rw (applied t p) (rw (steps-from-more m i bytes h) at q)
+    pub replay-more-right : {r z : Bool} {s′ : List ℤ} → r ≡ right T s x → r ≡ true → s′ ≡ cond r (afterStep T s x) s → i < m
+        → allRight T s (movesFrom places (m - i) i bytes) ≡ z → allRight T s′ (movesFrom places (m - (i + 1)) (i + 1) bytes) ≡ z
+    unfolding allRight
+    replay-more-right e t p h q = rw (applied t p) (rw (moves-more places m i bytes u v h, ← e, t) at q)
 
-  pub replay-stop : {r z : Bool} → r ≡ right T s (stepAt bytes i) → r ≡ false → i < m → allRight T s (stepsFrom (m - i) i bytes) ≡ z → false ≡ z
-  unfolding allRight
-  replay-stop e f h q = rw (steps-from-more m i bytes h, ← e, f) at q
+    pub replay-more-after : {r : Bool} {z s′ : List ℤ} → r ≡ true → s′ ≡ cond r (afterStep T s x) s → i < m
+        → afterSteps T s (movesFrom places (m - i) i bytes) ≡ z → afterSteps T s′ (movesFrom places (m - (i + 1)) (i + 1) bytes) ≡ z
+    unfolding afterSteps
+    replay-more-after t p h q = rw (applied t p) (rw (moves-more places m i bytes u v h) at q)
 
-  pub replay-done-right : {z : Bool} → m ≤ i → allRight T s (stepsFrom (m - i) i bytes) ≡ z → true ≡ z
-  unfolding allRight
-  replay-done-right h q = rw (steps-from-none m i bytes h) at q
+    pub replay-more-costs : (sum : ℕ) {r : Bool} {c z : ℕ} {s′ : List ℤ} → r ≡ true → s′ ≡ cond r (afterStep T s x) s → c ≡ cond r (stepCost T s x) 0 → i < m
+        → sum + costsFrom T s (movesFrom places (m - i) i bytes) ≡ z → sum + c + costsFrom T s′ (movesFrom places (m - (i + 1)) (i + 1) bytes) ≡ z
+    unfolding costsFrom
+    replay-more-costs sum t p e h q = rw (applied t p, rw t at e) (omega (arith, rw (moves-more places m i bytes u v h) at q))
 
-  pub replay-more-costs : (sum : ℕ) {r : Bool} {c z : ℕ} {s′ : List ℤ} → r ≡ true → s′ ≡ cond r (afterStep T s (stepAt bytes i)) s → c ≡ cond r (stepCost T s (stepAt bytes i)) 0 → i < m
-      → sum + costsFrom T s (stepsFrom (m - i) i bytes) ≡ z → sum + c + costsFrom T s′ (stepsFrom (m - (i + 1)) (i + 1) bytes) ≡ z
-  replay-more-costs sum t p e h q = costs-more T s bytes m i sum (applied t p) (rw t at e) h q
+    pub replay-stop : {r z : Bool} → r ≡ right T s x → r ≡ false → i < m → allRight T s (movesFrom places (m - i) i bytes) ≡ z → false ≡ z
+    unfolding allRight
+    replay-stop e f h q = rw (moves-more places m i bytes u v h, ← e, f) at q
 
-  pub replay-done-after : {z : List ℤ} → m ≤ i → afterSteps T s (stepsFrom (m - i) i bytes) ≡ z → s ≡ z
-  unfolding afterSteps
-  replay-done-after h q = rw (steps-from-none m i bytes h) at q
+  module _ (h : m ≤ i) where
+    pub replay-done-right : {z : Bool} → allRight T s (movesFrom places (m - i) i bytes) ≡ z → true ≡ z
+    unfolding allRight
+    replay-done-right q = rw (moves-none places m i bytes h) at q
 
-pub replay-start-right : (T : Turns) (s : List ℤ) (bytes : List ℕ) (m : ℕ) → allRight T s (stepsFrom (m - 0) 0 bytes) ≡ allRight T s (stepsIn m bytes)
-replay-start-right T s bytes m = ap (allRight T s) (steps-from-start m bytes)
+    pub replay-done-after : {z : List ℤ} → afterSteps T s (movesFrom places (m - i) i bytes) ≡ z → s ≡ z
+    unfolding afterSteps
+    replay-done-after q = rw (moves-none places m i bytes h) at q
 
-pub replay-start-after : (T : Turns) (s : List ℤ) (bytes : List ℕ) (m : ℕ) → afterSteps T s (stepsFrom (m - 0) 0 bytes) ≡ afterSteps T s (stepsIn m bytes)
-replay-start-after T s bytes m = ap (afterSteps T s) (steps-from-start m bytes)
+    pub replay-done-costs : {sum z : ℕ} → sum + costsFrom T s (movesFrom places (m - i) i bytes) ≡ z → sum ≡ z
+    unfolding costsFrom
+    replay-done-costs q = omega (arith, rw (moves-none places m i bytes h) at q)
 
-pub ruleset replay-cases = (replay-start-right, replay-start-after, costs-start, replay-more-right, replay-more-after, replay-more-costs, replay-stop, replay-done-right, replay-done-after, costs-done)
+module _ (T : Turns) (s : List ℤ) (places bytes : List ℕ) (m : ℕ) where
+  pub replay-start-right : allRight T s (movesFrom places (m - 0) 0 bytes) ≡ allRight T s (movesIn places m bytes)
+  replay-start-right = ap (allRight T s) (moves-start places m bytes)
+
+  pub replay-start-after : afterSteps T s (movesFrom places (m - 0) 0 bytes) ≡ afterSteps T s (movesIn places m bytes)
+  replay-start-after = ap (afterSteps T s) (moves-start places m bytes)
+
+  pub replay-start-costs : 0 + costsFrom T s (movesFrom places (m - 0) 0 bytes) ≡ costsFrom T s (movesIn places m bytes)
+  replay-start-costs = zero-add (costsFrom T s (movesFrom places (m - 0) 0 bytes)) ∙ ap (costsFrom T s) (moves-start places m bytes)
+
+  pub replay-start-closed : ClosedTo 0 s
+  replay-start-closed = record { within = omega arith; closed = λ t h. absurd (omega arith) }
+
+pub ruleset replay-cases = (replay-start-right, replay-start-after, replay-start-costs, replay-start-closed, replay-more-right, replay-more-after, replay-more-costs, replay-stop, replay-done-right, replay-done-after, replay-done-costs)
 
 pub never : {A : Type 0} → false ≡ true → A
 never e = absurd (true≢false (sym e))
@@ -119,3 +176,43 @@ module _ (p : Size) (cols : List ℕ) (xs : List Step) {s : List ℤ} {r : Bool}
     fault-no-step f h = none-judged (none-first f) (ceiling-is (turnsBy p cols) xs i (h t))
 
 pub ruleset fault-cases = (fault-step, fault-open, fault-no-step)
+
+-- ---- by number
+
+-- what steps by place come to is what they come to by number
+module _ {p : Size} {cols order own places : List ℕ} (h : PutByEnd p cols order own) (o : PlacesOf order places) (bytes : List ℕ) (m : ℕ) where
+  abbrev T : Turns
+  T = turnsBy p cols
+
+  abbrev U : Turns
+  U = turnsBy p own
+
+  abbrev xs : List Step
+  xs = stepsIn m bytes
+
+  right-same : allRight U (initial U) (movesIn places m bytes) ≡ allRight T (initial T) xs
+  unfolding movesIn
+  right-same = all-right-same (list-places h o) (put-relabelled h) xs (first-alike (list-places h o) (put-relabelled h))
+
+  closed-same : allRight T (initial T) xs ≡ true → noneOpen U (afterSteps U (initial U) (movesIn places m bytes)) ≡ noneOpen T (afterSteps T (initial T) xs)
+  unfolding movesIn
+  closed-same e =
+      none-open-same (list-places h o) (put-relabelled h)
+      (after-all-same (list-places h o) (put-relabelled h) xs (first-alike (list-places h o) (put-relabelled h)) e)
+
+  ceiling-same : allRight T (initial T) xs ≡ true → ceiling U (movesIn places m bytes) ≡ ceiling T xs
+  unfolding movesIn ceiling
+  ceiling-same e = costs-same (list-places h o) (put-relabelled h) xs (first-alike (list-places h o) (put-relabelled h)) e
+
+  by-number : judged (firstOf (stepCauses U (movesIn places m bytes))) (ceiling U (movesIn places m bytes)) ≡ judged (firstOf (stepCauses T xs)) (ceiling T xs)
+  unfolding judged stepCauses firstOf
+  by-number = rw right-same (go (allRight T (initial T) xs) refl)
+    where
+      go : (b : Bool) → allRight T (initial T) xs ≡ b
+          → judged (firstOf (wrongStep when not b ∷ turnLeftOpen when not (noneOpen U (afterSteps U (initial U) (movesIn places m bytes))) ∷ [])) (ceiling U (movesIn places m bytes))
+          ≡ judged (firstOf (wrongStep when not b ∷ turnLeftOpen when not (noneOpen T (afterSteps T (initial T) xs)) ∷ [])) (ceiling T xs)
+      go true e = rw (closed-same e, ceiling-same e)
+      go false e = refl
+
+  pub judged-by-number : {a : Judgement} → a ≡ judged (firstOf (stepCauses U (movesIn places m bytes))) (ceiling U (movesIn places m bytes)) → a ≡ judged (firstOf (stepCauses T xs)) (ceiling T xs)
+  judged-by-number e = e ∙ by-number

@@ -9,18 +9,34 @@ ghost use Rattle.model.specs.Steps.{afterStep, afterSteps};
 ghost use Rattle.model.specs.Rules.{right, allRight};
 ghost use Rattle.model.specs.Ceiling.{stepCost, ceiling};
 ghost use Rattle.board.specs.Board.{stepSize, stepAt, stepsIn};
-ghost use Rattle.problem.specs.Columns.{turnsBy, Held};
-ghost use Rattle.ratio.specs.Bounds.{Residuals};
+ghost use Rattle.problem.specs.Columns.{columnPlaces, turnsBy, Held};
+ghost use Rattle.placing.specs.Placing.{placeAt, EndsRise};
+ghost use Rattle.ratio.specs.Bounds.{Residuals, ClosedTo};
 ghost use Rattle.ratio.specs.Counting.{costsFrom};
 ghost use Rattle.checking.specs.Check.{stepCauses};
 ghost use Rattle.replay.specs.Judged.{faultAt, judged};
+ghost use Rattle.replay.specs.Moves.{movesIn};
+use problem::MOST_TURNS;
 use problem::PLACES;
 use problem::Size;
 
-// Whether a step, or each of several, is right where it stands, and what right ones count for.
+// Whether each of several steps is right where it stands, and what right ones count for.
 pub struct Replayed {
     pub right: bool,
     pub cost: u32,
+}
+
+// The same of one step, and how many turns at the front are closed.
+pub struct Outcome {
+    pub right: bool,
+    pub cost: u32,
+    pub closed: usize,
+}
+
+// A written step: the place of its turn, and its amount.
+pub struct Move {
+    pub place: usize,
+    pub amount: u16,
 }
 
 // The number of the first cause to refuse a board, 0 if none, and the ceiling of its steps, 0 on a refusal.
@@ -38,46 +54,79 @@ pub fn fault_at(k: u8) -> Judgement
     }
 }
 
-// Step i, if it is right where it stands; else nothing is changed, and it counts for nothing.
-fn replay_one(rest: &mut [i32], p: Size, cols: &[u16; PLACES], steps: &[u8], i: usize) -> Replayed
-    requires { ⌜ Residuals (p .count) (now rest) × Held p (now cols) × (stepSize * i + stepSize ≤ length (now steps)) ⌝ }
-    ensures { λ r. ⌜ (r .right ≡ right (turnsBy p (now (cols .entry))) (now (rest .entry)) (stepAt (now (steps .entry)) i))
-        × (now (rest .exit) ≡ cond (r .right) (afterStep (turnsBy p (now (cols .entry))) (now (rest .entry)) (stepAt (now (steps .entry)) i))
-        (now (rest .entry)))
-        × Residuals (p .count) (now (rest .exit))
-        × (r .cost ≡ cond (r .right) (stepCost (turnsBy p (now (cols .entry))) (now (rest .entry)) (stepAt (now (steps .entry)) i)) 0)
-        × (r .cost ≤ 3 * mostWorth) ⌝ }
+// Step i of the written ones, its turn by place.
+fn move_at(places: &[u16], steps: &[u8], i: usize) -> Move
+    requires { ⌜ stepSize * i + stepSize ≤ length (now steps) ⌝ }
+    ensures { λ r. ⌜ (r .place ≡ placeAt (now (places .entry)) (stepAt (now (steps .entry)) i .turn)) × (r .amount ≡ stepAt (now (steps .entry)) i .amount) ⌝ }
 {
     let turn = board::step_turn(steps, i);
     let amount = board::step_amount(steps, i);
-    if orders::is_right(&*rest, p, cols, turn, amount) {
-        let cost = ratio::replay_step(&mut *rest, p, cols, steps, i);
-        return Replayed {
+    let place = placing::place_of(places, turn);
+    Move {
+        place: place,
+        amount: amount,
+    }
+}
+
+// A step on the turn at place j, if it is right where it stands; else nothing is changed, and it counts for
+// nothing.
+fn replay_one(
+    rest: &mut [i32],
+    p: Size,
+    cols: &[u16; PLACES],
+    j: usize,
+    amount: u16,
+    closed: usize,
+) -> Outcome
+    requires { ⌜ Residuals (p .count) (now rest) × Held p (now cols) × ClosedTo closed (now rest) × EndsRise (turnsBy p (now cols)) ⌝ }
+    ensures { λ r. ⌜ (r .right ≡ right (turnsBy p (now (cols .entry))) (now (rest .entry)) (record { turn = j; amount = amount }))
+        × (now (rest .exit) ≡ cond (r .right) (afterStep (turnsBy p (now (cols .entry))) (now (rest .entry)) (record { turn = j; amount = amount }))
+        (now (rest .entry)))
+        × Residuals (p .count) (now (rest .exit)) × ClosedTo (r .closed) (now (rest .exit))
+        × (r .cost ≡ cond (r .right) (stepCost (turnsBy p (now (cols .entry))) (now (rest .entry)) (record { turn = j; amount = amount })) 0)
+        × (r .cost ≤ 3 * mostWorth) ⌝ }
+{
+    let from = ratio::first_open(&*rest, closed);
+    if orders::is_right(&*rest, p, cols, j, amount, from) {
+        let cost = ratio::apply_counted(&mut *rest, p, cols, j, amount, from);
+        return Outcome {
             right: true,
             cost: cost,
+            closed: from,
         };
     }
-    Replayed {
+    Outcome {
         right: false,
         cost: 0,
+        closed: from,
     }
 }
 
 // Whether each of m steps in order is right where it stands; if so, what they count for, and the residuals
-// are those after the last.
-fn replay(rest: &mut [i32], p: Size, cols: &[u16; PLACES], steps: &[u8], m: usize) -> Replayed
-    requires { ⌜ Residuals (p .count) (now rest) × Held p (now cols) × (stepSize * m ≤ length (now steps)) × (m ≤ p .count) ⌝ }
-    ensures { λ r. ⌜ (r .right ≡ allRight (turnsBy p (now (cols .entry))) (now (rest .entry)) (stepsIn m (now (steps .entry))))
-        × (r .right ≡ true → now (rest .exit) ≡ afterSteps (turnsBy p (now (cols .entry))) (now (rest .entry)) (stepsIn m (now (steps .entry))))
-        × (r .right ≡ true → r .cost ≡ costsFrom (turnsBy p (now (cols .entry))) (now (rest .entry)) (stepsIn m (now (steps .entry))))
+// are those after the last. The turns stand in order of end; the places say where.
+fn replay(
+    rest: &mut [i32],
+    p: Size,
+    cols: &[u16; PLACES],
+    places: &[u16],
+    steps: &[u8],
+    m: usize,
+) -> Replayed
+    requires { ⌜ Residuals (p .count) (now rest) × Held p (now cols) × EndsRise (turnsBy p (now cols)) × (stepSize * m ≤ length (now steps)) × (m ≤ p .count) ⌝ }
+    ensures { λ r. ⌜ (r .right ≡ allRight (turnsBy p (now (cols .entry))) (now (rest .entry)) (movesIn (now (places .entry)) m (now (steps .entry))))
+        × (r .right ≡ true → now (rest .exit) ≡ afterSteps (turnsBy p (now (cols .entry))) (now (rest .entry)) (movesIn (now (places .entry)) m (now (steps .entry))))
+        × (r .right ≡ true → r .cost ≡ costsFrom (turnsBy p (now (cols .entry))) (now (rest .entry)) (movesIn (now (places .entry)) m (now (steps .entry))))
         × (length (now (rest .exit)) ≡ p .count) ⌝ }
 {
     let mut sum: u32 = 0;
+    let mut closed = 0;
     let mut i = 0;
     while i < m {
-        let one = replay_one(&mut *rest, p, cols, steps, i);
+        let next = move_at(places, steps, i);
+        let one = replay_one(&mut *rest, p, cols, next.place, next.amount, closed);
         if one.right {
             sum += one.cost;
+            closed = one.closed;
             i += 1;
         } else {
             return Replayed {
@@ -92,20 +141,21 @@ fn replay(rest: &mut [i32], p: Size, cols: &[u16; PLACES], steps: &[u8], m: usiz
     }
 }
 
-// The first cause to refuse m steps, and their ceiling. The residuals are for this function to use.
-pub fn steps_fault(
+// The first cause to refuse m steps, and their ceiling, by place.
+fn judge_moves(
     rest: &mut [i32],
     p: Size,
     cols: &[u16; PLACES],
+    places: &[u16],
     steps: &[u8],
     m: usize,
 ) -> Judgement
-    requires { ⌜ (length (now rest) ≡ p .count) × Held p (now cols) × (stepSize * m ≤ length (now steps)) × (m ≤ p .count) ⌝ }
-    ensures { λ r. ⌜ r ≡ judged (firstOf (stepCauses (turnsBy p (now (cols .entry))) (stepsIn m (now (steps .entry)))))
-        (ceiling (turnsBy p (now (cols .entry))) (stepsIn m (now (steps .entry)))) ⌝ }
+    requires { ⌜ (length (now rest) ≡ p .count) × Held p (now cols) × EndsRise (turnsBy p (now cols)) × (stepSize * m ≤ length (now steps)) × (m ≤ p .count) ⌝ }
+    ensures { λ r. ⌜ r ≡ judged (firstOf (stepCauses (turnsBy p (now (cols .entry))) (movesIn (now (places .entry)) m (now (steps .entry)))))
+        (ceiling (turnsBy p (now (cols .entry))) (movesIn (now (places .entry)) m (now (steps .entry)))) ⌝ }
 {
     ratio::set_initial(&mut *rest, p, cols);
-    let run = replay(&mut *rest, p, cols, steps, m);
+    let run = replay(&mut *rest, p, cols, places, steps, m);
     if run.right {
         if ratio::none_open(&*rest) {
             Judgement {
@@ -118,4 +168,28 @@ pub fn steps_fault(
     } else {
         fault_at(refusal::WRONG_STEP)
     }
+}
+
+// The first cause to refuse m steps, and their ceiling. The residuals and the room, in which the turns are
+// put in order of end, are for this function to use.
+pub fn steps_fault(
+    rest: &mut [i32],
+    p: Size,
+    cols: &[u16; PLACES],
+    steps: &[u8],
+    m: usize,
+    room: &mut [u16; PLACES],
+) -> Judgement
+    requires { ⌜ (length (now rest) ≡ p .count) × Held p (now cols) × (stepSize * m ≤ length (now steps)) × (m ≤ p .count) × (length (now room) ≡ columnPlaces) ⌝ }
+    ensures { λ r. ⌜ r ≡ judged (firstOf (stepCauses (turnsBy p (now (cols .entry))) (stepsIn m (now (steps .entry)))))
+        (ceiling (turnsBy p (now (cols .entry))) (stepsIn m (now (steps .entry)))) ⌝ }
+{
+    let n = p.count;
+    let mut numbers = [0u16; MOST_TURNS];
+    let order = &mut numbers[0..n];
+    placing::put_by_end(p, cols, &mut *order, &mut *room);
+    let mut spots = [0u16; MOST_TURNS];
+    let places = &mut spots[0..n];
+    placing::put_places(&*order, &mut *places);
+    judge_moves(&mut *rest, p, &*room, &*places, steps, m)
 }

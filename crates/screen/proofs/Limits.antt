@@ -1,5 +1,5 @@
 -- Two limits on turns: what both readers accept they read alike, a sheet within both gets one answer, and what the smaller accepts the larger accepts. For any two limits of any kind, then for the garage's and the screen's. Assumes nothing.
-use Prim.Native.Nat.{ℕ, _*_, _≤_, _<_}
+use Prim.Native.Nat.{ℕ, _*_, _≤_}
 use mathlib.Core.Path.{_≡_, refl, sym, _∙_, ap}
 use mathlib.Core.Logic.{_≢_, _↔_}
 use mathlib.Core.List.{List}
@@ -11,25 +11,22 @@ use Rattle.refusal.specs.Cause.{firstOf}
 use Rattle.wire.specs.Number.{Bytes}
 use Rattle.turns.specs.Turn.{rowNumbers}
 use Rattle.sheet.specs.declared.kind.Kind.{Kind}
-use Rattle.sheet.specs.Kind.{garage, withTurns, mostTurns, Sound, ThreeBytes}
-use Rattle.sheet.specs.Read.{turnCount, tableOf, causesFor, sheetCauses, Outcome, outcome, atFront, readAnswer, readCausesFor, readFor, readOf}
-use Rattle.sheet.specs.Accepted.{AcceptedFor, CauseFor, short-header, other-mark, groomer-count, slope-count, turn-count, no-map, wrong-map, short-fields, slope, groomer, time, worth, driver, bytes-behind, LentCauseFor, of-sheet, too-small, ReadCauseFor, FirstAmong}
+use Rattle.sheet.specs.Kind.{garage, withTurns, mostTurns, Sound}
+use Rattle.sheet.specs.Read.{turnCount, tableOf, causesFor, Outcome, atFront, readCausesFor, readFor, readOf}
+use Rattle.sheet.specs.Promises.{ReadPromisedFor}
+use Rattle.sheet.specs.Accepted.{short-header, other-mark, groomer-count, slope-count, turn-count, no-map, wrong-map, short-fields, slope, groomer, time, worth, driver, bytes-behind, of-sheet, too-small, ReadCauseFor}
 use Rattle.sheet.proofs.Alike.{same-refusal, same-reading}
 use Rattle.sheet.proofs.SoundKinds.{garage-sound}
-use Rattle.sheet.proofs.Accepting.{accepted-iff-for, read-accepted-iff-for}
+use Rattle.sheet.proofs.Accepting.{read-accepted-iff-for}
 use Rattle.refusal.proofs.Order.{clear-append}
 use Rattle.sheet.proofs.Readings.{causes-numbered}
 use Rattle.sheet.proofs.ReadCauses.{read-number-for, read-refused-iff-for}
+use Rattle.sheet.proofs.Promised.{read-whole, read-promised-for}
 use Rattle.sheet.proofs.Tables.{table-length}
 use Rattle.sheet.proofs.Unrefused.{legal-header}
 use Rattle.screen.specs.Screen.{screenTurns, liftDesk, readShortOf, AcceptedShort, FirstShortCause, ReadAlike}
 
 -- ---- any two kinds
-
--- what a reader does not refuse it gives as it stands in the bytes
-read-whole : (K : Kind) (s lent : List ℕ) → readFor K s lent .answer .refusal ≡ 0 → readFor K s lent ≡ outcome (readAnswer s) (atFront (tableOf s) lent)
-unfolding readFor
-read-whole K s lent e = let z : firstOf (readCausesFor K s (length lent)) ≡ 0 = sym (read-number-for K s lent) ∙ e in rw z
 
 read-alike : (J K : Kind) (s a b : List ℕ) → readFor J s a .answer .refusal ≡ 0 → readFor K s b .answer .refusal ≡ 0 → ReadAlike (readFor J s a) (readFor K s b) a b
 read-alike J K s a b e f =
@@ -113,6 +110,11 @@ short-refused-iff = read-refused-iff-for liftDesk (lift-desk-sound .mark)
 pub short-accepted-iff : {s : List ℕ} → Bytes s → (lent : List ℕ) → (readShortOf s lent .answer .refusal ≡ 0) ↔ (AcceptedShort s × (rowNumbers * turnCount s ≤ length lent))
 unfolding readShortOf
 short-accepted-iff b = read-accepted-iff-for liftDesk lift-desk-sound b
+
+-- what it hands back is what is promised of every reader
+pub short-promised : {s : List ℕ} → Bytes s → (lent : List ℕ) → ReadPromisedFor liftDesk s lent (readShortOf s lent)
+unfolding readShortOf
+short-promised b lent = read-promised-for liftDesk lift-desk-sound b lent
 
 -- the garage's number for too many turns is none of its causes
 not-garage-number : (s : List ℕ) (places k r : ℕ) → ReadCauseFor liftDesk s places k r → k ≢ tooManyTurns

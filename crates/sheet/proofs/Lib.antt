@@ -13,3 +13,4 @@ pub mod Unrefused
 pub mod Whole
 pub mod Prefix
 pub mod Alike
+pub mod Promised

@@ -3,3 +3,4 @@ pub mod Record
 pub mod Read
 pub mod Layout
 pub mod Accepted
+pub mod Promises

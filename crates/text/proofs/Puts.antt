@@ -1,11 +1,11 @@
 -- Bytes put at places that may not be there. Assumes nothing.
 use Prim.Native.Nat.{ℕ, zero, suc, _+_, _<_, _≤_}
-use mathlib.Core.Path.{_≡_, refl, ap, _∙_}
+use mathlib.Core.Path.{_≡_, refl, ap}
 use mathlib.Core.List.{List, [], _∷_}
 use native.Mathlib.Omega.{arith}
 use lib.ListN.{length, getD, set, drop}
 use Rattle.wire.specs.Number.{puts}
-use Rattle.wire.proofs.Puts.{copy-more, copy-done, copy-start}
+use Rattle.wire.proofs.Puts.{copy-more, copy-done}
 
 -- past the end nothing changes
 pub set-past : (l : List ℕ) (i a : ℕ) → length l ≤ i → l ≡ set l i a

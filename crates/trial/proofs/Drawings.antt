@@ -6,7 +6,7 @@ use native.Mathlib.Omega.{arith}
 use native.Mathlib.Numerals.{sub-one}
 use lib.ListN.{length, take}
 use lib.Seq.{take-append-seam}
-use mir.Syntax.{w16}
+use mir.Syntax.{w16, w32}
 use mir.Val.{Fits}
 use borrow.Author.Tests.{lt-ltb, le-ltb, ne-eqb}
 use Rattle.refusal.specs.Number.{badSeed}
@@ -27,7 +27,7 @@ use Rattle.writer.specs.Answer.{written}
 use Rattle.trial.specs.declared.Drawn.{Drawn}
 use Rattle.trial.specs.Draw.{drawFactor, drawModulus, mostDraw, nextDraw, drawNumber, drawnLength, lengthPlaces, drawnStarts, fromOne, turnDrawn, turnDraws, turnAfter, drawnTurns, drawnTable, Drawable}
 use Rattle.trial.specs.Trial.{seedCauses, drawCauses, drawOf}
-use Rattle.trial.proofs.Draws.{draw-drawable}
+use Rattle.trial.proofs.Draws.{draw-drawable, number-drawable, number-one, number-two, number-three, number-four, number-five}
 use Rattle.trial.proofs.Trials.{drawn-numbers, seed-iff, drawn-as-written}
 
 -- ---- one draw
@@ -73,14 +73,19 @@ module _ (counts : Counts) (slope groomer start minutes worth : ℕ) where
   unfolding turnDrawn
   turn-of-draws p q r s = rw (p, q, r, s)
 
-module _ (counts : Counts) (x : ℕ) {a b c d e : ℕ} (p : a ≡ nextDraw x) (q : b ≡ nextDraw a) (r : c ≡ nextDraw b) (s : d ≡ nextDraw c) (t : e ≡ nextDraw d) where
+module _ (counts : Counts) (x : ℕ) {a b c d e : ℕ}
+    (p : a ≡ 16807 * x % drawModulus) (q : b ≡ 282475249 * x % drawModulus) (r : c ≡ 1622650073 * x % drawModulus) (s : d ≡ 984943658 * x % drawModulus) (t : e ≡ 1144108930 * x % drawModulus) where
   pub turn-of-five : {u : Turn} → u ≡ turnDrawn counts a b c d e → u ≡ turnAfter counts x
-  unfolding turnAfter drawNumber
-  turn-of-five h = h ∙ rw (t, s, r, q, p)
+  unfolding turnAfter
+  turn-of-five h = h ∙ rw (number-one x, number-two x, number-three x, number-four x, number-five x, p, q, r, s, t)
 
   pub last-of-five : e ≡ drawNumber turnDraws x
-  unfolding drawNumber
-  last-of-five = rw (t, s, r, q, p)
+  last-of-five = t ∙ sym (number-five x)
+
+  pub last-drawable : Drawable x → Drawable e
+  last-drawable h = rw last-of-five (number-drawable turnDraws x h)
+
+pub ruleset five-cases = (turn-of-five, last-of-five, last-drawable)
 
 -- ---- turns one after another
 
@@ -161,6 +166,9 @@ module _ (seed groomers slopes turns : ℕ) {f : ℕ} (e : f ≡ firstOf (seedCa
 
     pub counts-fit : Legal garage (countsOf groomers slopes) turns
     counts-fit = parts .1
+
+    pub seed-narrow : Fits w32 seed
+    seed-narrow = let h = parts .0 .to in record { fits = omega arith }
 
     pub groomer-count-fits : Fits w16 groomers
     unfolding garage

@@ -1,9 +1,9 @@
 -- Draws stay where they can be drawn, and each drawn turn is in range. Assumes nothing.
 use Prim.Native.Nat.{ℕ, zero, suc, _+_, _*_, _/_, _%_, _<_, _≤_}
-use mathlib.Core.Path.{_≡_, refl, ap}
+use mathlib.Core.Path.{_≡_, refl, sym, _∙_, ap}
 use mathlib.Core.Bool.{Bool, true, false, cond}
 use native.Mathlib.Omega.{arith}
-use native.Mathlib.Nat.{mod-lt}
+use native.Mathlib.Nat.{mod-lt, add-mul-mod-self-left}
 use lib.Dec.{ltb}
 use lib.ListN.{length, getD}
 use borrow.Author.Tests.{ltb-true, ltb-false}
@@ -44,6 +44,49 @@ pub number-add : (j k x : ℕ) → drawNumber k (drawNumber j x) ≡ drawNumber 
 unfolding drawNumber
 number-add zero k x = let e : 0 + k ≡ k = omega arith in rw e
 number-add (suc j) k x = let e : suc j + k ≡ suc (j + k) = omega arith in rw e (number-add j k (nextDraw x))
+
+-- ---- draws further on, each from x by one product: the factor times a power of it is the next power, but for a multiple of the modulus
+
+same-remainder : (a b j k : ℕ) → a + drawModulus * j ≡ b + drawModulus * k → a % drawModulus ≡ b % drawModulus
+same-remainder a b j k e = sym (add-mul-mod-self-left a drawModulus j) ∙ ap (λ (n : ℕ). n % drawModulus) e ∙ add-mul-mod-self-left b drawModulus k
+
+second-step : (x : ℕ) → nextDraw (16807 * x % drawModulus) ≡ 282475249 * x % drawModulus
+unfolding nextDraw
+second-step x = same-remainder (drawFactor * (16807 * x % drawModulus)) (282475249 * x) (drawFactor * (16807 * x / drawModulus)) (0 * x) (omega arith)
+
+third-step : (x : ℕ) → nextDraw (282475249 * x % drawModulus) ≡ 1622650073 * x % drawModulus
+unfolding nextDraw
+third-step x = same-remainder (drawFactor * (282475249 * x % drawModulus)) (1622650073 * x) (drawFactor * (282475249 * x / drawModulus)) (2210 * x) (omega arith)
+
+fourth-step : (x : ℕ) → nextDraw (1622650073 * x % drawModulus) ≡ 984943658 * x % drawModulus
+unfolding nextDraw
+fourth-step x = same-remainder (drawFactor * (1622650073 * x % drawModulus)) (984943658 * x) (drawFactor * (1622650073 * x / drawModulus)) (12699 * x) (omega arith)
+
+fifth-step : (x : ℕ) → nextDraw (984943658 * x % drawModulus) ≡ 1144108930 * x % drawModulus
+unfolding nextDraw
+fifth-step x = same-remainder (drawFactor * (984943658 * x % drawModulus)) (1144108930 * x) (drawFactor * (984943658 * x / drawModulus)) (7708 * x) (omega arith)
+
+-- one draw more
+number-next : (k x : ℕ) → drawNumber (suc k) x ≡ nextDraw (drawNumber k x)
+unfolding drawNumber
+number-next zero x = refl
+number-next (suc k) x = number-next k (nextDraw x)
+
+pub number-one : (x : ℕ) → drawNumber 1 x ≡ 16807 * x % drawModulus
+unfolding drawNumber nextDraw
+number-one x = refl
+
+pub number-two : (x : ℕ) → drawNumber 2 x ≡ 282475249 * x % drawModulus
+number-two x = number-next 1 x ∙ ap nextDraw (number-one x) ∙ second-step x
+
+pub number-three : (x : ℕ) → drawNumber 3 x ≡ 1622650073 * x % drawModulus
+number-three x = number-next 2 x ∙ ap nextDraw (number-two x) ∙ third-step x
+
+pub number-four : (x : ℕ) → drawNumber 4 x ≡ 984943658 * x % drawModulus
+number-four x = number-next 3 x ∙ ap nextDraw (number-three x) ∙ fourth-step x
+
+pub number-five : (x : ℕ) → drawNumber 5 x ≡ 1144108930 * x % drawModulus
+number-five x = number-next 4 x ∙ ap nextDraw (number-four x) ∙ fifth-step x
 
 pub ten-thousandth : drawNumber 10000 1 ≡ 1043618065
 unfolding drawNumber nextDraw

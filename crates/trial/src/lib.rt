@@ -10,7 +10,7 @@ ghost use Rattle.sheet.specs.Kind.{garage};
 ghost use Rattle.sheet.specs.Accepted.{Legal};
 ghost use Rattle.writing.specs.Write.{writeOf};
 ghost use Rattle.writer.specs.Answer.{written};
-ghost use Rattle.trial.specs.Draw.{lengthPlaces, nextDraw, drawNumber, drawnLength, fromOne, turnDrawn, turnDraws, turnAfter, drawnTable, Drawable};
+ghost use Rattle.trial.specs.Draw.{drawModulus, lengthPlaces, nextDraw, drawNumber, drawnLength, fromOne, turnDrawn, turnDraws, turnAfter, drawnTable, Drawable};
 ghost use Rattle.trial.specs.Trial.{seedCauses, drawOf};
 use sheet::TABLE_PLACES;
 use turns::Counts;
@@ -24,15 +24,27 @@ const DRAW_FACTOR: u64 = 16807;
 
 const DRAW_MODULUS: u64 = 2147483647;
 
-// Starts are 0 to one less than this, and lengths go by the place of a draw among so many.
-const DRAWN_STARTS: u64 = 841;
+// Two to the power of 31, which is 1 more than the modulus.
+const DRAW_POWER: u64 = 2147483648;
 
-const LENGTH_PLACES: u64 = 100;
+// The factor's second to fifth power, modulo the modulus: what a draw is multiplied by for those after the next.
+const SECOND_FACTOR: u64 = 282475249;
+
+const THIRD_FACTOR: u64 = 1622650073;
+
+const FOURTH_FACTOR: u64 = 984943658;
+
+const FIFTH_FACTOR: u64 = 1144108930;
+
+// Starts are 0 to one less than this, and lengths go by the place of a draw among so many.
+const DRAWN_STARTS: u32 = 841;
+
+const LENGTH_PLACES: u32 = 100;
 
 // A drawn turn, and the last of its draws.
 pub struct Drawn {
     pub turn: Turn,
-    pub last: u64,
+    pub last: u32,
 }
 
 // The draw after x. It is never 0 and never the modulus, so drawing goes on for ever.
@@ -43,8 +55,21 @@ pub fn next_draw(x: u64) -> u64
     DRAW_FACTOR * x % DRAW_MODULUS
 }
 
+// The remainder of a product of two draws by the modulus, without a division: what stands above two to the power of
+// 31 counts once more.
+fn remainder(product: u64) -> u32
+    requires { ⌜ product < drawModulus * drawModulus ⌝ }
+    ensures { λ r. ⌜ r ≡ product % drawModulus ⌝ }
+{
+    let sum = product % DRAW_POWER + product / DRAW_POWER;
+    if sum < DRAW_MODULUS {
+        return sum as u32;
+    }
+    (sum - DRAW_MODULUS) as u32
+}
+
 // A turn's length.
-fn drawn_length(draw: u64) -> u16
+fn drawn_length(draw: u32) -> u16
     ensures { λ r. ⌜ r ≡ drawnLength (draw % lengthPlaces) ⌝ }
 {
     let place = draw % LENGTH_PLACES;
@@ -57,22 +82,22 @@ fn drawn_length(draw: u64) -> u16
 }
 
 // A number from 1 to a count.
-fn from_one(count: u16, draw: u64) -> u16
+fn from_one(count: u16, draw: u32) -> u16
     requires { ⌜ 1 ≤ count ⌝ }
     ensures { λ r. ⌜ r ≡ fromOne count draw ⌝ }
 {
-    let wide = count as u64;
+    let wide = count as u32;
     (1 + draw % wide) as u16
 }
 
 // The turn of five draws.
 fn turn_drawn(
     counts: Counts,
-    slope: u64,
-    groomer: u64,
-    start: u64,
-    minutes: u64,
-    worth: u64,
+    slope: u32,
+    groomer: u32,
+    start: u32,
+    minutes: u32,
+    worth: u32,
 ) -> Turn
     requires { ⌜ (1 ≤ counts .groomers) × (1 ≤ counts .slopes) ⌝ }
     ensures { λ r. ⌜ r ≡ turnDrawn counts slope groomer start minutes worth ⌝ }
@@ -87,16 +112,17 @@ fn turn_drawn(
     }
 }
 
-// The turn of the five draws after x.
-fn turn_after(counts: Counts, x: u64) -> Drawn
+// The turn of the five draws after x. Each is had from x itself, so that none waits for another.
+fn turn_after(counts: Counts, x: u32) -> Drawn
     requires { ⌜ (1 ≤ counts .groomers) × (1 ≤ counts .slopes) × Drawable x ⌝ }
     ensures { λ r. ⌜ (r .turn ≡ turnAfter counts x) × (r .last ≡ drawNumber turnDraws x) × Drawable (r .last) ⌝ }
 {
-    let slope = next_draw(x);
-    let groomer = next_draw(slope);
-    let start = next_draw(groomer);
-    let minutes = next_draw(start);
-    let worth = next_draw(minutes);
+    let from = x as u64;
+    let slope = remainder(DRAW_FACTOR * from);
+    let groomer = remainder(SECOND_FACTOR * from);
+    let start = remainder(THIRD_FACTOR * from);
+    let minutes = remainder(FOURTH_FACTOR * from);
+    let worth = remainder(FIFTH_FACTOR * from);
     Drawn {
         turn: turn_drawn(counts, slope, groomer, start, minutes, worth),
         last: worth,
@@ -104,7 +130,7 @@ fn turn_after(counts: Counts, x: u64) -> Drawn
 }
 
 // The rows of n drawn turns at the front of a table.
-fn fill_turns(seed: u64, counts: Counts, n: u16, table: &mut [u16])
+fn fill_turns(seed: u32, counts: Counts, n: u16, table: &mut [u16])
     requires { ⌜ (1 ≤ counts .groomers) × (1 ≤ counts .slopes) × Drawable seed × (rowNumbers * n ≤ length (now table)) ⌝ }
     ensures { λ _. ⌜ now (table .exit) ≡ puts (now (table .entry)) 0 (drawnTable n counts seed) ⌝ }
 {
@@ -120,7 +146,7 @@ fn fill_turns(seed: u64, counts: Counts, n: u16, table: &mut [u16])
 }
 
 // What the writer makes of n drawn turns.
-fn write_drawn(seed: u64, counts: Counts, n: u16, out: &mut [u8]) -> WriteAnswer
+fn write_drawn(seed: u32, counts: Counts, n: u16, out: &mut [u8]) -> WriteAnswer
     requires { ⌜ Drawable seed × Legal garage counts n ⌝ }
     ensures { λ r. ⌜ written r (now (out .exit)) ≡ writeOf counts (drawnTable n counts seed) (now (out .entry)) ⌝ }
 {
@@ -164,5 +190,5 @@ pub fn draw(seed: u64, groomers: u32, slopes: u32, turns: u32, out: &mut [u8]) -
         groomers: groomers as u16,
         slopes: slopes as u16,
     };
-    write_drawn(seed, counts, turns as u16, &mut *out)
+    write_drawn(seed as u32, counts, turns as u16, &mut *out)
 }

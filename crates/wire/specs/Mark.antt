@@ -1,5 +1,5 @@
 -- The opening marks: three fixed bytes each (document 01: the sheet, the board; requests R-12, R-14). Assumes nothing.
-use mathlib.Core.Bool.{Bool, true, false, _&&_}
+use mathlib.Core.Bool.{Bool, _&&_}
 use mathlib.Core.List.{List, [], _∷_}
 use Prim.Native.Nat.{ℕ}
 use lib.Dec.{eqb}

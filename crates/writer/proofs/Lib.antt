@@ -1,3 +1,4 @@
+pub mod Overs
 pub mod WriteRecords
 pub mod Measures
 pub mod Writings

@@ -1,20 +1,20 @@
 -- What is promised of the bytes that the writer says it wrote, where it refuses nothing. Assumes nothing.
-use Prim.Native.Nat.{ℕ, _*_, _≤_}
-use mathlib.Core.Path.{_≡_, refl, sym, _∙_, ap, subst}
+use Prim.Native.Nat.{ℕ, _≤_}
+use mathlib.Core.Path.{_≡_, refl, sym, _∙_, ap}
 use mathlib.Core.Bool.{true}
-use mathlib.Core.List.{List, _∷_, _++_}
+use mathlib.Core.List.{List, _∷_}
 use native.Mathlib.Omega.{arith}
-use lib.ListN.{length, getD, take, drop}
+use lib.ListN.{length, getD, drop}
 use lib.Seq.{take-append-seam, drop-append-seam, take-at, drop-at}
 use Rattle.refusal.specs.Cause.{firstOf}
-use Rattle.refusal.specs.Written.{Written, wrote}
+use Rattle.refusal.specs.Written.{wrote}
 use Rattle.turns.specs.declared.Turn.{Turn}
 use Rattle.turns.specs.declared.Counts.{Counts}
-use Rattle.turns.specs.Turn.{rowNumbers, rows, tableRows, tableTurns}
+use Rattle.turns.specs.Turn.{rows, tableRows, tableTurns}
 use Rattle.turns.proofs.Rows.{rows-length, turns-rows}
-use Rattle.sheet.specs.Kind.{garage, firstMap, fullMap}
+use Rattle.sheet.specs.Kind.{garage}
 use Rattle.sheet.specs.Record.{firstCursor}
-use Rattle.sheet.specs.Read.{countsIn, turnsOf, tableOf, Outcome, outcome, atFront, readOf}
+use Rattle.sheet.specs.Read.{tableOf, outcome, atFront, readOf}
 use Rattle.sheet.specs.Layout.{recordOf}
 use Rattle.sheet.proofs.SoundKinds.{garage-sound}
 use Rattle.sheet.proofs.Accepting.{sheet-reads}

@@ -25,7 +25,7 @@ use Rattle.writing.specs.Order.{sortedTurns}
 abbrev pub differs : ℕ → ℕ → ℕ
 differs a b = cond (eqb a b) 0 1
 
--- in the first record every bit but the driver's stands; that one, and in a later record any, only where the value differs from the turn before; before the first the driver is none
+-- the map of turn t's record, written after turn p. A later record has a bit for each value that differs from p's. The first record has every bit but the driver's, and this one only for a driver other than 0, since before it p has driver 0
 unfoldable pub mapFor : Bool → Turn → Turn → ℕ
 mapFor true p t = firstMap + 32 * differs (p .driver) (t .driver)
 mapFor false p t =

@@ -1,7 +1,6 @@
 use Prim.Native.Nat.{_*_, _/_, _%_, _^_, _<_}
 use lib.Count.{trailing-le}
 use Rattle.choicemap.proofs.Bytes.{low-byte}
-use mathlib.Core.Path.{_≡_}
 use native.Mathlib.Omega.{arith}
 use borrow.Author.Needs.{needs}
 use Rattle.choicemap.proofs.low_bit.Statement.{statement}

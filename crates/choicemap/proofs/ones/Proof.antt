@@ -1,5 +1,4 @@
 use Rattle.choicemap.proofs.Bytes.{ones-byte, ones-most}
-use borrow.Author.Needs.{needs}
 use Rattle.choicemap.proofs.ones.Statement.{statement}
 use Rattle.choicemap.proofs.ones.Tie as tie
 

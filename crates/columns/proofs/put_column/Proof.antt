@@ -2,7 +2,7 @@ use Rattle.columns.proofs.ColumnCases.{size-more, put-more}
 use borrow.Author.Needs.{needs}
 use Rattle.columns.proofs.ColumnCases.{column-cases}
 use mathlib.Core.Path.{_≡_}
-use Prim.Native.Nat.{_+_, _-_, _*_, _≤_}
+use Prim.Native.Nat.{_+_, _-_, _≤_}
 use lib.ListN.{length, drop}
 use Rattle.wire.specs.Number.{puts}
 use Rattle.turns.specs.Turn.{turnsOfTable}

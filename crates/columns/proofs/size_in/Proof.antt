@@ -1,5 +1,4 @@
 use Rattle.columns.proofs.ColumnCases.{byte-size, wide-size}
-use Rattle.columns.proofs.ColumnCases.{field-in-cases}
 use borrow.Author.Needs.{needs}
 use Rattle.columns.proofs.size_in.Statement.{statement}
 use Rattle.columns.proofs.size_in.Tie as tie

@@ -4,8 +4,6 @@ use Prim.Native.Nat.{_-_}
 use lib.ListN.{length}
 use Rattle.exact.proofs.clear.Statement.{statement}
 use Rattle.exact.proofs.clear.Tie as tie
-use Rattle.exact.proofs.clear.Reads as reads
-use Rattle.exact.proofs.clear.Lts as lts
 
 abbrev Inv-loop : tie.InvT-loop
 Inv-loop map₀ i₀ map i = Cleared map map₀ i

@@ -1,4 +1,4 @@
-use Rattle.trial.proofs.Drawings.{groomer-count-fits, slope-count-fits, turn-count-fits, draw-cases}
+use Rattle.trial.proofs.Drawings.{seed-narrow, groomer-count-fits, slope-count-fits, turn-count-fits, draw-cases}
 use borrow.Author.Needs.{needs}
 use Rattle.trial.proofs.draw.Statement.{statement}
 use Rattle.trial.proofs.draw.Tie as tie
@@ -16,7 +16,10 @@ cast-t10 : tie.Need-cast-t10
 cast-t10 c = search slope-count-fits
 
 cast-write-drawn-2 : tie.Need-cast-write-drawn-2
-cast-write-drawn-2 c = search turn-count-fits
+cast-write-drawn-2 c = search seed-narrow
+
+cast-write-drawn-3 : tie.Need-cast-write-drawn-3
+cast-write-drawn-3 c = search turn-count-fits
 
 write-drawn-requires : tie.Need-write-drawn-requires
 write-drawn-requires c κs = search draw-cases
@@ -36,6 +39,7 @@ draw-spec =
     cast-write-drawn
     cast-t10
     cast-write-drawn-2
+    cast-write-drawn-3
     write-drawn-requires
     same-length
     returns-2)

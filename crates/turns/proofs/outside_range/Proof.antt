@@ -1,4 +1,3 @@
-use borrow.Author.Needs.{needs}
 use borrow.Author.Tests.{eq-eqb, ne-eqb}
 use Rattle.turns.specs.Turn.{outsideRange}
 use Rattle.turns.proofs.outside_range.Statement.{statement}

@@ -3,8 +3,8 @@ use Rattle.archive.specs.Kept.{mapsFrom}
 use Rattle.columns.specs.Column.{widths}
 use Rattle.sheet.specs.Read.{headerBytes}
 use Rattle.wire.specs.Number.{puts}
-use lib.ListN.{length, drop}
-use Prim.Native.Nat.{_+_, _-_, _*_, _≤_}
+use lib.ListN.{length}
+use Prim.Native.Nat.{_+_, _-_, _≤_}
 use mathlib.Core.Path.{_≡_}
 use borrow.Author.Needs.{needs}
 use Rattle.archive.proofs.keeping.fill_maps.Statement.{statement}

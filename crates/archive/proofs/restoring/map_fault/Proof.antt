@@ -3,7 +3,7 @@ use Rattle.archive.specs.Archive.{mapsCauses}
 use Rattle.refusal.specs.Cause.{firstOf}
 use mathlib.Core.Bool.{true}
 use lib.ListN.{length, drop}
-use Prim.Native.Nat.{_+_, _-_, _*_, _≤_}
+use Prim.Native.Nat.{_-_, _≤_}
 use mathlib.Core.Path.{_≡_}
 use borrow.Author.Needs.{needs}
 use Rattle.archive.proofs.restoring.map_fault.Statement.{statement}

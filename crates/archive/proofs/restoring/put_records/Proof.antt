@@ -5,7 +5,7 @@ use Rattle.sheet.specs.Read.{headerBytes}
 use Rattle.turns.specs.Turn.{turnsOfTable}
 use Rattle.wire.specs.Number.{puts}
 use lib.ListN.{length, drop}
-use Prim.Native.Nat.{_+_, _-_, _*_, _≤_}
+use Prim.Native.Nat.{_+_, _-_, _≤_}
 use mathlib.Core.Path.{_≡_}
 use borrow.Author.Needs.{needs}
 use Rattle.archive.proofs.restoring.put_records.Statement.{statement}
@@ -23,14 +23,17 @@ loop-holds c = (search needs, search needs, search (needs, records-cases), searc
 turn-at-requires : tie.Need-turn-at-requires Inv-loop μ-loop
 turn-at-requires c κs = search (needs, records-cases)
 
-shared-slice-read-put-record : tie.Need-shared-slice-read-put-record Inv-loop μ-loop
-shared-slice-read-put-record c = search (needs, records-cases)
-
-put-record-requires : tie.Need-put-record-requires Inv-loop μ-loop
-put-record-requires c κs = search (needs, records-cases)
+shared-slice-read-m : tie.Need-shared-slice-read-m Inv-loop μ-loop
+shared-slice-read-m c = search (needs, records-cases)
 
 add-i : tie.Need-add-i Inv-loop μ-loop
 add-i c = search (needs, records-cases)
+
+sub-put-record : tie.Need-sub-put-record Inv-loop μ-loop
+sub-put-record c = search (needs, records-cases)
+
+put-record-requires : tie.Need-put-record-requires Inv-loop μ-loop
+put-record-requires c κs = search (needs, records-cases)
 
 loop-less : tie.Need-loop-less Inv-loop μ-loop
 loop-less c = search (needs, records-cases)
@@ -52,9 +55,10 @@ put-records-spec =
     μ-loop
     loop-holds
     turn-at-requires
-    shared-slice-read-put-record
-    put-record-requires
+    shared-slice-read-m
     add-i
+    sub-put-record
+    put-record-requires
     loop-less
     loop-again
     same-length

@@ -22,7 +22,7 @@ slice-aggregate-steps-fault : tie.Need-slice-aggregate-steps-fault
 slice-aggregate-steps-fault c = sym (length-take-le _ _ (omega arith))
 
 steps-fault-requires : tie.Need-steps-fault-requires
-steps-fault-requires c κs = (length-take-le _ _ (omega arith), search needs, search needs, search needs)
+steps-fault-requires c κs = (length-take-le _ _ (omega arith), search needs, search needs, search needs, search needs)
 
 returns-2 : tie.Need-returns-2
 returns-2 c = search (needs, rules-cases)

@@ -12,18 +12,18 @@ use lib.ListN.{length}
 use mathlib.Core.Path.{_≡_}
 use Prim.Native.Nat.{_-_, _≤_}
 use borrow.Author.Needs.{needs}
-use Rattle.charging.proofs.Planned.{small-cases}
+use Rattle.charging.proofs.Planned.{small-cases, small-start}
 use Rattle.charging.proofs.running.run_steps.Statement.{statement}
 use Rattle.charging.proofs.running.run_steps.Tie as tie
 
 abbrev Inv-loop : tie.InvT-loop
-Inv-loop rest₀ a cols own out₀ n m₀ rest out m = (m ≤ n) × Residuals n rest × OnlySmall a cols rest × (length out ≡ length out₀) × Counted (a .size) own (afterStepBy (smallTakes (hallBy a cols))) rest m (length (planBy (turnsBy (a .size) own) (afterStepBy (smallTakes (hallBy a cols))) n rest₀)) × Put (a .size) own (afterStepBy (smallTakes (hallBy a cols))) rest m out (puts out₀ 0 (stepBytes (planBy (turnsBy (a .size) own) (afterStepBy (smallTakes (hallBy a cols))) n rest₀)))
+Inv-loop rest₀ a cols own out₀ n m₀ rest out m = (m ≤ n) × Residuals n rest × OnlySmall a cols rest × (length out ≡ length out₀) × Counted (a .size) own (afterStepBy (smallTakes (hallBy a cols))) rest m (length (planBy (turnsBy (a .size) own) (afterStepBy (smallTakes (hallBy a cols))) n rest₀)) × Put (a .size) own (afterStepBy (smallTakes (hallBy a cols))) (λ t. t) rest m out (puts out₀ 0 (stepBytes (planBy (turnsBy (a .size) own) (afterStepBy (smallTakes (hallBy a cols))) n rest₀)))
 
 abbrev μ-loop : tie.MeasureT-loop
 μ-loop rest₀ a cols own out₀ n m₀ rest out m = n - m
 
 loop-holds : tie.Need-loop-holds Inv-loop μ-loop
-loop-holds c = search (needs, run-cases)
+loop-holds c = (search needs, search needs, search needs, search needs, search run-cases, search small-start)
 
 pick-turn-requires : tie.Need-pick-turn-requires Inv-loop μ-loop
 pick-turn-requires c κs = search needs

@@ -1,16 +1,17 @@
 use Rattle.exact.proofs.SingleCases.{flags-cases, single-cases}
-use Rattle.exact.specs.Held.{Flagged}
+use Rattle.problem.specs.Flags.{Flagged}
 use Rattle.optimum.specs.Single.{singleTurn}
 use Rattle.problem.specs.Columns.{turnsBy}
 use Rattle.lists.specs.Lists.{every}
 use mathlib.Core.Path.{_≡_}
+use mathlib.Core.Bool.{true}
 use Prim.Native.Nat.{_-_, _≤_}
 use borrow.Author.Needs.{needs}
 use Rattle.exact.proofs.single.all_single.Statement.{statement}
 use Rattle.exact.proofs.single.all_single.Tie as tie
 
 abbrev Inv-loop : tie.InvT-loop
-Inv-loop p cols flags₀ all₀ x₀ flags all x = (x ≤ p .count) × Flagged (turnsBy p cols) flags x × (all ≡ every (singleTurn (turnsBy p cols)) x)
+Inv-loop p cols flags₀ all₀ x₀ flags all x = (x ≤ p .count) × Flagged (turnsBy p cols) (λ u. true) x flags × (all ≡ every (singleTurn (turnsBy p cols)) x)
 
 abbrev μ-loop : tie.MeasureT-loop
 μ-loop p cols flags₀ all₀ x₀ flags all x = p .count - x

@@ -8,13 +8,13 @@ use Rattle.orders.proofs.orders.is_earliest.Statement.{statement}
 use Rattle.orders.proofs.orders.is_earliest.Tie as tie
 
 abbrev Inv-loop : tie.InvT-loop
-Inv-loop rest p cols j n all₀ t₀ all t = (t ≤ n) × (all ≡ earliestBelow (turnsBy p cols) rest j t)
+Inv-loop rest p cols j from all₀ t₀ all t = (t ≤ p .count) × (all ≡ earliestBelow (turnsBy p cols) rest j t)
 
 abbrev μ-loop : tie.MeasureT-loop
-μ-loop rest p cols j n all₀ t₀ all t = n - t
+μ-loop rest p cols j from all₀ t₀ all t = j - t
 
 loop-holds : tie.Need-loop-holds Inv-loop μ-loop
-loop-holds c = search (needs, earliest-cases)
+loop-holds c = (search earliest-cases, search earliest-cases)
 
 is-no-earlier-requires : tie.Need-is-no-earlier-requires Inv-loop μ-loop
 is-no-earlier-requires c κs = search needs
@@ -29,7 +29,7 @@ loop-again : tie.Need-loop-again Inv-loop μ-loop
 loop-again c = search (needs, earliest-cases)
 
 returns : tie.Need-returns Inv-loop μ-loop
-returns c = search (needs, earliest-cases)
+returns c = search earliest-cases
 
 pub is-earliest-spec : {M : Type 1} → statement M
 is-earliest-spec =

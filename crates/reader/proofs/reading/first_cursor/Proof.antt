@@ -1,6 +1,5 @@
 use Rattle.sheet.specs.Record.{firstCursor}
 use mathlib.Core.Path.{refl}
-use borrow.Author.Needs.{needs}
 use Rattle.reader.proofs.reading.first_cursor.Statement.{statement}
 use Rattle.reader.proofs.reading.first_cursor.Tie as tie
 

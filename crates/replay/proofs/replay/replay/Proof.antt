@@ -1,27 +1,28 @@
 use borrow.Author.Needs.{needs}
-use Rattle.replay.proofs.Replays.{replay-cases, never}
-use Rattle.ratio.proofs.Replaying.{stepsFrom}
+use Rattle.replay.proofs.Replays.{movesFrom, replay-cases, never}
 use Rattle.ratio.specs.Counting.{costsFrom}
 use Rattle.turns.specs.Turn.{mostWorth}
-use Rattle.ratio.specs.Bounds.{Residuals}
-use Rattle.board.specs.Board.{stepsIn}
+use Rattle.ratio.specs.Bounds.{Residuals, ClosedTo}
+use Rattle.replay.specs.Moves.{movesIn}
 use Rattle.model.specs.Rules.{allRight}
 use Rattle.model.specs.Steps.{afterSteps}
 use Rattle.problem.specs.Columns.{turnsBy}
-use lib.ListN.{length}
-use mathlib.Core.Path.{_≡_, refl}
+use mathlib.Core.Path.{_≡_}
 use Prim.Native.Nat.{_+_, _-_, _*_, _≤_}
 use Rattle.replay.proofs.replay.replay.Statement.{statement}
 use Rattle.replay.proofs.replay.replay.Tie as tie
 
 abbrev Inv-loop : tie.InvT-loop
-Inv-loop rest₀ p cols steps m sum₀ i₀ rest sum i = (i ≤ m) × Residuals (p .count) rest × (sum ≤ 3 * mostWorth * i) × (allRight (turnsBy p cols) rest (stepsFrom (m - i) i steps) ≡ allRight (turnsBy p cols) rest₀ (stepsIn m steps)) × (afterSteps (turnsBy p cols) rest (stepsFrom (m - i) i steps) ≡ afterSteps (turnsBy p cols) rest₀ (stepsIn m steps)) × (sum + costsFrom (turnsBy p cols) rest (stepsFrom (m - i) i steps) ≡ costsFrom (turnsBy p cols) rest₀ (stepsIn m steps))
+Inv-loop rest₀ p cols places steps m sum₀ closed₀ i₀ rest sum closed i = (i ≤ m) × Residuals (p .count) rest × ClosedTo closed rest × (sum ≤ 3 * mostWorth * i) × (allRight (turnsBy p cols) rest (movesFrom places (m - i) i steps) ≡ allRight (turnsBy p cols) rest₀ (movesIn places m steps)) × (afterSteps (turnsBy p cols) rest (movesFrom places (m - i) i steps) ≡ afterSteps (turnsBy p cols) rest₀ (movesIn places m steps)) × (sum + costsFrom (turnsBy p cols) rest (movesFrom places (m - i) i steps) ≡ costsFrom (turnsBy p cols) rest₀ (movesIn places m steps))
 
 abbrev μ-loop : tie.MeasureT-loop
-μ-loop rest₀ p cols steps m sum₀ i₀ rest sum i = m - i
+μ-loop rest₀ p cols places steps m sum₀ closed₀ i₀ rest sum closed i = m - i
 
 loop-holds : tie.Need-loop-holds Inv-loop μ-loop
-loop-holds c = (search needs, search needs, search needs, search replay-cases, search replay-cases, search replay-cases)
+loop-holds c = (search needs, search needs, search replay-cases, search needs, search replay-cases, search replay-cases, search replay-cases)
+
+move-at-requires : tie.Need-move-at-requires Inv-loop μ-loop
+move-at-requires c κs = search needs
 
 replay-one-requires : tie.Need-replay-one-requires Inv-loop μ-loop
 replay-one-requires c κs = search needs
@@ -36,7 +37,7 @@ loop-less : tie.Need-loop-less Inv-loop μ-loop
 loop-less c = search needs
 
 loop-again : tie.Need-loop-again Inv-loop μ-loop
-loop-again c = (search needs, search needs, search needs, search replay-cases, search replay-cases, search replay-cases)
+loop-again c = (search needs, search needs, search needs, search needs, search replay-cases, search replay-cases, search replay-cases)
 
 same-length : tie.Need-same-length Inv-loop μ-loop
 same-length c = search needs
@@ -57,6 +58,7 @@ replay-spec =
     Inv-loop
     μ-loop
     loop-holds
+    move-at-requires
     replay-one-requires
     add-sum
     add-i

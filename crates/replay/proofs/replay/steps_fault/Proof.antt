@@ -1,53 +1,54 @@
-use Rattle.replay.proofs.Replays.{fault-cases}
 use borrow.Author.Needs.{needs}
+use Rattle.replay.proofs.Replays.{judged-by-number}
+use Rattle.placing.proofs.Placed.{order-numbered}
 use Rattle.replay.proofs.replay.steps_fault.Statement.{statement}
 use Rattle.replay.proofs.replay.steps_fault.Tie as tie
 
-set-initial-requires : tie.Need-set-initial-requires
-set-initial-requires c κs = search needs
+sub-order : tie.Need-sub-order
+sub-order c = search needs
 
-replay-requires : tie.Need-replay-requires
-replay-requires c κs = search needs
+part-numbers-start : tie.Need-part-numbers-start
+part-numbers-start c = search needs
 
-none-open-requires : tie.Need-none-open-requires
-none-open-requires c κs = search needs
+part-numbers-end : tie.Need-part-numbers-end
+part-numbers-end c = search needs
 
-fault-at-requires : tie.Need-fault-at-requires
-fault-at-requires c κs = search needs
+put-by-end-requires : tie.Need-put-by-end-requires
+put-by-end-requires c κs = search needs
 
-fault-at-requires-2 : tie.Need-fault-at-requires-2
-fault-at-requires-2 c κs = search needs
+sub-places : tie.Need-sub-places
+sub-places c = search needs
+
+part-spots-start : tie.Need-part-spots-start
+part-spots-start c = search needs
+
+part-spots-end : tie.Need-part-spots-end
+part-spots-end c = search needs
+
+put-places-requires : tie.Need-put-places-requires
+put-places-requires c κs = (search order-numbered, search needs, search needs)
+
+judge-moves-requires : tie.Need-judge-moves-requires
+judge-moves-requires c κs = (search needs, search needs, search needs, search needs, search needs)
 
 same-length : tie.Need-same-length
 same-length c = search needs
 
 returns : tie.Need-returns
-returns c = search (needs, fault-cases)
-
-same-length-2 : tie.Need-same-length-2
-same-length-2 c = search needs
-
-returns-2 : tie.Need-returns-2
-returns-2 c = search (needs, fault-cases)
-
-same-length-3 : tie.Need-same-length-3
-same-length-3 c = search needs
-
-returns-3 : tie.Need-returns-3
-returns-3 c = search (needs, fault-cases)
+returns c = search judged-by-number
 
 pub steps-fault-spec : {M : Type 1} → statement M
 steps-fault-spec =
     tie.close
     (tie.spec
-    set-initial-requires
-    replay-requires
-    none-open-requires
-    fault-at-requires
-    fault-at-requires-2
+    sub-order
+    part-numbers-start
+    part-numbers-end
+    put-by-end-requires
+    sub-places
+    part-spots-start
+    part-spots-end
+    put-places-requires
+    judge-moves-requires
     same-length
-    returns
-    same-length-2
-    returns-2
-    same-length-3
-    returns-3)
+    returns)

@@ -1,0 +1,1 @@
+// Turns under other numbers: definitions and theorems only; no code.
