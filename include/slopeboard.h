@@ -1,7 +1,8 @@
 /* Slope board: reads and writes shift sheets, plans boards, opens and checks them, writes the drivers'
  * listing, assigns groomers where all turns must be done, works out the best worth where each slope has
  * one turn, looks for a better choice than the planned one, draws sheets from a seed, writes sheets by column
- * and back, plays a board with delays, and plans a charging hall. A second reader takes at most 96 turns.
+ * and back, plays a board with delays, plans a charging hall, and works out by prices what no choice can be
+ * worth more than. A second reader takes at most 96 turns.
  *
  * Link libslopeboard.a; all that it asks for beside is memcpy and memset. The archive is for x86-64: its
  * functions are called as the System V ABI says, their structs laid out as it says.
@@ -45,7 +46,7 @@ extern "C" {
 #endif
 
 /* The number of this interface. Each change that a caller can see raises it. */
-#define SLOPEBOARD_VERSION 15
+#define SLOPEBOARD_VERSION 16
 
 /* The refusals. */
 enum {
@@ -75,7 +76,8 @@ enum {
     SLOPEBOARD_TOO_MANY_TO_SEARCH = 22, /* more than 64 turns, for slopeboard_improve */
     SLOPEBOARD_BAD_SEED = 23,         /* the seed is 0 or above SLOPEBOARD_MOST_SEED */
     SLOPEBOARD_BAD_DELAYS = 24,       /* the delays are not one for each turn, or one is above 120 */
-    SLOPEBOARD_BAD_DRAW = 25          /* a window's draw is 0 or above the hall's units */
+    SLOPEBOARD_BAD_DRAW = 25,         /* a window's draw is 0 or above the hall's units */
+    SLOPEBOARD_BAD_PRICES = 26        /* a price list of other than slopes plus turns numbers */
 };
 
 /* The limits, and what buffers can need at most. */
@@ -121,6 +123,7 @@ enum {
 #define SLOPEBOARD_STACK_IMPROVE 17696
 #define SLOPEBOARD_STACK_IS_CHOSEN 8
 #define SLOPEBOARD_STACK_KEEP 5404
+#define SLOPEBOARD_STACK_LIMIT 12368
 #define SLOPEBOARD_STACK_LIST 22808
 #define SLOPEBOARD_STACK_OPEN 8
 #define SLOPEBOARD_STACK_PLAN 15160
@@ -198,6 +201,11 @@ typedef struct {
     uint8_t refusal;
     uint32_t worth;
 } slopeboard_charge_answer;
+
+typedef struct {
+    uint8_t refusal;
+    uint32_t limit; /* no set of turns in which no two exclude each other is worth more */
+} slopeboard_limit_answer;
 
 /* Reads a sheet into a turn table: six numbers a turn, which are slope, groomer, start, length, worth and
  * driver, the last 0 where the turn names none. The answer has the counts of the sheet's header.
@@ -382,6 +390,22 @@ slopeboard_play_answer slopeboard_play(const uint8_t *sheet, size_t sheet_len, c
  * above 1F or, in the first record, below it, 1 for missing fields, 6 for the vehicle, 25 for the draw, 8, 9;
  * then 10; then 11 if map_len is below SLOPEBOARD_MAP_BYTES of the sheet's windows. */
 slopeboard_charge_answer slopeboard_charge(const uint8_t *sheet, size_t sheet_len, uint8_t *map, size_t map_len);
+
+/* Works out a limit by prices: whatever the prices are, no set of turns in which no two exclude each other is
+ * worth more than the limit.
+ *
+ * The list has the prices of slopes 1, 2, .., then those of turns 0, 1, .., one for each that the sheet has. A
+ * turn pays the price of its slope. If it names a driver, it pays besides its own price, and that of each turn of
+ * this driver that excludes it because of the driver and does not end after it. What is then left of its worth,
+ * 0 if nothing is, is what it counts for. For each groomer, the best set of its turns is worked out by these
+ * counts: no two in it exclude each other because of the groomer, and slopes and drivers play no part. Three
+ * things add up to the limit: the prices of all slopes, those of the turns with a driver, and what these sets
+ * count for.
+ *
+ * Refusals: those of slopeboard_read but 11, in their order; then 26 if prices_len is not the number of slopes
+ * and turns together. */
+slopeboard_limit_answer slopeboard_limit(const uint8_t *sheet, size_t sheet_len, const uint16_t *prices,
+                                         size_t prices_len);
 
 #ifdef __cplusplus
 }

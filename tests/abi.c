@@ -273,6 +273,18 @@ static void charging(void) {
     EXPECT(charged.refusal == SLOPEBOARD_BAD_DRAW && charged.worth == 0 && untouched());
 }
 
+/* Seven prices: of three slopes and four turns. */
+static void limiting(void) {
+    uint16_t prices[8] = {0};
+    slopeboard_limit_answer answer = slopeboard_limit(sheet, sizeof sheet, prices, 7);
+    EXPECT(answer.refusal == 0 && answer.limit == 240);
+    prices[0] = 60, prices[1] = 40, prices[2] = 10;
+    answer = slopeboard_limit(sheet, sizeof sheet, prices, 7);
+    EXPECT(answer.refusal == 0 && answer.limit == 300);
+    answer = slopeboard_limit(sheet, sizeof sheet, prices, 8);
+    EXPECT(answer.refusal == SLOPEBOARD_BAD_PRICES && answer.limit == 0);
+}
+
 int main(void) {
     reading();
     writing();
@@ -287,5 +299,6 @@ int main(void) {
     keeping();
     playing();
     charging();
+    limiting();
     return differences != 0;
 }

@@ -14,4 +14,5 @@ pub mod halls;
 pub mod kept;
 pub mod limits;
 pub mod naive;
+pub mod prices;
 pub mod shapes;

@@ -4,10 +4,11 @@
 //! them, writes the drivers' listing, assigns groomers where all turns must be
 //! done, works out the best worth where each slope has one turn, looks for a
 //! better choice than the planned one, draws sheets from a seed, writes sheets
-//! by column and back, plays a board with delays, and plans a charging hall. A
-//! second reader takes at most 96 turns. Every buffer is the caller's: on a
-//! refusal it holds what it held before, and on success so do its places past
-//! the last one written. The order in which refusals are looked for is in
+//! by column and back, plays a board with delays, plans a charging hall, and
+//! works out by prices what no choice can be worth more than. A second reader
+//! takes at most 96 turns. Every buffer is the caller's: on a refusal it holds
+//! what it held before, and on success so do its places past the last one
+//! written. The order in which refusals are looked for is in
 //! `include/slopeboard.h`.
 //!
 //! To build, the environment variable `SLOPEBOARD_LIB_DIR` names the folder of
@@ -24,7 +25,7 @@ pub use refusal::Refusal;
 
 /// The number of this interface, as `SLOPEBOARD_VERSION` in the header: each
 /// change that a caller can see raises it.
-pub const VERSION: u32 = 15;
+pub const VERSION: u32 = 16;
 
 /// Numbers that a turn takes in a turn table: slope, groomer, start, length,
 /// worth, driver. Driver 0 is none.
@@ -287,6 +288,17 @@ pub fn charge(sheet: &[u8], map: &mut [u8]) -> Result<u32, Refusal> {
     let answer = unsafe { raw::slopeboard_charge(sheet.as_ptr(), sheet.len(), map, map_len) };
     refusal::none(answer.refusal)?;
     Ok(answer.worth)
+}
+
+/// Works out a limit by prices: whatever the prices are, no set of the sheet's
+/// turns without a conflict is worth more. The list has a price for each slope,
+/// then one for each turn; with all prices 0 the limit is the sum of what each
+/// groomer's turns earn at best, whatever the slopes and drivers.
+pub fn limit(sheet: &[u8], prices: &[u16]) -> Result<u32, Refusal> {
+    let (prices, prices_len) = (prices.as_ptr(), prices.len());
+    let answer = unsafe { raw::slopeboard_limit(sheet.as_ptr(), sheet.len(), prices, prices_len) };
+    refusal::none(answer.refusal)?;
+    Ok(answer.limit)
 }
 
 fn counts(answer: raw::ReadAnswer) -> Result<Counts, Refusal> {

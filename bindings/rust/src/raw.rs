@@ -99,6 +99,14 @@ pub struct ChargeAnswer {
     pub worth: u32,
 }
 
+/// What a limit by prices is; 0 on a refusal.
+#[repr(C)]
+#[derive(Clone, Copy, Debug, PartialEq, Eq)]
+pub struct LimitAnswer {
+    pub refusal: u8,
+    pub limit: u32,
+}
+
 extern "C" {
     pub fn slopeboard_read(
         sheet: *const u8,
@@ -214,4 +222,11 @@ extern "C" {
         map: *mut u8,
         map_len: usize,
     ) -> ChargeAnswer;
+
+    pub fn slopeboard_limit(
+        sheet: *const u8,
+        sheet_len: usize,
+        prices: *const u16,
+        prices_len: usize,
+    ) -> LimitAnswer;
 }

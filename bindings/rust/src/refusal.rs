@@ -59,10 +59,12 @@ pub enum Refusal {
     BadDelays = 24,
     /// A window's draw is 0 or above the hall's units.
     BadDraw = 25,
+    /// The price list has not one number for each slope and each turn.
+    BadPrices = 26,
 }
 
 /// By number, from 1.
-const ALL: [Refusal; 25] = [
+const ALL: [Refusal; 26] = [
     Refusal::Truncated,
     Refusal::BadMagic,
     Refusal::BadCounts,
@@ -88,6 +90,7 @@ const ALL: [Refusal; 25] = [
     Refusal::BadSeed,
     Refusal::BadDelays,
     Refusal::BadDraw,
+    Refusal::BadPrices,
 ];
 
 impl Refusal {
@@ -95,7 +98,7 @@ impl Refusal {
         self as u8
     }
 
-    /// The refusal with this number; none for 0 and for numbers above 25.
+    /// The refusal with this number; none for 0 and for numbers above 26.
     pub fn from_number(number: u8) -> Option<Refusal> {
         let place = usize::from(number).checked_sub(1)?;
         ALL.get(place).copied()

@@ -3,4 +3,5 @@
 mod order;
 mod table;
 
+pub use table::best_worth;
 pub use table::choose_best;

@@ -124,4 +124,5 @@ figures =
       bad-seed-is = refl;
       bad-delays-is = refl;
       bad-draw-is = refl;
+      bad-prices-is = refl;
     }

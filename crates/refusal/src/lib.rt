@@ -50,3 +50,5 @@ pub const BAD_SEED: u8 = 23; // a seed that no draw can be: 0, or the generator'
 pub const BAD_DELAYS: u8 = 24; // the delay table has not a number for each turn, or a delay is above 120
 
 pub const BAD_DRAW: u8 = 25; // a window's draw is not in 1 to the hall's units
+
+pub const BAD_PRICES: u8 = 26; // a price list of other than slopes plus turns numbers

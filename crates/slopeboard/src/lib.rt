@@ -17,6 +17,7 @@ ghost use Rattle.screen.specs.Screen.{readShortOf};
 ghost use Rattle.trial.specs.Trial.{drawOf};
 ghost use Rattle.exact.specs.Answer.{earned};
 ghost use Rattle.exact.specs.Exact.{exactOf};
+ghost use Rattle.price_spec.specs.Limit.{limitOf};
 ghost use Rattle.improve.specs.Answer.{improved};
 ghost use Rattle.improve.specs.Improve.{improveOf};
 ghost use Rattle.archive.specs.Archive.{keepOf, restoreOf};
@@ -35,6 +36,7 @@ use partition::PartitionAnswer;
 use planner::PlanAnswer;
 use play::PlayAnswer;
 use playing::Standing;
+use price_spec::LimitAnswer;
 use sheet::ReadAnswer;
 use writer::WriteAnswer;
 
@@ -180,4 +182,11 @@ pub extern "C" fn slopeboard_charge(sheet: &[u8], map: &mut [u8]) -> ChargeAnswe
     ensures { λ r. ⌜ charged r (now (map .exit)) ≡ chargeOf (now (sheet .entry)) (now (map .entry)) ⌝ }
 {
     hall::charge(sheet, &mut *map)
+}
+
+#[no_mangle]
+pub extern "C" fn slopeboard_limit(sheet: &[u8], prices: &[u16]) -> LimitAnswer
+    ensures { λ r. ⌜ r ≡ limitOf (now (sheet .entry)) (now (prices .entry)) ⌝ }
+{
+    limit::limit(sheet, prices)
 }

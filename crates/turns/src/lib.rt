@@ -11,7 +11,7 @@ pub const SHIFT_MINUTES: u32 = 960;
 pub const MOST_WORTH: u16 = 60000;
 
 // The greatest number of a driver; 0 is none.
-const MOST_DRIVER: u16 = 40;
+pub const MOST_DRIVER: u16 = 40;
 
 // Numbers a turn in a table.
 pub const ROW_NUMBERS: usize = 6;

@@ -24,8 +24,10 @@ use std::hint::black_box;
 use std::time::{Duration, Instant};
 
 use slopeboard_reference::gen::{self, Rng, Shift};
-use slopeboard_reference::limits::{LAST_END, MOST_DELAY, MOST_GROOMERS, NUMBERS_PER_TURN};
-use slopeboard_reference::{fast, halls, naive, shapes};
+use slopeboard_reference::limits::{
+    LAST_END, MOST_DELAY, MOST_GROOMERS, MOST_WORTH, NUMBERS_PER_TURN,
+};
+use slopeboard_reference::{fast, halls, naive, prices, shapes};
 
 /// How many different sheets a row goes over.
 const SHEETS: usize = 64;
@@ -47,6 +49,7 @@ struct Job {
     board: Vec<u8>,
     kept: Vec<u8>,
     delays: Vec<u16>,
+    prices: Vec<u16>,
     hall: Vec<u8>,
     small_hall: Vec<u8>,
     full_hall: Vec<u8>,
@@ -73,7 +76,9 @@ impl Job {
         let full_hall = halls::encode(rng, &full_hall, 0).bytes;
         let seed = 1 + u64::from(rng.below(2_147_483_646));
         let delay = |_| rng.between(0, MOST_DELAY.into()) as u16;
-        let delays = shift.turns.iter().map(delay);
+        let delays: Vec<u16> = shift.turns.iter().map(delay).collect();
+        let count = usize::from(shift.slopes) + shift.turns.len();
+        let prices = prices::list(rng, 4, count, MOST_WORTH.into());
         Job {
             groomers: shift.groomers.into(),
             slopes: shift.slopes.into(),
@@ -81,7 +86,8 @@ impl Job {
             sheet,
             board,
             kept,
-            delays: delays.collect(),
+            delays,
+            prices,
             hall,
             small_hall,
             full_hall,
@@ -155,6 +161,14 @@ const BEST: Entry = Entry {
     name: "best",
     library: |job| slopeboard::best(&job.sheet, &mut job.bytes).is_ok(),
     reference: |job| fast::best(&job.sheet, &mut job.bytes).is_ok(),
+};
+
+/// The entry that gives a limit by prices: about what a turn is worth on each
+/// slope and turn.
+const LIMIT: Entry = Entry {
+    name: "limit",
+    library: |job| slopeboard::limit(&job.sheet, &job.prices).is_ok(),
+    reference: |job| fast::limit(&job.sheet, &job.prices).is_ok(),
 };
 
 /// The most visits of the search.
@@ -487,6 +501,14 @@ const TABLE: &[Rows] = &[
             ("k=16", single_of_16, &[60, 120]),
             ("k=4", single_of_4, &[120]),
             ("k=1 *", single_of_1, &[120]),
+        ],
+    ),
+    (
+        &LIMIT,
+        &[
+            ("", usual_sheet, &[200, 400]),
+            ("w", widest_sheet, &[400]),
+            ("d *", driven_sheet, &[400]),
         ],
     ),
     (

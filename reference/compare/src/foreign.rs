@@ -4,7 +4,7 @@
 use slopeboard::raw;
 pub use slopeboard::raw::{
     AssignAnswer, BestAnswer, BytesAnswer, ChargeAnswer, CheckAnswer, CountAnswer, ImproveAnswer,
-    Part, PlayAnswer, ReadAnswer, Standing,
+    LimitAnswer, Part, PlayAnswer, ReadAnswer, Standing,
 };
 
 /// A slice as the library takes it. An empty one may come with any pointer,
@@ -139,4 +139,10 @@ pub fn play(sheet: &[u8], board: &[u8], delays: &[u16], list: &mut [Standing]) -
 pub fn charge(sheet: &[u8], map: &mut [u8]) -> ChargeAnswer {
     let ((sheet, sheet_len), (map, map_len)) = (parts(sheet), parts_mut(map));
     unsafe { raw::slopeboard_charge(sheet, sheet_len, map, map_len) }
+}
+
+/// Gives the limit of a sheet at these prices.
+pub fn limit(sheet: &[u8], prices: &[u16]) -> LimitAnswer {
+    let ((sheet, sheet_len), (prices, prices_len)) = (parts(sheet), parts(prices));
+    unsafe { raw::slopeboard_limit(sheet, sheet_len, prices, prices_len) }
 }

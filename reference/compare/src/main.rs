@@ -19,6 +19,7 @@ mod floor;
 mod foreign;
 mod improve;
 mod keep;
+mod limit;
 mod list;
 mod open;
 mod partition;
@@ -36,7 +37,7 @@ use std::process::ExitCode;
 use std::time::{Duration, Instant};
 
 /// Each entry's comparison, and the seed of its inputs.
-const ENTRIES: [(fn(u64) -> bool, u64); 17] = [
+const ENTRIES: [(fn(u64) -> bool, u64); 18] = [
     (read::run, 2024),
     (read::run_short, 2034),
     (write::run, 2025),
@@ -54,6 +55,7 @@ const ENTRIES: [(fn(u64) -> bool, u64); 17] = [
     (keep::run_restore, 2039),
     (play::run, 2040),
     (charge::run, 2041),
+    (limit::run, 2042),
 ];
 
 /// All entries once, on the inputs of the gate, and the drawn sheets.

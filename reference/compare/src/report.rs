@@ -5,7 +5,7 @@ use std::sync::atomic::{AtomicBool, Ordering};
 use std::sync::Mutex;
 
 /// Highest refusal number.
-const LAST_REFUSAL: usize = 25;
+const LAST_REFUSAL: usize = 26;
 
 /// How often each refusal that an entry can give must have been seen.
 const LEAST_IN_BIN: u64 = 200;

@@ -108,3 +108,11 @@ pub fn put(content: &Content, out: &mut [u8]) -> usize {
     }
     len
 }
+
+/// Puts another choice on a board: its worth, and its map, which is handed to a
+/// function that fills it.
+pub fn put_choice(board: &mut [u8], worth: u32, put_map: impl FnOnce(&mut [u8])) {
+    let turns = usize::from(u16::from_be_bytes([board[3], board[4]]));
+    board[11..15].copy_from_slice(&worth.to_be_bytes());
+    put_map(&mut board[HEADER_LEN..][..map_len(turns)]);
+}

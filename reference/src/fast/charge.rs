@@ -17,20 +17,25 @@ pub fn charge(sheet: &[u8], map: &mut [u8]) -> Result<u32, u8> {
     let windows = &windows[..count];
     let map = map.get_mut(..map_len(count));
     let map = map.ok_or(refusal::BUFFER_TOO_SMALL)?;
-    let small = plan::<false>(windows, units);
-    let large = plan::<true>(windows, units);
-    let better = if large.worth > small.worth {
-        large
-    } else {
-        small
-    };
+    let better = planned(windows, units);
     map.copy_from_slice(&better.map[..map.len()]);
     Ok(better.worth)
 }
 
+/// The better of the two plans.
+pub fn planned(windows: &[Turn], units: u32) -> Plan {
+    let small = plan::<false>(windows, units);
+    let large = plan::<true>(windows, units);
+    if large.worth > small.worth {
+        large
+    } else {
+        small
+    }
+}
+
 /// Goes through all bytes of a charging sheet. Gives the units and the number
 /// of windows.
-fn parse(sheet: &[u8], windows: &mut TurnArray) -> Result<(u32, usize), u8> {
+pub fn parse(sheet: &[u8], windows: &mut TurnArray) -> Result<(u32, usize), u8> {
     if sheet.len() < HEADER_LEN {
         return Err(refusal::TRUNCATED);
     }
@@ -81,9 +86,9 @@ fn judge(window: &Turn, units: u16, vehicles: u16) -> Result<(), u8> {
 }
 
 /// What the windows of one kind come to.
-struct Plan {
-    map: [u8; MOST_TURNS / 8],
-    worth: u32,
+pub struct Plan {
+    pub map: [u8; MOST_TURNS / 8],
+    pub worth: u32,
 }
 
 /// Plans the windows whose draw is more than half of the units, or those whose
@@ -162,7 +167,7 @@ fn take<const LARGE: bool>(windows: &[Turn], residuals: &mut [i32], picked: u16,
 }
 
 /// Chosen windows that the supply carries.
-struct Selection {
+pub struct Selection {
     units: u8,
     /// By minute, the units drawn.
     drawn: [u8; LAST_END as usize],
@@ -172,7 +177,7 @@ struct Selection {
 }
 
 impl Selection {
-    fn new(units: u32) -> Selection {
+    pub fn new(units: u32) -> Selection {
         Selection {
             // At most 48.
             units: units as u8,
@@ -184,7 +189,7 @@ impl Selection {
 
     /// Adds the window if the vehicle has none and the supply is enough. A
     /// window already chosen is not added again, since its vehicle has one.
-    fn add(&mut self, window: &Turn) -> bool {
+    pub fn add(&mut self, window: &Turn) -> bool {
         if self.vehicles >> window.slope & 1 != 0 {
             return false;
         }
@@ -198,5 +203,8 @@ impl Selection {
             self.worth += u32::from(window.worth);
         }
         fits
+    }
+    pub fn worth(&self) -> u32 {
+        self.worth
     }
 }

@@ -50,3 +50,5 @@ pub const BAD_SEED: u8 = 23;
 pub const BAD_DELAYS: u8 = 24;
 /// A window's draw is 0 or above the units.
 pub const BAD_DRAW: u8 = 25;
+
+pub const BAD_PRICES: u8 = 26;

@@ -103,6 +103,23 @@ pub fn judge_counts(groomers: u32, slopes: u32) -> Result<(), u8> {
     }
 }
 
+/// By value, how many turns have a lesser one.
+pub fn first_places<const VALUES: usize>(
+    turns: &[Turn],
+    value: impl Fn(&Turn) -> u16,
+) -> [u16; VALUES] {
+    let mut places = [0; VALUES];
+    for turn in turns {
+        places[usize::from(value(turn))] += 1;
+    }
+    let mut sum = 0;
+    for place in &mut places {
+        sum += *place;
+        *place = sum - *place;
+    }
+    places
+}
+
 /// Chosen turns without a conflict among them, all of them judged before.
 /// There is room for one turn a slope, which is as many as can ever be free
 /// of conflict.

@@ -33,16 +33,19 @@ pub struct Plan {
 /// the charging sheet's refusals 11.
 pub fn charge(sheet: &[u8], map: &mut [u8]) -> Result<u32, u8> {
     let hall = accept_hall(sheet)?;
-    let small = planned(&hall, Kind::Small);
-    let large = planned(&hall, Kind::Large);
-    let small_worth = worth(&hall.windows, &small.chosen);
-    let large_worth = worth(&hall.windows, &large.chosen);
-    if large_worth > small_worth {
-        lend(&choice_map(&large.chosen), map)?;
-        Ok(large_worth as u32)
-    } else {
-        lend(&choice_map(&small.chosen), map)?;
-        Ok(small_worth as u32)
+    let chosen = better_plan(&hall);
+    lend(&choice_map(&chosen), map)?;
+    Ok(worth(&hall.windows, &chosen) as u32)
+}
+
+/// The choice of the plan that is worth more, that of the small ones if neither
+/// is.
+pub fn better_plan(hall: &Hall) -> Vec<bool> {
+    let small = planned(hall, Kind::Small).chosen;
+    let large = planned(hall, Kind::Large).chosen;
+    match worth(&hall.windows, &large) > worth(&hall.windows, &small) {
+        true => large,
+        false => small,
     }
 }
 

@@ -5,7 +5,7 @@
 #![allow(dead_code)]
 
 use slopeboard_reference::gen::{self, Rng, Row, Shift};
-use slopeboard_reference::naive::{Counts, Improved, Standing, Sums};
+use slopeboard_reference::naive::{ChargeRefined, Counts, Improved, Refined, Standing, Sums};
 use slopeboard_reference::{fast, naive};
 
 /// A sheet of as many groomers and slopes as there can be, with these turns.
@@ -133,6 +133,60 @@ pub fn charge(sheet: &[u8], map: &mut [u8]) -> Result<u32, u8> {
     let answer = naive::charge(sheet, map);
     assert_eq!(fast::charge(sheet, &mut other), answer, "{sheet:?}");
     assert_eq!(other, map, "{sheet:?}");
+    answer
+}
+
+pub fn limit(sheet: &[u8], prices: &[u16]) -> Result<u32, u8> {
+    let answer = naive::limit(sheet, prices);
+    assert_eq!(fast::limit(sheet, prices), answer, "{sheet:?} {prices:?}");
+    answer
+}
+
+pub fn refine(
+    sheet: &[u8],
+    rounds: u32,
+    board: &mut [u8],
+    prices: &mut [u16],
+) -> Result<Refined, u8> {
+    let (mut other, mut other_prices) = (board.to_vec(), prices.to_vec());
+    let answer = naive::refine(sheet, rounds, board, prices);
+    let fast = fast::refine(sheet, rounds, &mut other, &mut other_prices);
+    let fast = fast.map(|found| Refined {
+        bytes: found.bytes,
+        worth: found.worth,
+        limit: found.limit,
+        rounds: found.rounds,
+    });
+    assert_eq!(fast, answer, "{rounds} {sheet:?}");
+    assert_eq!(other, board, "{rounds} {sheet:?}");
+    assert_eq!(other_prices, prices, "{rounds} {sheet:?}");
+    answer
+}
+
+pub fn charge_limit(sheet: &[u8], prices: &[u16]) -> Result<u32, u8> {
+    let answer = naive::charge_limit(sheet, prices);
+    let fast = fast::charge_limit(sheet, prices);
+    assert_eq!(fast, answer, "{sheet:?} {prices:?}");
+    answer
+}
+
+pub fn charge_refine(
+    sheet: &[u8],
+    rounds: u32,
+    map: &mut [u8],
+    prices: &mut [u16],
+) -> Result<ChargeRefined, u8> {
+    let (mut other, mut other_prices) = (map.to_vec(), prices.to_vec());
+    let answer = naive::charge_refine(sheet, rounds, map, prices);
+    let fast = fast::charge_refine(sheet, rounds, &mut other, &mut other_prices);
+    let fast = fast.map(|found| ChargeRefined {
+        worth: found.worth,
+        limit: found.limit,
+        rounds: found.rounds,
+    });
+    assert_eq!(fast, answer, "{rounds} {sheet:?}");
+    assert_eq!(other, map, "{rounds} {sheet:?}");
+    assert_eq!(other_prices, prices, "{rounds} {sheet:?}");
     answer
 }
 

@@ -1,0 +1,3 @@
+pub mod PriceCases
+pub mod CountCases
+pub mod AnswerCases

@@ -1,0 +1,48 @@
+-- The table reads neither slopes nor drivers: it is the same if no two turns share a slope and none has a driver. Assumes nothing.
+use mathlib.Core.Path.{_≡_, refl, ap, _∙_}
+use mathlib.Core.List.{List, [], _∷_}
+use Prim.Native.Nat.{ℕ, _+_}
+use lib.Dec.{eqb}
+use Rattle.lists.specs.Lists.{sum, below}
+use Rattle.model.specs.Turns.{Turns, oneGroomer}
+use Rattle.optimum.specs.Table.{Best, laterFirst, turnOrder, inTheWay, blocked, bestTable, bestOf, bestWorth}
+use Rattle.optimum.specs.Groomers.{keep, ownTurns, groomerWorth, groomersWorth}
+
+-- turns with other worths
+abbrev pub withWorths : Turns → (ℕ → ℕ) → Turns
+withWorths T f = record { count = T .count; gap = T .gap; slope = T .slope; groomer = T .groomer; start = T .start; end = T .end; worth = f; driver = T .driver }
+
+-- each on a slope of its own, and without a driver
+abbrev pub bare : Turns → Turns
+bare T = record { count = T .count; gap = T .gap; slope = λ t. t; groomer = T .groomer; start = T .start; end = T .end; worth = T .worth; driver = λ t. 0 }
+
+module _ (T : Turns) where
+  bare-order : turnOrder (bare T) ≡ turnOrder T
+  unfolding turnOrder laterFirst oneGroomer
+  bare-order = refl
+
+  bare-blocked : (t : ℕ) (us : List ℕ) → blocked (bare T) t us ≡ blocked T t us
+  unfolding blocked inTheWay oneGroomer
+  bare-blocked t [] = refl
+  bare-blocked t (u ∷ us) = rw (bare-blocked t us)
+
+  bare-table : (ts : List ℕ) → bestTable (bare T) ts ≡ bestTable T ts
+  unfolding bestTable
+  bare-table [] = refl
+  bare-table (t ∷ us) = rw (bare-table us, bare-blocked t us)
+
+  bare-of : (ts : List ℕ) → bestOf (bare T) ts ≡ bestOf T ts
+  unfolding bestOf
+  bare-of ts = rw (bare-table ts)
+
+  pub bare-best : bestWorth (bare T) ≡ bestWorth T
+  unfolding bestWorth
+  bare-best = ap (λ (ts : List ℕ). bestOf (bare T) ts .worth) bare-order ∙ ap (λ (b : Best). b .worth) (bare-of (turnOrder T))
+
+  bare-groomer : (g : ℕ) → groomerWorth (bare T) g ≡ groomerWorth T g
+  unfolding groomerWorth ownTurns
+  bare-groomer g = ap (λ (ts : List ℕ). bestOf (bare T) (keep (λ t. eqb (T .groomer t) g) ts) .worth) bare-order ∙ ap (λ (b : Best). b .worth) (bare-of (keep (λ t. eqb (T .groomer t) g) (turnOrder T)))
+
+  pub bare-groomers : (n : ℕ) → groomersWorth (bare T) n ≡ groomersWorth T n
+  unfolding groomersWorth
+  bare-groomers n = ap (λ (f : ℕ → ℕ). sum f (below n)) (λ j k. bare-groomer (k + 1) j)

@@ -1,0 +1,4 @@
+pub mod Prices
+pub mod Limit
+pub mod Promises
+pub mod Cases
