@@ -1,8 +1,9 @@
 -- One record by its cases, each premise in the form in which the code's calls and tests leave it. Assumes nothing.
-use Prim.Native.Nat.{ℕ, _+_, _<_, _≤_}
+use Prim.Native.Nat.{ℕ, _+_, _-_, _*_, _<_, _≤_}
 use mathlib.Core.Path.{_≡_}
 use mathlib.Core.Bool.{Bool, true, false, not}
 use mathlib.Core.List.{List}
+use native.Mathlib.Omega.{arith}
 use lib.ListN.{length, getD}
 use lib.Dec.{eqb}
 use borrow.Author.Tests.{eq-eqb, ne-eqb, lt-ltb, le-ltb, le-leb, lt-leb}
@@ -29,7 +30,15 @@ module _ (width : ℕ) (s : List ℕ) (at bit old : ℕ) where
   unfolding field
   field-given h e = rw (ne-eqb bit 0 h) e
 
-pub ruleset field-cases = (field-carried, field-given)
+-- where the bytes end before the field, its bit does not stand
+module _ (s : List ℕ) (at bit old : ℕ) where
+  pub byte-beyond : length s - at < 1 → at + bit ≤ length s → old ≡ field 1 s at bit old
+  byte-beyond l h = field-carried 1 s at bit old (omega arith)
+
+  pub word-beyond : length s - at < 2 → at + 2 * bit ≤ length s → old ≡ field 2 s at bit old
+  word-beyond l h = field-carried 2 s at bit old (omega arith)
+
+pub ruleset field-cases = (field-carried, field-given, byte-beyond, word-beyond)
 
 -- ---- a map
 

@@ -28,20 +28,29 @@ pub fn width(m: u8) -> usize
     w % 2 + w / 2 % 2 + 2 * (w / 4 % 2) + 2 * (w / 8 % 2) + 2 * (w / 16 % 2) + w / 32 % 2
 }
 
-// A one-byte field where its bit stands, else the value before.
+// A one-byte field where its bit stands, else the value before. The byte is read in both cases, so that no step depends
+// on the bit; where there is none, the bit does not stand.
 pub fn byte_field(s: &[u8], at: usize, bit: u8, old: u16) -> u16
     requires { ⌜ at + bit ≤ length (now s) ⌝ }
     ensures { λ r. ⌜ r ≡ field 1 (now (s .entry)) at bit old ⌝ }
 {
-    if bit == 0 { old } else { wire::byte_at(s, at) }
+    if s.len() - at < 1 {
+        return old;
+    }
+    let x = wire::byte_at(s, at);
+    if bit == 0 { old } else { x }
 }
 
-// A two-byte field where its bit stands, else the value before.
+// A two-byte field where its bit stands, else the value before, likewise.
 pub fn word_field(s: &[u8], at: usize, bit: u8, old: u16) -> u16
     requires { ⌜ at + 2 * bit ≤ length (now s) ⌝ }
     ensures { λ r. ⌜ r ≡ field 2 (now (s .entry)) at bit old ⌝ }
 {
-    if bit == 0 { old } else { wire::word_at(s, at) }
+    if s.len() - at < 2 {
+        return old;
+    }
+    let x = wire::word_at(s, at);
+    if bit == 0 { old } else { x }
 }
 
 // The turn whose fields start at a place, after the turn before it.

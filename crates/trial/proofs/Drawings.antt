@@ -1,11 +1,11 @@
 -- Drawing by its cases, each premise in the form in which the code's calls and tests leave it. Assumes nothing.
 use Prim.Native.Nat.{ℕ, zero, suc, _+_, _-_, _*_, _%_, _<_, _≤_}
 use mathlib.Core.Path.{_≡_, refl, sym, _∙_, ap}
-use mathlib.Core.List.{List, _∷_}
+use mathlib.Core.List.{List, [], _∷_, append-nil}
 use native.Mathlib.Omega.{arith}
 use native.Mathlib.Numerals.{sub-one}
-use lib.ListN.{length, take}
-use lib.Seq.{take-append-seam}
+use lib.Dec.{leb}
+use lib.ListN.{length, set, take, drop, length-map, length-set, length-take, drop-of-length-le}
 use mir.Syntax.{w16, w32}
 use mir.Val.{Fits}
 use borrow.Author.Tests.{lt-ltb, le-ltb, ne-eqb}
@@ -14,21 +14,26 @@ use Rattle.refusal.specs.Cause.{firstOf}
 use Rattle.refusal.specs.Written.{Written}
 use Rattle.refusal.proofs.Written.{kept-before}
 use Rattle.wire.specs.Number.{puts}
-use Rattle.wire.proofs.Puts.{puts-append, puts-front, puts-length}
+use Rattle.wire.proofs.Puts.{puts-front}
 use Rattle.turns.specs.declared.Turn.{Turn}
 use Rattle.turns.specs.declared.Counts.{Counts}
-use Rattle.turns.specs.Turn.{countsOf, rowNumbers, rowOf, rows, outsideRange}
+use Rattle.turns.specs.Turn.{countsOf, outsideRange}
+use Rattle.turns.proofs.Rows.{turns-rows}
 use Rattle.sheet.specs.declared.kind.Kind.{Kind}
-use Rattle.sheet.specs.Kind.{garage, tablePlaces}
+use Rattle.sheet.specs.Kind.{garage, mostTurns}
 use Rattle.sheet.specs.Read.{countCauses}
 use Rattle.sheet.specs.Accepted.{Legal}
-use Rattle.writing.specs.Write.{writeOf}
+use Rattle.sheet.proofs.Headers.{legal-counts}
+use Rattle.sorting.specs.Sorting.{sortBy}
+use Rattle.writing.specs.Write.{writtenTurns, tableCauses, writeOf, sheetWritten}
+use Rattle.writing.specs.Key.{keyOf, keysOf, turnsOfKeys, turnsByKey}
+use Rattle.writing.proofs.Writable.{table-sorted, write-clear}
 use Rattle.writer.specs.Answer.{written}
 use Rattle.trial.specs.declared.Drawn.{Drawn}
 use Rattle.trial.specs.Draw.{drawFactor, drawModulus, mostDraw, nextDraw, drawNumber, drawnLength, lengthPlaces, drawnStarts, fromOne, turnDrawn, turnDraws, turnAfter, drawnTurns, drawnTable, Drawable}
 use Rattle.trial.specs.Trial.{seedCauses, drawCauses, drawOf}
-use Rattle.trial.proofs.Draws.{draw-drawable, number-drawable, number-one, number-two, number-three, number-four, number-five}
-use Rattle.trial.proofs.Trials.{drawn-numbers, seed-iff, drawn-as-written}
+use Rattle.trial.proofs.Draws.{draw-drawable, drawn-length, number-drawable, number-one, number-two, number-three, number-four, number-five}
+use Rattle.trial.proofs.Trials.{drawn-causes, seed-iff, drawn-as-written}
 
 -- ---- one draw
 
@@ -94,44 +99,47 @@ unfolding drawnTurns
 turns-more zero counts x h = absurd (omega arith)
 turns-more (suc n) counts x h = simp sub-one
 
-module _ (n : ℕ) (counts : Counts) (x at : ℕ) (l : List ℕ) where
-  pub draw-more : {d : Drawn} {next : ℕ} {l′ a : List ℕ} → 0 < n → d .turn ≡ turnAfter counts x → d .last ≡ drawNumber turnDraws x → next ≡ at + rowNumbers → l′ ≡ puts l at (rowOf (d .turn))
-      → puts l at (drawnTable n counts x) ≡ a → puts l′ next (drawnTable (n - 1) counts (d .last)) ≡ a
-  unfolding rows
-  draw-more {d = d} {next = next} h p q b e i =
-      let m : drawnTurns n counts x ≡ d .turn ∷ drawnTurns (n - 1) counts (d .last) = turns-more n counts x h ∙ rw (p, q) in
-      rw e (puts-append (rowOf (d .turn)) (drawnTable (n - 1) counts (d .last)) l at next (omega arith) ∙ ap (λ (ts : List Turn). puts l at (rows ts)) (sym m) ∙ i)
+keys-length : (n : ℕ) (counts : Counts) (x : ℕ) → length (keysOf (drawnTurns n counts x)) ≡ n
+keys-length n counts x = length-map (drawnTurns n counts x) keyOf ∙ drawn-length n counts x
 
-  pub draw-done : {a : List ℕ} → n ≤ 0 → puts l at (drawnTable n counts x) ≡ a → l ≡ a
-  unfolding drawnTurns rows
-  draw-done h i = let z : n ≡ 0 = omega arith in rw z at i
+module _ (n : ℕ) (counts : Counts) (x i : ℕ) (l : List ℕ) where
+  pub drawn-keys-more : {d : Drawn} {k : ℕ} {a : List ℕ} → i < length l → length l ≡ n → d .turn ≡ turnAfter counts x → d .last ≡ drawNumber turnDraws x → k ≡ keyOf (d .turn)
+      → puts l i (keysOf (drawnTurns (n - i) counts x)) ≡ a → puts (set l i k) (i + 1) (keysOf (drawnTurns (n - (i + 1)) counts (d .last))) ≡ a
+  drawn-keys-more h g p q r e =
+      let z : n - i - 1 ≡ n - (i + 1) = omega arith in
+      let m : drawnTurns (n - i) counts x ≡ turnAfter counts x ∷ drawnTurns (n - (i + 1)) counts (drawNumber turnDraws x) = rw (← z) (turns-more (n - i) counts x (omega arith)) in
+      rw (r, p, q) (rw m at e)
 
-pub ruleset draw-turns-cases = (draw-more, draw-done)
+  pub drawn-keys-kept : (k : ℕ) → length l ≡ n → length (set l i k) ≡ n
+  drawn-keys-kept k g = length-set l i k ∙ g
+
+  pub drawn-keys-done : (seed : ℕ) (l₀ : List ℕ) → length l ≤ i → length l ≡ n → length l₀ ≡ n → puts l i (keysOf (drawnTurns (n - i) counts x)) ≡ puts l₀ 0 (keysOf (drawnTurns n counts seed)) → l ≡ keysOf (drawnTurns n counts seed)
+  unfolding drawnTurns
+  drawn-keys-done seed l₀ h f g e =
+      let ks = keysOf (drawnTurns n counts seed) in
+      let z : n - i ≡ 0 = omega arith in
+      let s : l ≡ puts l₀ 0 ks = rw z at e in
+      let d : drop (length ks) l₀ ≡ [] = drop-of-length-le l₀ {i = length ks} (omega (arith, keys-length n counts seed)) in
+      s ∙ puts-front ks l₀ (omega (arith, keys-length n counts seed)) ∙ rw d (append-nil ks)
+
+pub drawn-keys-start : (n : ℕ) (counts : Counts) (seed : ℕ) (l : List ℕ) → puts l 0 (keysOf (drawnTurns (n - 0) counts seed)) ≡ puts l 0 (keysOf (drawnTurns n counts seed))
+drawn-keys-start n counts seed l = let z : n - 0 ≡ n = omega arith in rw z
+
+pub ruleset drawn-keys-cases = (drawn-keys-start, drawn-keys-more, drawn-keys-kept, drawn-keys-done)
 
 -- ---- the writer's answer
 
--- a table with the drawn rows at its front
-module _ (n : ℕ) (counts : Counts) (seed : ℕ) (places : List ℕ) {table : List ℕ} (e : table ≡ puts places 0 (drawnTable n counts seed)) (l : Legal garage counts n) (h : tablePlaces ≤ length places) where
-  pub table-room : rowNumbers * n ≤ length table
-  unfolding garage
-  table-room = rw e (omega (arith, puts-length (drawnTable n counts seed) places 0, l .turns-to))
+module _ (n : ℕ) (counts : Counts) (seed : ℕ) (l : Legal garage counts n) where
+  table-right : firstOf (tableCauses counts (drawnTable n counts seed)) ≡ 0
+  table-right = drawn-causes seed counts n ∙ legal-counts garage counts n l
 
-  table-front : take (rowNumbers * n) table ≡ drawnTable n counts seed
-  unfolding garage
-  table-front =
-      let k = drawn-numbers seed counts n in
-      let r : length (drawnTable n counts seed) ≤ length places = omega (arith, l .turns-to) in
-      rw (e, puts-front (drawnTable n counts seed) places r, ← k) (take-append-seam _ _)
-
-  pub table-part : rowNumbers * n ≡ length (take (rowNumbers * n) table)
-  table-part = rw table-front (sym (drawn-numbers seed counts n))
-
-  pub table-written : (lent : List ℕ) {w : Written} → w ≡ writeOf counts (take (rowNumbers * n) table) lent → w ≡ writeOf counts (drawnTable n counts seed) lent
-  table-written lent i = rw table-front at i
-
-pub legal-room : (n : ℕ) (counts : Counts) (seed : ℕ) → Drawable seed → Legal garage counts n → (1 ≤ counts .groomers) × (1 ≤ counts .slopes) × Drawable seed × (rowNumbers * n ≤ tablePlaces)
-unfolding garage
-legal-room n counts seed d l = (l .groomers-from, l .slopes-from, d, omega (arith, l .turns-to))
+  pub drawn-put : (places lent : List ℕ) {keys : List ℕ} {w : Written} → n ≤ length places → keys ≡ keysOf (drawnTurns (length (take (n - 0) (drop 0 places))) counts seed)
+      → w ≡ sheetWritten counts (turnsOfKeys (sortBy leb keys)) lent → w ≡ writeOf counts (drawnTable n counts seed) lent
+  drawn-put places lent {keys} h p e =
+      let k : length (take (n - 0) (drop 0 places)) ≡ n = simp length-take (omega arith) in
+      let r : keys ≡ keysOf (drawnTurns n counts seed) = rw k at p in
+      let s : turnsByKey (drawnTurns n counts seed) ≡ writtenTurns (drawnTable n counts seed) = ap (λ (ts : List Turn). turnsByKey ts) (sym (turns-rows (drawnTurns n counts seed))) ∙ table-sorted counts (drawnTable n counts seed) table-right in
+      e ∙ rw (r, s) (sym (write-clear counts (drawnTable n counts seed) lent table-right))
 
 -- ---- the seed and the counts
 
@@ -182,7 +190,25 @@ module _ (seed groomers slopes turns : ℕ) {f : ℕ} (e : f ≡ firstOf (seedCa
     unfolding garage
     turn-count-fits = let h = parts .1 .turns-to in record { fits = omega arith }
 
+    pub turns-few : turns ≤ mostTurns
+    unfolding garage
+    turns-few = parts .1 .turns-to
+
+    pub groomers-from : 1 ≤ groomers
+    groomers-from = parts .1 .groomers-from
+
+    pub groomers-byte : groomers < 256
+    unfolding garage
+    groomers-byte = omega (arith, parts .1 .groomers-to)
+
+    pub slopes-from : 1 ≤ slopes
+    slopes-from = parts .1 .slopes-from
+
+    pub slopes-byte : slopes < 256
+    unfolding garage
+    slopes-byte = omega (arith, parts .1 .slopes-to)
+
     pub draw-fine : (lent : List ℕ) {w : Written} → w ≡ writeOf (countsOf groomers slopes) (drawnTable turns (countsOf groomers slopes) seed) lent → w ≡ drawOf seed (countsOf groomers slopes) turns lent
     draw-fine lent h = h ∙ sym (drawn-as-written seed (countsOf groomers slopes) turns lent (parts .0))
 
-pub ruleset draw-cases = (draw-refused, draw-fine, seed-fits, counts-fit)
+pub ruleset draw-cases = (draw-refused, draw-fine, seed-fits, counts-fit, turns-few, groomers-from, groomers-byte, slopes-from, slopes-byte)

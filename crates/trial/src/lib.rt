@@ -4,18 +4,17 @@ ghost use mathlib.Core.Path.{_≡_};
 ghost use Prim.Native.Nat.{_+_, _*_, _%_, _≤_, _<_};
 ghost use lib.ListN.{length};
 ghost use Rattle.refusal.specs.Cause.{firstOf};
-ghost use Rattle.wire.specs.Number.{puts};
-ghost use Rattle.turns.specs.Turn.{countsOf, rowNumbers};
-ghost use Rattle.sheet.specs.Kind.{garage};
+ghost use Rattle.turns.specs.Turn.{countsOf};
+ghost use Rattle.sheet.specs.Kind.{garage, mostTurns};
 ghost use Rattle.sheet.specs.Accepted.{Legal};
 ghost use Rattle.writing.specs.Write.{writeOf};
+ghost use Rattle.writing.specs.Key.{keysOf};
 ghost use Rattle.writer.specs.Answer.{written};
-ghost use Rattle.trial.specs.Draw.{drawModulus, lengthPlaces, nextDraw, drawNumber, drawnLength, fromOne, turnDrawn, turnDraws, turnAfter, drawnTable, Drawable};
+ghost use Rattle.trial.specs.Draw.{drawModulus, lengthPlaces, nextDraw, drawNumber, drawnLength, fromOne, turnDrawn, turnDraws, turnAfter, drawnTurns, drawnTable, Drawable};
 ghost use Rattle.trial.specs.Trial.{seedCauses, drawOf};
-use sheet::TABLE_PLACES;
+use sheet::MOST_TURNS;
 use turns::Counts;
 use turns::MOST_WORTH;
-use turns::ROW_NUMBERS;
 use turns::Turn;
 use writer::WriteAnswer;
 
@@ -129,36 +128,38 @@ fn turn_after(counts: Counts, x: u32) -> Drawn
     }
 }
 
-// The rows of n drawn turns at the front of a table.
-fn fill_turns(seed: u32, counts: Counts, n: u16, table: &mut [u16])
-    requires { ⌜ (1 ≤ counts .groomers) × (1 ≤ counts .slopes) × Drawable seed × (rowNumbers * n ≤ length (now table)) ⌝ }
-    ensures { λ _. ⌜ now (table .exit) ≡ puts (now (table .entry)) 0 (drawnTable n counts seed) ⌝ }
+// The keys of drawn turns, as many as there are places.
+fn fill_keys(seed: u32, counts: Counts, keys: &mut [u64])
+    requires { ⌜ (1 ≤ counts .groomers) × (1 ≤ counts .slopes) × Drawable seed ⌝ }
+    ensures { λ _. ⌜ now (keys .exit) ≡ keysOf (drawnTurns (length (now (keys .entry))) counts seed) ⌝ }
 {
     let mut x = seed;
-    let mut left = n;
-    let mut at: usize = 0;
-    while 0 < left {
+    let mut i = 0;
+    while i < keys.len() {
         let d = turn_after(counts, x);
-        at = reader::put_turn(&mut *table, at, d.turn);
+        keys[i] = writer::key_of(d.turn);
         x = d.last;
-        left -= 1;
+        i += 1;
     }
 }
 
-// What the writer makes of n drawn turns.
-fn write_drawn(seed: u32, counts: Counts, n: u16, out: &mut [u8]) -> WriteAnswer
-    requires { ⌜ Drawable seed × Legal garage counts n ⌝ }
+// What the writer makes of n drawn turns, which need not be judged.
+fn write_drawn(
+    seed: u32,
+    counts: Counts,
+    n: u16,
+    keys: &mut [u64],
+    spare: &mut [u64],
+    out: &mut [u8],
+) -> WriteAnswer
+    requires { ⌜ (n ≤ mostTurns) × (n ≤ length (now keys)) × (n ≤ length (now spare)) × Drawable seed × Legal garage counts n ⌝ }
+    requires { ⌜ (1 ≤ counts .groomers) × (counts .groomers < 256) × (1 ≤ counts .slopes) × (counts .slopes < 256) ⌝ }
     ensures { λ r. ⌜ written r (now (out .exit)) ≡ writeOf counts (drawnTable n counts seed) (now (out .entry)) ⌝ }
 {
-    let mut table = [0u16; TABLE_PLACES];
-    fill_turns(seed, counts, n, &mut table);
-    let end = ROW_NUMBERS * (n as usize);
-    writer::write(
-        counts.groomers as u32,
-        counts.slopes as u32,
-        &table[..end],
-        &mut *out,
-    )
+    let end = n as usize;
+    let some = &mut keys[0..end];
+    fill_keys(seed, counts, &mut *some);
+    writer::write_keys(counts, &mut *some, &mut spare[0..end], &mut *out)
 }
 
 // The first thing wrong with the seed or the counts, or 0.
@@ -190,5 +191,14 @@ pub fn draw(seed: u64, groomers: u32, slopes: u32, turns: u32, out: &mut [u8]) -
         groomers: groomers as u16,
         slopes: slopes as u16,
     };
-    write_drawn(seed as u32, counts, turns as u16, &mut *out)
+    let mut keys = [0u64; MOST_TURNS as usize];
+    let mut spare = [0u64; MOST_TURNS as usize];
+    write_drawn(
+        seed as u32,
+        counts,
+        turns as u16,
+        &mut keys,
+        &mut spare,
+        &mut *out,
+    )
 }

@@ -12,8 +12,8 @@ returns c = search draw-cases
 cast-write-drawn : tie.Need-cast-write-drawn
 cast-write-drawn c = search groomer-count-fits
 
-cast-t10 : tie.Need-cast-t10
-cast-t10 c = search slope-count-fits
+cast-t12 : tie.Need-cast-t12
+cast-t12 c = search slope-count-fits
 
 cast-write-drawn-2 : tie.Need-cast-write-drawn-2
 cast-write-drawn-2 c = search seed-narrow
@@ -21,8 +21,14 @@ cast-write-drawn-2 c = search seed-narrow
 cast-write-drawn-3 : tie.Need-cast-write-drawn-3
 cast-write-drawn-3 c = search turn-count-fits
 
+slice-aggregate-write-drawn : tie.Need-slice-aggregate-write-drawn
+slice-aggregate-write-drawn c = search needs
+
+slice-aggregate-write-drawn-2 : tie.Need-slice-aggregate-write-drawn-2
+slice-aggregate-write-drawn-2 c = search needs
+
 write-drawn-requires : tie.Need-write-drawn-requires
-write-drawn-requires c κs = search draw-cases
+write-drawn-requires c κs = search (needs, draw-cases)
 
 same-length : tie.Need-same-length
 same-length c = search needs
@@ -37,9 +43,11 @@ draw-spec =
     seed-fault-requires
     returns
     cast-write-drawn
-    cast-t10
+    cast-t12
     cast-write-drawn-2
     cast-write-drawn-3
+    slice-aggregate-write-drawn
+    slice-aggregate-write-drawn-2
     write-drawn-requires
     same-length
     returns-2)

@@ -1,50 +1,57 @@
-use Rattle.trial.proofs.Drawings.{table-room, table-part, table-written, legal-room}
-use native.Mathlib.Omega.{arith}
+use Rattle.trial.proofs.Drawings.{drawn-put}
 use borrow.Author.Needs.{needs}
 use Rattle.trial.proofs.write_drawn.Statement.{statement}
 use Rattle.trial.proofs.write_drawn.Tie as tie
 
-slice-aggregate-fill-turns : tie.Need-slice-aggregate-fill-turns
-slice-aggregate-fill-turns c = search needs
+sub-some : tie.Need-sub-some
+sub-some c = search needs
 
-fill-turns-requires : tie.Need-fill-turns-requires
-fill-turns-requires c κs = legal-room _ _ _ (c .before .before .pre .0) (c .before .before .pre .1)
+part-some-start : tie.Need-part-some-start
+part-some-start c = search needs
 
-mul-end : tie.Need-mul-end
-mul-end c = search needs
+part-some-end : tie.Need-part-some-end
+part-some-end c = search needs
 
-cast-write : tie.Need-cast-write
-cast-write c = search needs
+fill-keys-requires : tie.Need-fill-keys-requires
+fill-keys-requires c κs = search needs
 
-cast-write-2 : tie.Need-cast-write-2
-cast-write-2 c = search needs
+sub-write-keys : tie.Need-sub-write-keys
+sub-write-keys c = search needs
 
-array-share-prefix-table : tie.Need-array-share-prefix-table
-array-share-prefix-table c = table-room _ _ _ _ (c .before .before .before .fill-turns .ensures) (c .before .before .before .before .before .before .pre .1) (omega arith)
+part-write-keys-start : tie.Need-part-write-keys-start
+part-write-keys-start c = search needs
 
-slice-aggregate-write : tie.Need-slice-aggregate-write
-slice-aggregate-write c = table-part _ _ _ _ (c .before .before .before .before .fill-turns .ensures) (c .before .before .before .before .before .before .before .pre .1) (omega arith)
+part-write-keys-end : tie.Need-part-write-keys-end
+part-write-keys-end c = search needs
 
-write-requires : tie.Need-write-requires
-write-requires c κs = search needs
+write-keys-requires : tie.Need-write-keys-requires
+write-keys-requires c κs = search needs
 
 same-length : tie.Need-same-length
 same-length c = search needs
 
+same-length-2 : tie.Need-same-length-2
+same-length-2 c = search needs
+
+same-length-3 : tie.Need-same-length-3
+same-length-3 c = search needs
+
 returns : tie.Need-returns
-returns c = let s = c .before .before .before .before .before .before .before .before .before .before .before in table-written _ _ _ _ (c .before .before .before .before .before .before .before .before .fill-turns .ensures) (s .pre .1) (omega arith) _ (c .before .before .write .ensures)
+returns c = search drawn-put
 
 pub write-drawn-spec : {M : Type 1} → statement M
 write-drawn-spec =
     tie.close
     (tie.spec
-    slice-aggregate-fill-turns
-    fill-turns-requires
-    mul-end
-    cast-write
-    cast-write-2
-    array-share-prefix-table
-    slice-aggregate-write
-    write-requires
+    sub-some
+    part-some-start
+    part-some-end
+    fill-keys-requires
+    sub-write-keys
+    part-write-keys-start
+    part-write-keys-end
+    write-keys-requires
     same-length
+    same-length-2
+    same-length-3
     returns)
