@@ -241,7 +241,7 @@ fn rule(refusal: Refusal) -> &'static str {
         Refusal::TrailingBytes => "it goes on after its last record",
         Refusal::BufferTooSmall => "there is too little room for the answer",
         Refusal::MalformedBoard => "these are not the bytes of a board for this sheet",
-        Refusal::ChosenConflict => "two of the chosen turns exclude each other",
+        Refusal::ChosenConflict => "two of the chosen turns conflict",
         Refusal::NotMaximal => "one more turn could be chosen",
         Refusal::WrongStep => "a step is not right at its place",
         Refusal::TurnLeftOpen => "the steps leave a turn open",
@@ -249,6 +249,7 @@ fn rule(refusal: Refusal) -> &'static str {
         Refusal::PartialTurn => "the numbers do not make whole turns",
         Refusal::NotSingleTurns => "a slope has two turns, or a turn names a driver",
         Refusal::BadDraw => "a window's draw is 0 or above the hall's units",
+        Refusal::BadPrices => "there is not a price for each slope and each turn",
         Refusal::BadCounts
         | Refusal::TooManyTurns
         | Refusal::BadDriver

@@ -373,7 +373,7 @@ const BOARDS: &[(&str, &str, &str)] = &[
     (
         "000000F0 0A",
         "00000140 0E",
-        "chosen turns exclude each other (refused 13)",
+        "chosen turns conflict (refused 13)",
     ),
     (
         "00010032",
