@@ -69,18 +69,18 @@ pub fn counts_for(sheet: &Sheet, prices: &[u16], turn: usize) -> u32 {
 
 /// Whether the price at this place is one of a turn without a driver, which
 /// nobody pays and which is no part of the limit.
-pub fn is_idle(sheet: &Sheet, place: usize) -> bool {
+pub fn counts_nowhere(sheet: &Sheet, place: usize) -> bool {
     let slopes = sheet.slopes as usize;
     place >= slopes && sheet.turns[place - slopes].driver == 0
 }
 
-/// Looks at the prices: all of them but the idle ones are summed up, and to the
+/// Looks at the prices: all of them but those that count nowhere are summed up, and to the
 /// sum comes what each groomer's best set counts for. The table is that of the
 /// best worth, with the counts in the place of worths.
 pub fn look(sheet: &Sheet, prices: &[u16]) -> Look {
     let mut limit = 0;
     for place in 0..prices.len() {
-        if !is_idle(sheet, place) {
+        if !counts_nowhere(sheet, place) {
             limit += u32::from(prices[place]);
         }
     }
