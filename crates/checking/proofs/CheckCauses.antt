@@ -248,7 +248,7 @@ module _ (s b : List ℕ) where
       listed : (firstOf (boardCauses (sheetTurns s) b) ≡ 0) ↔ ((k r : ℕ) → There (boardCauses (sheetTurns s) b) k r → ⊥)
       listed = none-iff (boardCauses (sheetTurns s) b) (board-numbered (sheetTurns s) b)
 
-  -- for an accepted sheet, a board keeps the rules exactly where no cause from 12 to 17 is there
+  -- for an accepted sheet, a board keeps the rules exactly where all causes from 12 to 17 are absent
   pub keeps-no-cause : Bytes s → Accepted s → BoardKeeps s b ↔ ((k r : ℕ) → BoardCause (sheetTurns s) b k r → ⊥)
   keeps-no-cause y a = keeps-none (accepted-iff y .1 a)
 

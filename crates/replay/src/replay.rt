@@ -112,7 +112,8 @@ fn replay(
     steps: &[u8],
     m: usize,
 ) -> Replayed
-    requires { ⌜ Residuals (p .count) (now rest) × Held p (now cols) × EndsRise (turnsBy p (now cols)) × (stepSize * m ≤ length (now steps)) × (m ≤ p .count) ⌝ }
+    requires { ⌜ Residuals (p .count) (now rest) × Held p (now cols) × EndsRise (turnsBy p (now cols))
+        × (stepSize * m ≤ length (now steps)) × (m ≤ p .count) ⌝ }
     ensures { λ r. ⌜ (r .right ≡ allRight (turnsBy p (now (cols .entry))) (now (rest .entry)) (movesIn (now (places .entry)) m (now (steps .entry))))
         × (r .right ≡ true → now (rest .exit) ≡ afterSteps (turnsBy p (now (cols .entry))) (now (rest .entry)) (movesIn (now (places .entry)) m (now (steps .entry))))
         × (r .right ≡ true → r .cost ≡ costsFrom (turnsBy p (now (cols .entry))) (now (rest .entry)) (movesIn (now (places .entry)) m (now (steps .entry))))
@@ -180,7 +181,8 @@ pub fn steps_fault(
     m: usize,
     room: &mut [u16; PLACES],
 ) -> Judgement
-    requires { ⌜ (length (now rest) ≡ p .count) × Held p (now cols) × (stepSize * m ≤ length (now steps)) × (m ≤ p .count) × (length (now room) ≡ columnPlaces) ⌝ }
+    requires { ⌜ (length (now rest) ≡ p .count) × Held p (now cols) × (stepSize * m ≤ length (now steps))
+        × (m ≤ p .count) × (length (now room) ≡ columnPlaces) ⌝ }
     ensures { λ r. ⌜ r ≡ judged (firstOf (stepCauses (turnsBy p (now (cols .entry))) (stepsIn m (now (steps .entry)))))
         (ceiling (turnsBy p (now (cols .entry))) (stepsIn m (now (steps .entry)))) ⌝ }
 {
