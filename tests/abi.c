@@ -53,6 +53,9 @@ STANDS_AT(slopeboard_play_answer, groomers, 2);
 LAID_OUT(slopeboard_charge_answer, 8);
 STANDS_AT(slopeboard_charge_answer, refusal, 0);
 STANDS_AT(slopeboard_charge_answer, worth, 4);
+LAID_OUT(slopeboard_limit_answer, 8);
+STANDS_AT(slopeboard_limit_answer, refusal, 0);
+STANDS_AT(slopeboard_limit_answer, limit, 4);
 
 static int differences;
 

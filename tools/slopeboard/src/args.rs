@@ -75,7 +75,8 @@ impl Args {
 
     fn judged(self, command: &Command) -> Result<Args, Failure> {
         let wanted = command.files;
-        if self.files.len() < wanted.len() {
+        let needed = wanted.iter().filter(|file| !file.starts_with('['));
+        if self.files.len() < needed.count() {
             let missing = wanted[self.files.len()];
             return Err(self.wrong(&format!("{missing} is missing")));
         }
@@ -86,14 +87,16 @@ impl Args {
             .files
             .iter()
             .map(String::as_str)
-            .chain(self.value("--delays"));
+            .chain(self.value("--delays"))
+            .chain(self.value("--prices"));
         if inputs.filter(|name| *name == "-").count() > 1 {
             return Err(self.wrong("only one of the files can be standard input"));
         }
         Ok(self)
     }
 
-    fn wrong(&self, words: &str) -> Failure {
+    /// What is wrong with the words of the command.
+    pub fn wrong(&self, words: &str) -> Failure {
         let name = self.command;
         Failure::words(&format!("{name}: {words}; see slopeboard {name} --help"))
     }
@@ -101,6 +104,11 @@ impl Args {
     /// The name of the file at this place.
     pub fn file(&self, place: usize) -> &str {
         &self.files[place]
+    }
+
+    /// The name of the file at this place, if it is not left out.
+    pub fn optional_file(&self, place: usize) -> Option<&str> {
+        self.files.get(place).map(String::as_str)
     }
 
     pub fn has(&self, option: &str) -> bool {

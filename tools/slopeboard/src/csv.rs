@@ -71,7 +71,8 @@ pub fn read<const N: usize>(
     }))
 }
 
-fn text(input: &Input) -> Result<&str, Failure> {
+/// The bytes of a file as text.
+pub fn text(input: &Input) -> Result<&str, Failure> {
     let text = std::str::from_utf8(&input.bytes).map_err(|error| {
         let before = &input.bytes[..error.valid_up_to()];
         let line = 1 + before.iter().filter(|byte| **byte == b'\n').count();

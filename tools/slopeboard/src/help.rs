@@ -15,7 +15,7 @@ usage: slopeboard COMMAND [FILES] [OPTIONS]
 ",
     );
     for command in COMMANDS {
-        let _ = writeln!(text, "  {:<12}{}", command.name, command.about);
+        let _ = writeln!(text, "  {:<15}{}", command.name, command.about);
     }
     text.push_str(
         "

@@ -20,6 +20,7 @@ mod json;
 mod locate;
 mod outcome;
 mod picture;
+mod prices;
 mod sheet;
 mod svg;
 mod watch;

@@ -217,12 +217,54 @@ fn wrong_delays_are_named() {
     }
 }
 
+/// Price files, and what is said of each.
+const PRICES: &[(&str, &str)] = &[
+    (
+        "1 2 3 4 5 6",
+        "prices: 6 prices, where 7 are wanted, one for each of 3 slopes and 4 turns (refused 26)",
+    ),
+    ("1\n2 3 4 5 6 7\n8", "prices: 8 prices, where 7 are wanted"),
+    (
+        "1 2 3\n4 65536 6 7",
+        "prices, line 2: '65536' is not a price, which is 0 to 65535",
+    ),
+    ("1 2 3 4 5 6 -7", "line 1: '-7' is not a price"),
+    ("1 2 3 4 5 6 +7", "line 1: '+7' is not a price"),
+    ("1, 2, 3", "line 1: '1,' is not a price"),
+    ("1.5", "line 1: '1.5' is not a price"),
+];
+
+#[test]
+fn wrong_prices_are_named() {
+    let folder = Folder::new("faults_prices");
+    let (sheet, board) = (
+        folder.put("sheet", bytes(SHEET)),
+        folder.put("board", bytes(BOARD)),
+    );
+    for (text, words) in PRICES {
+        let prices = folder.put("prices", text);
+        for said in [
+            run(&["limit", &sheet, &prices]).refused(),
+            run(&["picture", &sheet, &board, "--prices", &prices]).refused(),
+        ] {
+            assert!(said.contains(words), "{said}");
+        }
+    }
+    let no_text = folder.put("prices", b"1\n2\n\xff");
+    let said = run(&["limit", &sheet, &no_text]).refused();
+    assert!(said.contains("prices, line 3: this is not text"), "{said}");
+    let said = run(&["limit", &sheet, &folder.put("prices", "1"), "--json"]).refused();
+    assert!(said.contains("\"refusal\":26"), "{said}");
+}
+
 /// Runs, and what each says. A word that begins with @ is a file of the folder.
 const FILES: &str = "\
 plan @none => none: cannot be read:
 sheet @none => none: cannot be read:
 check @sheet @none => none: cannot be read:
 play @sheet @board --delays @none => none: cannot be read:
+limit @sheet @none => none: cannot be read:
+picture @sheet @board --prices @none => none: cannot be read:
 plan @empty => empty: the file is empty (refused 1)
 restore @empty => empty: the file is empty (refused 1)
 charge @empty => empty: the file is empty (refused 1)
@@ -236,7 +278,12 @@ restore @sheet => not open with GRC, the mark of a kept form; it opens as a shee
 charge @sheet => with GRE, the mark of a charging sheet; it opens as a sheet does (refused 2)
 show @noise => noise: it opens with none of the marks GRM (sheet)
 plan @noise => noise: it ends too early, before its last record is whole (refused 1)
+limit @noise @sheet => noise: it ends too early, before its last record is whole (refused 1)
+limit @board --free => it opens as a board does (refused 2)
+limit @sheet @empty => empty: 0 prices, where 7 are wanted, one for each of 3 slopes and 4 turns (refused 26)
 check - - => only one of the files can be standard input
+limit - - => only one of the files can be standard input
+picture @sheet - --prices - => only one of the files can be standard input
 plan @sheet -o /no/such/folder/x => /no/such/folder/x: cannot be written:
 ";
 
@@ -251,6 +298,10 @@ plan @sheet -o => plan: -o FILE: FILE is missing
 plan @sheet --json=yes => plan: --json takes no value
 plan @sheet -o @out -o @out => plan: -o is given twice
 improve @sheet --visits many => improve: --visits: many is no number
+limit @sheet => limit: PRICES is missing, or --free
+limit => limit: SHEET is missing
+limit @sheet @sheet --free => limit: --free leaves no place for PRICES
+limit @sheet @sheet @sheet => is one file too many
 show @sheet --from 24:00 => --from 24:00: no time of day such as 18:00
 draw -o @out --groomers 2 --slopes 3 --turns 5 => draw: --seed N is missing
 draw -o @out --groomers 2 --slopes 3 --turns 5 --seed 0 => a seed is 1 to 2147483646 (refused 23)

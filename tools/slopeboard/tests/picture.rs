@@ -40,6 +40,40 @@ fn the_worked_board() {
 }
 
 #[test]
+fn the_limit_beside_the_sums() {
+    let folder = Folder::new("picture_limit");
+    let sheet = folder.put("sheet", bytes(SHEET));
+    let (board, map) = (folder.put("board", bytes(BOARD)), folder.put("map", [0x0a]));
+    let free = folder.put("free", "0 0 0 0 0 0 0");
+    let some = folder.put("some", "60 40 10 0 0 0 0");
+    let none_above =
+        ">No choice of turns without a conflict is worth more than the ceiling, or than the limit.";
+    for (prices, choice, sums) in [
+        (&free, &board, "worth 240 tally 240 ceiling 340 limit 240"),
+        (&some, &board, "worth 240 tally 240 ceiling 340 limit 300"),
+        (&free, &map, "worth 240 ceiling 340 limit 240"),
+    ] {
+        let ran = run(&["picture", &sheet, choice, "--prices", prices]).well();
+        assert_eq!(ran.err, format!("{sums}\n"));
+        xml::tags(ran.text()).unwrap();
+        assert!(ran.text().contains(&format!(">{sums}<")));
+        assert!(ran.text().contains(none_above));
+        // only of a board that was checked, and where the two are equal
+        let met = ran
+            .text()
+            .contains(">The limit is the worth: no board earns more.<");
+        assert_eq!(met, prices == &free && choice == &board);
+    }
+    let csv = run_on(&["hall-sheet", "-"], HALL_CSV.as_bytes()).well().out;
+    let hall = folder.put("hall", csv);
+    let said = run(&["picture", &hall, &map, "--prices", &free]).refused();
+    assert!(
+        said.contains("picture: --prices is not for a hall"),
+        "{said}"
+    );
+}
+
+#[test]
 fn the_worked_hall() {
     let folder = Folder::new("picture_hall");
     let hall = folder.put(

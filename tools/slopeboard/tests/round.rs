@@ -36,6 +36,7 @@ fn a_hundred_drawn_sheets_go_through_every_command() {
         comes_back(&folder, &sheet, counts);
         let (board, choice) = planned(&folder, &sheet);
         searched(&folder, &sheet, &board, &choice, counts[3]);
+        limited(&folder, &sheet, &board, counts);
         played(&folder, &sheet, &board, counts);
         pictured(&sheet, &board, choice.len(), counts[3]);
         charged(&folder, &sheet, seed);
@@ -110,6 +111,25 @@ fn searched(folder: &Folder, sheet: &str, board: &str, choice: &[usize], turns: 
     }
     let assigned = run(&["assign", sheet]).well();
     assert_eq!(assigned.text().lines().count(), 1 + turns);
+}
+
+/// The limit is no less than the worth, whatever the prices are.
+fn limited(folder: &Folder, sheet: &str, board: &str, counts: [usize; 4]) {
+    let worth = worth(run(&["check", sheet, board]).well().text());
+    let limit_of = |answer: &str| -> u32 {
+        let (_, limit) = answer.trim_end().rsplit_once("limit ").unwrap();
+        limit.parse().unwrap()
+    };
+    assert!(limit_of(run(&["limit", sheet, "--free"]).well().text()) >= worth);
+    let count = counts[2] + counts[3];
+    let list: Vec<String> = (1..=count)
+        .map(|place| (counts[0] * place * 977 % 9001).to_string())
+        .collect();
+    let prices = folder.put("prices", list.join("\n"));
+    let limit = limit_of(run(&["limit", sheet, &prices]).well().text());
+    assert!(limit >= worth);
+    let svg = run(&["picture", sheet, board, "--prices", &prices]).well();
+    assert_eq!(limit_of(&svg.err), limit);
 }
 
 fn worth(answer: &str) -> u32 {

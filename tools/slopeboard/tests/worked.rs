@@ -205,9 +205,32 @@ fn draw_gives_the_same_sheet_again() {
     assert!(ran.err.starts_with("groomers 2 slopes 3 turns 2 bytes "));
 }
 
+#[test]
+fn limit_by_prices() {
+    let (folder, sheet, board) = files("worked_limit");
+    let free = run(&["limit", &sheet, "--free"]).well();
+    assert_eq!((free.text(), free.err.as_str()), ("limit 240\n", ""));
+    for (text, limit) in [
+        ("0 0 0 0 0 0 0", 240),
+        ("100\n0\n0\n0\n0\n0\n0\n", 340),
+        ("60 40 10\r\n\r\n 0 0\t0 0\n", 300),
+        // no turn names a driver, and so the turns' prices count for nothing
+        ("\u{feff}60 40 10 1 22 333 65535", 300),
+    ] {
+        let prices = folder.put("prices", text);
+        let ran = run(&["limit", &sheet, &prices]).well();
+        assert_eq!(ran.text(), format!("limit {limit}\n"));
+        let ran = run_on(&["limit", &sheet, "-", "--json"], text.as_bytes()).well();
+        assert_eq!(ran.text(), format!("{{\"limit\":{limit}}}\n"));
+        let ran = run(&["picture", &sheet, &board, "--prices", &prices, "--json"]).well();
+        let sums = format!("\"worth\":240,\"tally\":240,\"ceiling\":340,\"limit\":{limit},");
+        assert!(ran.err.contains(&sums), "{}", ran.err);
+    }
+}
+
 /// A run of each command. A word that begins with @ is a file of the folder; the
-/// last seven make nothing but their answer.
-const RUNS: [&str; 18] = [
+/// last eight make nothing but their answer.
+const RUNS: [&str; 19] = [
     "sheet @shift.csv",
     "hall-sheet @hall.csv",
     "draw --seed=7 --groomers=4 --slopes=9 --turns=20",
@@ -225,6 +248,7 @@ const RUNS: [&str; 18] = [
     "check @shift.sheet @shift.board",
     "list @shift.sheet",
     "assign @shift.sheet",
+    "limit @shift.sheet --free",
     "play @shift.sheet @shift.board",
 ];
 

@@ -5,6 +5,7 @@ mod make;
 mod paint;
 mod plan;
 mod play;
+mod priced;
 mod search;
 mod show;
 
@@ -16,7 +17,8 @@ use crate::sheet::Sheet;
 use crate::{clock, entries, locate};
 
 /// A command: its name, what it does in a few words, the files and options that
-/// it takes, what it takes and prints in full, and a run of it.
+/// it takes, what it takes and prints in full, and a run of it. The name of a
+/// file that may be left out stands in brackets, behind the others.
 pub struct Command {
     pub name: &'static str,
     pub about: &'static str,
@@ -28,7 +30,7 @@ pub struct Command {
 }
 
 /// All commands, as the help lists them.
-pub const COMMANDS: [&Command; 15] = [
+pub const COMMANDS: [&Command; 16] = [
     &make::SHEET,
     &make::HALL_SHEET,
     &make::DRAW,
@@ -39,6 +41,7 @@ pub const COMMANDS: [&Command; 15] = [
     &plan::ASSIGN,
     &search::BEST,
     &search::IMPROVE,
+    &priced::LIMIT,
     &play::PLAY,
     &make::KEEP,
     &make::RESTORE,

@@ -1,8 +1,9 @@
 //! The command that makes pictures.
 
 use super::plan::{passes, planned};
+use super::priced::limit_by;
 use super::{from, read_sheet, Command, FROM};
-use crate::args::Args;
+use crate::args::{Args, Opt};
 use crate::failure::Failure;
 use crate::files::{self, Input};
 use crate::json::Json;
@@ -11,16 +12,23 @@ use crate::sheet::Sheet;
 use crate::{board, hall, picture};
 use slopeboard::Sums;
 
+const PRICES: Opt = Opt {
+    name: "--prices",
+    value: Some("FILE"),
+    words: "show the limit by these prices, too",
+};
+
 pub const PICTURE: Command = Command {
     name: "picture",
     about: "make a picture (SVG) of a board, or of a hall's plan",
     files: &["SHEET", "BOARD"],
-    options: &[FROM],
+    options: &[FROM, PRICES],
     help: "\
 Takes a sheet and a board that passes 'check'. Writes a picture: a row for each
 groomer, the minutes along, the chosen turns as bars with slope and worth, the
 others as thin lines below; under it worth, tally and ceiling. With --from the
-minutes are times of day.
+minutes are times of day. With --prices the limit that 'limit' prints stands
+under it, too.
 
 Or takes a charging sheet and the choice map that 'charge' writes. The picture
 then has the units drawn in each minute against those that there are, and the
@@ -40,22 +48,54 @@ fn picture(args: &Args) -> Result<Outcome, Failure> {
     let first = files::read(args.file(0))?;
     let second = files::read(args.file(1))?;
     if first.bytes.starts_with(b"GRE") {
+        if args.has("--prices") {
+            return Err(args.wrong("--prices is not for a hall"));
+        }
         return hall_picture(&first, &second, from);
     }
     let sheet = read_sheet(&first)?;
+    let limit = limit(args, &first, &sheet)?;
     // a board is longer than the choice map of as many turns
     if second.bytes.len() == slopeboard::map_bytes(sheet.turns.len()) {
-        return map_picture(&first, &sheet, &second, from);
+        return map_picture(&first, &sheet, &second, limit, from);
     }
     let sums = passes(&first, &second)?;
     let chosen = board::read(&second.bytes).chosen;
-    let line = board::sums_line(&sums);
-    let captions = [
-        line.trim_end(),
-        "No choice of turns without a conflict is worth more than the ceiling.",
-    ];
+    let line = with_limit(&board::sums_line(&sums), limit);
+    let mut captions = vec![line.trim_end(), none_above(limit)];
+    if limit == Some(sums.worth) {
+        captions.push("The limit is the worth: no board earns more.");
+    }
     let svg = picture::board(&sheet, &chosen, &captions, from);
-    Ok(painted(svg, line, board::sums_json(&sums), &chosen))
+    let mut fields = board::sums_json(&sums);
+    fields.extend(limit.map(|limit| ("limit", limit.into())));
+    Ok(painted(svg, line, fields, &chosen))
+}
+
+/// The limit of the sheet, if it is asked for.
+fn limit(args: &Args, input: &Input, sheet: &Sheet) -> Result<Option<u32>, Failure> {
+    let Some(name) = args.value("--prices") else {
+        return Ok(None);
+    };
+    limit_by(input, sheet, &files::read(name)?).map(Some)
+}
+
+/// A line of sums, with the limit last if there is one.
+fn with_limit(line: &str, limit: Option<u32>) -> String {
+    match limit {
+        Some(limit) => format!("{} limit {limit}\n", line.trim_end()),
+        None => line.to_owned(),
+    }
+}
+
+/// What ceiling and limit mean.
+fn none_above(limit: Option<u32>) -> &'static str {
+    match limit {
+        Some(_) => {
+            "No choice of turns without a conflict is worth more than the ceiling, or than the limit."
+        }
+        None => "No choice of turns without a conflict is worth more than the ceiling.",
+    }
 }
 
 /// A choice without a board, with the ceiling of the planned one.
@@ -63,6 +103,7 @@ fn map_picture(
     input: &Input,
     sheet: &Sheet,
     map: &Input,
+    limit: Option<u32>,
     from: Option<u64>,
 ) -> Result<Outcome, Failure> {
     let chosen = board::read_map(map, sheet.turns.len())?;
@@ -71,13 +112,15 @@ fn map_picture(
         .map(|turn| u32::from(sheet.turns[*turn].worth));
     let worth: u32 = worths.sum();
     let (_, Sums { ceiling, .. }) = planned(input)?;
-    let line = format!("worth {worth} ceiling {ceiling}\n");
-    let captions = [
-        line.trim_end(),
-        "No choice of turns without a conflict is worth more than the ceiling. Whether this one has none is not checked.",
-    ];
+    let line = with_limit(&format!("worth {worth} ceiling {ceiling}\n"), limit);
+    let meaning = format!(
+        "{} Whether this one has none is not checked.",
+        none_above(limit)
+    );
+    let captions = [line.trim_end(), meaning.as_str()];
     let svg = picture::board(sheet, &chosen, &captions, from);
-    let fields = vec![("worth", worth.into()), ("ceiling", ceiling.into())];
+    let mut fields = vec![("worth", worth.into()), ("ceiling", ceiling.into())];
+    fields.extend(limit.map(|limit| ("limit", limit.into())));
     Ok(painted(svg, line, fields, &chosen))
 }
 
