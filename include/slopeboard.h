@@ -30,9 +30,10 @@
  *   function calls itself but the search of slopeboard_improve, one level deeper for each of at most 64 turns.
  * - Times, measured and not proved, in microseconds: one call on the slowest sheets known, the best of many rounds
  *   over 64 sheets (reference/bench), on one core of an x86-64 server at 2.6 GHz. slopeboard_list 221,
- *   slopeboard_plan 127, slopeboard_charge 126, slopeboard_play 86, slopeboard_check 74, slopeboard_limit 47,
+ *   slopeboard_plan 127, slopeboard_charge 126, slopeboard_play 86, slopeboard_check 74, slopeboard_limit 17,
  *   slopeboard_keep 12, slopeboard_assign 9.1, slopeboard_draw 8.2, slopeboard_write 5.2, slopeboard_restore 4.1,
- *   slopeboard_read 2.5, slopeboard_best 2.4; slopeboard_improve 24 for 10,000 visits. A slower sheet may exist.
+ *   slopeboard_read 2.5, slopeboard_best 2.4; slopeboard_improve 24 for 10,000 visits,
+ *   slopeboard_refine 1,700 for 50 rounds. A slower sheet may exist.
  */
 #ifndef SLOPEBOARD_H
 #define SLOPEBOARD_H
@@ -46,7 +47,7 @@ extern "C" {
 #endif
 
 /* The number of this interface. Each change that a caller can see raises it. */
-#define SLOPEBOARD_VERSION 16
+#define SLOPEBOARD_VERSION 17
 
 /* The refusals. In a charging sheet the turns are windows and the slopes are vehicles. */
 enum {
@@ -99,7 +100,9 @@ enum {
 /* The bytes of a choice map. Turn t has bit t % 8 of byte t / 8, bit 0 being the lowest: 1 if it is chosen. Bits
  * behind the last turn are 0. */
 #define SLOPEBOARD_MAP_BYTES(turns) (((turns) + 7) / 8)
-/* The room that slopeboard_plan asks for. The board may be shorter. */
+/* A price list has a number for each slope and one for each turn. */
+#define SLOPEBOARD_MOST_PRICES (SLOPEBOARD_MOST_SLOPES + SLOPEBOARD_MOST_TURNS)
+/* The room that slopeboard_plan and slopeboard_refine ask for. The board may be shorter. */
 #define SLOPEBOARD_BOARD_BYTES(turns) (15 + ((turns) + 7) / 8 + 4 * (turns))
 #define SLOPEBOARD_MOST_BOARD_BYTES SLOPEBOARD_BOARD_BYTES(SLOPEBOARD_MOST_TURNS)
 /* Enough for every listing: none has more than 3,823 bytes. There are at most 16 headings of 11 bytes; at most 120
@@ -111,7 +114,7 @@ enum {
  * are not in registers and with what the ABI lets a function write below the stack pointer. What memcpy and memset
  * need beyond their return address comes on top. */
 #define SLOPEBOARD_STACK_ASSIGN 10736
-#define SLOPEBOARD_STACK_BEST 13152
+#define SLOPEBOARD_STACK_BEST 14000
 #define SLOPEBOARD_STACK_CHARGE 24568
 #define SLOPEBOARD_STACK_CHECK 13408
 #define SLOPEBOARD_STACK_COUNT 8
@@ -119,13 +122,14 @@ enum {
 #define SLOPEBOARD_STACK_IMPROVE 17696
 #define SLOPEBOARD_STACK_IS_CHOSEN 8
 #define SLOPEBOARD_STACK_KEEP 5392
-#define SLOPEBOARD_STACK_LIMIT 12368
+#define SLOPEBOARD_STACK_LIMIT 20576
 #define SLOPEBOARD_STACK_LIST 22808
 #define SLOPEBOARD_STACK_OPEN 8
 #define SLOPEBOARD_STACK_PLAN 15160
 #define SLOPEBOARD_STACK_PLAY 24304
 #define SLOPEBOARD_STACK_READ 4992
 #define SLOPEBOARD_STACK_READ_SHORT 4992
+#define SLOPEBOARD_STACK_REFINE 23832
 #define SLOPEBOARD_STACK_RESTORE 4888
 #define SLOPEBOARD_STACK_STEPS 16
 #define SLOPEBOARD_STACK_WRITE 7088
@@ -202,6 +206,14 @@ typedef struct {
     uint8_t refusal;
     uint32_t limit; /* no feasible set is worth more */
 } slopeboard_limit_answer;
+
+typedef struct {
+    uint8_t refusal;
+    uint32_t bytes;  /* how many bytes the board has */
+    uint32_t worth;  /* of the board's turns */
+    uint32_t limit;  /* at the written prices */
+    uint32_t rounds; /* how many were made */
+} slopeboard_refine_answer;
 
 /* Reads a sheet into a turn table: for each turn slope, groomer, start, length, worth and driver, which is 0 if the
  * turn names none. The answer has the counts of the sheet's header.
@@ -395,6 +407,34 @@ slopeboard_charge_answer slopeboard_charge(const uint8_t *sheet, size_t sheet_le
  * turns together. */
 slopeboard_limit_answer slopeboard_limit(const uint8_t *sheet, size_t sheet_len, const uint16_t *prices,
                                          size_t prices_len);
+
+/* Makes a better board than slopeboard_plan does, and a limit close above it, in at most so many rounds, and
+ * writes the board and the prices that give the limit.
+ *
+ * slopeboard_check passes the board. It has the steps and the tally of the planned one, and is worth no less.
+ * slopeboard_limit gives the limit again at the written prices, so that no set of turns in which no two conflict
+ * is worth more: if the worth is the limit, no board is worth more. More rounds never give less worth or a higher
+ * limit. The rounds of the answer are those allowed, or fewer if worth and limit meet before.
+ *
+ * It begins with the planned board, with prices of 0 and with a change: a quarter of the greatest worth on the
+ * sheet, upwards to a whole number, 0 without turns. Then it looks at the prices. The limit is worked out as
+ * slopeboard_limit does it, and is kept with its prices if all before were higher. The groomers' best sets are
+ * taken together, of equal ones that which slopeboard_best would show, and a choice is made: their turns by
+ * worth, the greatest first, of equals the lowest number, each chosen if it conflicts with none chosen before;
+ * then all turns of the sheet likewise. If this choice is worth more than the board's, it takes its place. If
+ * the kept limit is now the board's worth, or if all rounds are made, it ends. Else a round moves the prices, and
+ * it looks again.
+ *
+ * A round goes by how many turns of the best sets pay a price. If none does, the price falls by the change, down
+ * to 0 at most; if one does, it stays; for each further one it rises by the change, up to 60,000 at most. For the
+ * price of a turn it is half of the change, downwards to a whole number and at least 1; that of a turn without a
+ * driver stays 0. After a round the change is fifteen sixteenths of what it was, downwards to a whole number and
+ * at least 1.
+ *
+ * Refusals: those of slopeboard_read but 11, in their order; then 11 if board_len is below
+ * SLOPEBOARD_BOARD_BYTES of the sheet's turns, or prices_len below the number of slopes and turns together. */
+slopeboard_refine_answer slopeboard_refine(const uint8_t *sheet, size_t sheet_len, uint32_t rounds, uint8_t *board,
+                                           size_t board_len, uint16_t *prices, size_t prices_len);
 
 #ifdef __cplusplus
 }

@@ -56,6 +56,12 @@ STANDS_AT(slopeboard_charge_answer, worth, 4);
 LAID_OUT(slopeboard_limit_answer, 8);
 STANDS_AT(slopeboard_limit_answer, refusal, 0);
 STANDS_AT(slopeboard_limit_answer, limit, 4);
+LAID_OUT(slopeboard_refine_answer, 20);
+STANDS_AT(slopeboard_refine_answer, refusal, 0);
+STANDS_AT(slopeboard_refine_answer, bytes, 4);
+STANDS_AT(slopeboard_refine_answer, worth, 8);
+STANDS_AT(slopeboard_refine_answer, limit, 12);
+STANDS_AT(slopeboard_refine_answer, rounds, 16);
 
 static int differences;
 
@@ -288,6 +294,32 @@ static void limiting(void) {
     EXPECT(answer.refusal == SLOPEBOARD_BAD_PRICES && answer.limit == 0);
 }
 
+/* Worth and limit meet at once on the worked shift. Where two groomers have a turn on one slope, worth 100 and 60,
+ * its price goes up by 25, 23 and 21, and at 69 the limit is 69 and 31. */
+static void refining(void) {
+    uint16_t prices[8];
+    memset(prices, LENT, sizeof prices);
+    slopeboard_refine_answer refined = slopeboard_refine(sheet, sizeof sheet, 9, fresh(), SLOPEBOARD_BOARD_BYTES(4), prices, 7);
+    EXPECT(refined.refusal == 0 && refined.bytes == sizeof board && HOLDS(lent, board));
+    EXPECT(refined.worth == 240 && refined.limit == 240 && refined.rounds == 0);
+    EXPECT(prices[0] == 0 && prices[6] == 0 && prices[7] == LENT * 257);
+    const uint8_t two[] = {
+        0x47, 0x52, 0x4D, 2, 1, 0, 2, 0x1F, 1, 1, 0, 0, 0, 60, 0, 100, 0x12, 2, 0, 60,
+    };
+    refined = slopeboard_refine(two, sizeof two, 2, fresh(), SLOPEBOARD_BOARD_BYTES(2), prices, 3);
+    EXPECT(refined.refusal == 0 && refined.worth == 100 && refined.limit == 112 && refined.rounds == 2);
+    EXPECT(prices[0] == 48 && prices[1] == 0 && prices[2] == 0);
+    refined = slopeboard_refine(two, sizeof two, UINT32_MAX, fresh(), SLOPEBOARD_BOARD_BYTES(2), prices, 3);
+    EXPECT(refined.refusal == 0 && refined.worth == 100 && refined.limit == 100 && refined.rounds == 3);
+    EXPECT(prices[0] == 69 && lent[15] == 1);
+    memset(prices, LENT, sizeof prices);
+    refined = slopeboard_refine(sheet, sizeof sheet, 9, fresh(), sizeof lent, prices, 6);
+    EXPECT(refined.refusal == SLOPEBOARD_BUFFER_TOO_SMALL && refined.bytes == 0 && refined.worth == 0);
+    EXPECT(refined.limit == 0 && refined.rounds == 0 && untouched() && prices[0] == LENT * 257);
+    refined = slopeboard_refine(sheet, sizeof sheet, 9, fresh(), SLOPEBOARD_BOARD_BYTES(4) - 1, prices, 7);
+    EXPECT(refined.refusal == SLOPEBOARD_BUFFER_TOO_SMALL && untouched() && prices[0] == LENT * 257);
+}
+
 int main(void) {
     reading();
     writing();
@@ -303,5 +335,6 @@ int main(void) {
     playing();
     charging();
     limiting();
+    refining();
     return differences != 0;
 }

@@ -45,6 +45,7 @@ static void call_keep(void) { refusal = slopeboard_keep(sheet, sheet_len, bytes,
 static void call_restore(void) { refusal = slopeboard_restore(kept, kept_len, bytes, sizeof bytes).refusal; }
 static void call_play(void) { refusal = slopeboard_play(sheet, sheet_len, board, board_len, delays, TURNS, list, SLOPEBOARD_MOST_GROOMERS).refusal; }
 static void call_limit(void) { refusal = slopeboard_limit(sheet, sheet_len, prices, SLOPEBOARD_MOST_SLOPES + TURNS).refusal; }
+static void call_refine(void) { refusal = slopeboard_refine(sheet, sheet_len, 20, bytes, sizeof bytes, numbers, SLOPEBOARD_MOST_NUMBERS).refusal; }
 static void call_charge(void) { refusal = slopeboard_charge(hall, hall_len, bytes, sizeof bytes).refusal; }
 
 /* How many bytes of the painted stack a call touches. */
@@ -107,6 +108,7 @@ int main(void) {
         ENTRY(steps, STEPS), ENTRY(count, COUNT), ENTRY(is_chosen, IS_CHOSEN), ENTRY(check, CHECK), ENTRY(list, LIST),
         ENTRY(assign, ASSIGN), ENTRY(best, BEST), ENTRY(improve, IMPROVE), ENTRY(draw, DRAW), ENTRY(keep, KEEP),
         ENTRY(restore, RESTORE), ENTRY(play, PLAY), ENTRY(charge, CHARGE), ENTRY(limit, LIMIT),
+        ENTRY(refine, REFINE),
     };
     size_t count = sizeof entries / sizeof entries[0];
     int faults = 0;

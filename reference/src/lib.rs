@@ -8,6 +8,7 @@
 //! number of a refusal; in that case no buffer has been changed.
 
 pub mod boards;
+pub mod expected;
 pub mod fast;
 pub mod gen;
 pub mod halls;

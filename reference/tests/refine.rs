@@ -5,10 +5,10 @@
 mod both;
 
 use both::{limit, planned, read, refine, sheet_of, sums, BYTE_KEPT};
+use slopeboard_reference::expected::{self, KINDS};
 use slopeboard_reference::gen::{self, Rng, Row, Shift};
-use slopeboard_reference::naive::draw::{length_of, next};
 use slopeboard_reference::naive::turns::turns_of;
-use slopeboard_reference::naive::{best_worth, steps, write, Refined};
+use slopeboard_reference::naive::{best_worth, steps, Refined};
 use slopeboard_reference::{fast, prices, shapes};
 
 /// What an untouched price holds.
@@ -355,68 +355,23 @@ fn faulty_sheets_agree() {
     }
 }
 
-/// A row of the table of what to expect: groomers, slopes, turns; the drivers,
-/// the greatest worth, and on how many of twenty sheets board and limit meet.
-#[derive(Clone, Copy)]
-struct Kind {
-    counts: [u32; 3],
-    drivers: u32,
-    worth: u32,
-    meet: u32,
+/// The judge and the fast version on drawn sheets, and how close board and limit
+/// come there.
+#[test]
+#[ignore = "takes some seconds"]
+fn board_and_limit_come_close() {
+    expected::come_close(|sheet, rounds| {
+        let (worth, limit, _) = figures(sheet, rounds);
+        (worth, limit)
+    });
 }
 
-const fn kind(counts: [u32; 3], drivers: u32, worth: u32, meet: u32) -> Kind {
-    Kind {
-        counts,
-        drivers,
-        worth,
-        meet,
-    }
-}
-
-const KINDS: [Kind; 7] = [
-    kind([16, 120, 400], 0, 60_000, 20),
-    kind([4, 40, 200], 0, 60_000, 13),
-    kind([8, 60, 400], 0, 60_000, 13),
-    kind([16, 120, 400], 40, 60_000, 3),
-    kind([16, 120, 400], 12, 60_000, 0),
-    kind([8, 60, 400], 0, 150, 9),
-    kind([2, 20, 64], 0, 60_000, 13),
-];
-
-/// A sheet drawn as the shop floor's are. Where drivers are named a sixth draw
-/// gives each turn's, none among them.
-fn drawn_of(kind: Kind, seed: u64) -> Vec<u8> {
-    let [groomers, slopes, turns] = kind.counts;
-    let mut number = seed;
-    let mut below = |bound: u32| {
-        number = next(number);
-        (number % u64::from(bound)) as u16
-    };
-    let mut table = Vec::new();
-    for _ in 0..turns {
-        table.extend([1 + below(slopes), 1 + below(groomers), below(841)]);
-        table.push(length_of(below(100).into()) as u16);
-        table.push(1 + below(kind.worth));
-        table.push(match kind.drivers {
-            0 => 0,
-            drivers => below(drivers + 1),
-        });
-    }
-    let mut sheet = vec![0; 4007];
-    let len = write(groomers, slopes, &table, &mut sheet).unwrap();
-    sheet.truncate(len);
-    sheet
-}
-
-/// How close board and limit come: worth by limit after so many rounds.
-fn ratio(sheet: &[u8], rounds: u32) -> f64 {
-    let found = fast::refine(sheet, rounds, &mut [0; 1665], &mut [0; 520]).unwrap();
-    f64::from(found.worth) / f64::from(found.limit)
-}
-
-fn mean(ratios: &[f64]) -> f64 {
-    ratios.iter().sum::<f64>() / ratios.len() as f64
+#[test]
+fn board_and_limit_meet_as_expected() {
+    expected::meet_as_expected(|sheet, rounds| {
+        let found = fast::refine(sheet, rounds, &mut [0; 1665], &mut [0; 520]).unwrap();
+        (found.worth, found.limit)
+    });
 }
 
 #[test]
@@ -427,67 +382,7 @@ fn draws_are_the_shop_floors() {
     {
         let [groomers, slopes, turns] = kind.counts;
         for seed in [1, 7, 2_147_483_646] {
-            assert_eq!(drawn_of(*kind, seed), drawn(seed, groomers, slopes, turns));
+            assert_eq!(kind.drawn(seed), drawn(seed, groomers, slopes, turns));
         }
-    }
-}
-
-/// Of each row twenty sheets, and 100 rounds on each, with the judge beside the
-/// fast version.
-#[test]
-#[ignore = "takes some seconds"]
-fn board_and_limit_come_close() {
-    let (mut without, mut with) = (Vec::new(), Vec::new());
-    for kind in KINDS {
-        let (mut ratios, mut early) = (Vec::new(), [vec![], vec![], vec![]]);
-        for seed in 1..=20 {
-            let sheet = drawn_of(kind, seed);
-            let (worth, limit, _) = figures(&sheet, 100);
-            let close = f64::from(worth) / f64::from(limit);
-            // One sheet with few drivers (seed 13) is at 0.946.
-            let floor = if kind.drivers == 12 { 0.94 } else { 0.96 };
-            assert!(close >= floor, "{close} {:?} seed {seed}", kind.counts);
-            ratios.push(close);
-            for (ratios, rounds) in early.iter_mut().zip([0, 20, 50]) {
-                ratios.push(ratio(&sheet, rounds));
-            }
-        }
-        let met = ratios.iter().filter(|&&ratio| ratio == 1.0).count();
-        let least = ratios.iter().copied().fold(1.0, f64::min);
-        println!(
-            "{:?} drivers {} worths to {}: worth / limit {:.4} (0 rounds), {:.4} (20), {:.4} (50), \
-             {:.4} (100); least {least:.4}; they meet on {met} of 20",
-            kind.counts,
-            kind.drivers,
-            kind.worth,
-            mean(&early[0]),
-            mean(&early[1]),
-            mean(&early[2]),
-            mean(&ratios),
-        );
-        match kind.drivers {
-            0 => without.extend(ratios),
-            _ => with.extend(ratios),
-        }
-    }
-    let (without, with) = (mean(&without), mean(&with));
-    println!("all rows without drivers {without:.4}, with drivers {with:.4}");
-    assert!(without >= 0.995 && with >= 0.98, "{without} {with}");
-}
-
-/// On the seeds from 101 on board and limit meet just as often as the table of
-/// what to expect has it. It does not say which draws give the drivers, so that
-/// those rows are only printed.
-#[test]
-#[ignore = "takes some seconds"]
-fn board_and_limit_meet_as_expected() {
-    for kind in KINDS {
-        let sheets = (101..=120).map(|seed| drawn_of(kind, seed));
-        let met = sheets.filter(|sheet| ratio(sheet, 100) == 1.0).count() as u32;
-        println!(
-            "{:?} {} {}: {met} of 20",
-            kind.counts, kind.drivers, kind.worth
-        );
-        assert!(kind.drivers != 0 || met == kind.meet);
     }
 }

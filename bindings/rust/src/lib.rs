@@ -4,9 +4,9 @@
 //! them, writes the drivers' listing, assigns groomers where all turns must be
 //! done, works out the best worth where each slope has one turn, looks for a
 //! better choice than the planned one, draws sheets from a seed, writes sheets
-//! by column and back, plays a board with delays, plans a charging hall, and
-//! works out by prices what no choice can be worth more than. A second reader
-//! takes at most 96 turns. Every buffer is the caller's: on a refusal it holds
+//! by column and back, plays a board with delays, plans a charging hall, works
+//! out by prices what no choice can be worth more than, and makes better boards
+//! by rounds in which prices move. A second reader takes at most 96 turns. Every buffer is the caller's: on a refusal it holds
 //! what it held before, and on success so do its places past the last one
 //! written. The order in which refusals are looked for is in
 //! `include/slopeboard.h`.
@@ -25,7 +25,7 @@ pub use refusal::Refusal;
 
 /// The number of this interface, as `SLOPEBOARD_VERSION` in the header: each
 /// change that a caller can see raises it.
-pub const VERSION: u32 = 16;
+pub const VERSION: u32 = 17;
 
 /// Numbers that a turn takes in a turn table: slope, groomer, start, length,
 /// worth, driver. Driver 0 is none.
@@ -49,12 +49,15 @@ pub const NO_TURN: u16 = 65_535;
 pub const MOST_UNITS: usize = 48;
 /// Vehicles that a charging hall has at most.
 pub const MOST_VEHICLES: usize = 60;
+/// Prices that a list of any sheet has at most: one for each slope, then one for
+/// each turn.
+pub const MOST_PRICES: usize = MOST_SLOPES + MOST_TURNS;
 /// Bytes that hold any sheet, and any kept form of one.
 pub const MOST_SHEET_BYTES: usize = 7 + 10 * MOST_TURNS;
 /// Bytes that hold any listing: no listing has more than 3,823.
 pub const MOST_TEXT_BYTES: usize = 4096;
 
-/// Bytes that [`plan`] asks for, for a sheet of so many turns.
+/// Bytes that [`plan`] and [`refine`] ask for, for a sheet of so many turns.
 pub const fn board_bytes(turns: usize) -> usize {
     15 + turns.div_ceil(8) + 4 * turns
 }
@@ -96,6 +99,20 @@ pub struct Improved {
     /// Whether the whole search ran: no set of the sheet's turns without a
     /// conflict is then worth more.
     pub whole: bool,
+}
+
+/// What the rounds came to.
+#[derive(Clone, Copy, Debug, PartialEq, Eq)]
+pub struct Refined {
+    /// How many bytes the board has.
+    pub bytes: usize,
+    /// What the board's turns are worth.
+    pub worth: u32,
+    /// The limit at the written prices. No set of the sheet's turns without a
+    /// conflict is worth more; so, if it is the worth, no board is.
+    pub limit: u32,
+    /// How many rounds were made.
+    pub rounds: u32,
 }
 
 // SAFETY, for each call below: a slice gives a pointer to as many elements as
@@ -299,6 +316,41 @@ pub fn limit(sheet: &[u8], prices: &[u16]) -> Result<u32, Refusal> {
     let answer = unsafe { raw::slopeboard_limit(sheet.as_ptr(), sheet.len(), prices, prices_len) };
     refusal::none(answer.refusal)?;
     Ok(answer.limit)
+}
+
+/// Starts from the board that [`plan`] writes and prices of 0, makes at most so
+/// many rounds in which the prices move, and writes the best board found and the
+/// prices of the lowest limit. The board passes [`check`] and is worth no less
+/// than the planned one, and [`limit`] gives the same limit at these prices.
+/// More rounds never give less worth or a higher limit. It stops early if worth
+/// and limit meet. Asks for [`board_bytes`] of the sheet's turns, and for a
+/// price for each slope and each turn.
+pub fn refine(
+    sheet: &[u8],
+    rounds: u32,
+    board: &mut [u8],
+    prices: &mut [u16],
+) -> Result<Refined, Refusal> {
+    let (board, board_len) = (board.as_mut_ptr(), board.len());
+    let (prices, prices_len) = (prices.as_mut_ptr(), prices.len());
+    let answer = unsafe {
+        raw::slopeboard_refine(
+            sheet.as_ptr(),
+            sheet.len(),
+            rounds,
+            board,
+            board_len,
+            prices,
+            prices_len,
+        )
+    };
+    refusal::none(answer.refusal)?;
+    Ok(Refined {
+        bytes: answer.bytes as usize,
+        worth: answer.worth,
+        limit: answer.limit,
+        rounds: answer.rounds,
+    })
 }
 
 fn counts(answer: raw::ReadAnswer) -> Result<Counts, Refusal> {

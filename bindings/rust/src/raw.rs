@@ -107,6 +107,17 @@ pub struct LimitAnswer {
     pub limit: u32,
 }
 
+/// What a better board by rounds gives; 0 on a refusal.
+#[repr(C)]
+#[derive(Clone, Copy, Debug, PartialEq, Eq)]
+pub struct RefineAnswer {
+    pub refusal: u8,
+    pub bytes: u32,
+    pub worth: u32,
+    pub limit: u32,
+    pub rounds: u32,
+}
+
 extern "C" {
     pub fn slopeboard_read(
         sheet: *const u8,
@@ -229,4 +240,14 @@ extern "C" {
         prices: *const u16,
         prices_len: usize,
     ) -> LimitAnswer;
+
+    pub fn slopeboard_refine(
+        sheet: *const u8,
+        sheet_len: usize,
+        rounds: u32,
+        board: *mut u8,
+        board_len: usize,
+        prices: *mut u16,
+        prices_len: usize,
+    ) -> RefineAnswer;
 }

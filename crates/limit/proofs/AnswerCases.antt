@@ -1,64 +1,36 @@
 -- The entry's answer by its cases, each premise in the form in which the code's calls and tests leave it. Assumes nothing.
-use Prim.Native.Nat.{ℕ, _+_, _*_, _≤_, _<_}
+use Prim.Native.Nat.{ℕ, _+_, _≤_, _<_}
 use mathlib.Core.Path.{_≡_, sym, ap, _∙_}
 use mathlib.Core.Bool.{Bool, not, cond}
 use mathlib.Core.List.{List, [], _∷_}
 use native.Mathlib.Omega.{arith}
-use mir.Syntax.{w32}
-use mir.Val.{Fits}
 use lib.Dec.{eqb}
 use lib.ListN.{length}
 use borrow.Author.Tests.{eq-eqb, ne-eqb}
 use Rattle.refusal.specs.Number.{badPrices}
 use Rattle.refusal.specs.Cause.{Cause, _when_, firstOf}
 use Rattle.refusal.proofs.Order.{first-stops, first-goes}
-use Rattle.turns.specs.Turn.{mostWorth, mostDriver}
+use Rattle.turns.specs.Turn.{mostDriver}
 use Rattle.sheet.specs.declared.answer.ReadAnswer.{ReadAnswer}
-use Rattle.sheet.specs.Kind.{mostTurns, mostSlopes, garage}
+use Rattle.sheet.specs.Kind.{garage}
 use Rattle.sheet.specs.Read.{countsIn, turnCount, sheetCauses, answerOf}
 use Rattle.sheet.proofs.SoundKinds.{garage-sound}
 use Rattle.sheet.proofs.Readings.{sheet-numbered}
 use Rattle.sheet.proofs.Unrefused.{few-slopes, few-groomers}
 use Rattle.sheet.proofs.Whole.{whole-refusal, whole-accepted, whole-answer, whole-turns}
 use Rattle.problem.specs.declared.columns.Size.{Size}
-use Rattle.problem.specs.Columns.{columnPlaces, turnsBy, Held}
+use Rattle.problem.specs.Columns.{turnsBy, Held}
 use Rattle.problem.specs.Problem.{problemOf, shiftGap, sheetTurns}
 use Rattle.problem.specs.Load.{shiftSize, Posed}
 use Rattle.problem.proofs.Posed.{sheet-range-for, sheet-count, sheet-slopes, sheet-groomers}
 use Rattle.optimum.specs.Table.{bestWorth}
 use Rattle.besttable.specs.Held.{Ranged}
 use Rattle.price_spec.specs.declared.LimitAnswer.{LimitAnswer}
-use Rattle.price_spec.specs.Prices.{countsFor, priceSum, limitBy}
+use Rattle.price_spec.specs.Prices.{priceSum, limitBy}
 use Rattle.price_spec.specs.Limit.{priceCount, limitCauses, sheetLimit, limitIs, limitRefused, limitOf}
 use Rattle.price_spec.proofs.Limits.{priced-sum, priced-best}
-use Rattle.limit.specs.Held.{mostPrice, countedTurns, Priced}
-
--- ---- the table over the counts
-
-module _ (p : Size) (cols : List ℕ) (slopes : ℕ) (prices cols′ : List ℕ) (e : turnsBy p cols′ ≡ countedTurns (turnsBy p cols) slopes prices) where
-  pub counted-held : Held p cols → length cols′ ≡ columnPlaces → Held p cols′
-  unfolding countedTurns countsFor
-  counted-held h l =
-      record {
-        places = l;
-        few = h .few;
-        slopes = λ t k. rw e (h .slopes t k);
-        starts = λ t k. rw e (h .starts t k);
-        ends = λ t k. rw e (h .ends t k);
-        worths = λ t k. rw e (omega (arith, h .worths t k));
-      }
-
-  pub counted-ranged : Ranged p cols → Ranged p cols′
-  unfolding countedTurns
-  counted-ranged r = record { groomers = λ t k. rw e (r .groomers t k) }
-
-  pub limit-fits : {a b : ℕ} → a ≤ (mostSlopes + mostTurns) * mostPrice → b ≤ mostTurns * mostWorth → Fits w32 (a + b)
-  limit-fits l m = omega arith
-
-  pub limit-sum : {a b : ℕ} → a ≡ priceSum (turnsBy p cols) slopes prices → b ≡ bestWorth (turnsBy p cols′) → a + b ≡ priceSum (turnsBy p cols) slopes prices + bestWorth (countedTurns (turnsBy p cols) slopes prices)
-  limit-sum f g = rw (f, g, e)
-
-pub ruleset with-cases = (counted-held, counted-ranged, limit-fits, limit-sum)
+use Rattle.prices.specs.declared.Extent.{Extent}
+use Rattle.prices.specs.Held.{countedTurns, turnsIn, Driven, Priced}
 
 -- ---- the answer
 
@@ -91,7 +63,7 @@ module _ (s prices : List ℕ) {r : ReadAnswer} (e : r ≡ answerOf s) where
     pub limit-other : {x : LimitAnswer} → (length prices ≡ r .slopes + r .turns → ⊥) → x ≡ limitRefused badPrices → x ≡ limitOf s prices
     limit-other d h = h ∙ sym (declines badPrices (later (ne-eqb (length prices) (priceCount s) (λ q. d (omega (arith, q, turns-are, slopes-are))))) (omega arith))
 
-    module _ (cols : List ℕ) {p : Size} (w : r .refusal ≡ 0 → Posed s cols) (q : p ≡ shiftSize (r .turns)) where
+    module _ (cols : List ℕ) (p : Size) (w : r .refusal ≡ 0 → Posed s cols) (q : p ≡ shiftSize (r .turns)) where
       size-is : p ≡ shiftSize (turnCount s)
       size-is = q ∙ ap shiftSize turns-are
 
@@ -114,8 +86,15 @@ module _ (s prices : List ℕ) {r : ReadAnswer} (e : r ≡ answerOf s) where
       unfolding sheetTurns problemOf sheetCauses
       sheet-drivers t h = sheet-range-for garage garage-sound shiftGap s sound t h .driver-to
 
+      pub limit-driven : Driven p cols
+      limit-driven = record { drivers = λ t h. rw posed (sheet-drivers t (inside t h)) }
+
+      -- so many turns and slopes
+      abbrev extent : Extent
+      extent = record { size = p; slopes = r .slopes }
+
       module _ (l : length prices ≡ r .slopes + r .turns) where
-        pub limit-priced : Priced p cols (r .slopes) prices
+        pub limit-priced : Priced extent cols prices
         limit-priced =
             record {
               places = limit-held .places;
@@ -129,10 +108,10 @@ module _ (s prices : List ℕ) {r : ReadAnswer} (e : r ≡ answerOf s) where
         numbers : (t : ℕ) → t < sheetTurns s .count → (1 ≤ sheetTurns s .groomer t) × (sheetTurns s .groomer t ≤ countsIn s .groomers)
         numbers t h = sheet-groomers s sound t (omega (arith, sheet-count s sound))
 
-        pub limit-found : {x : ℕ} → x ≡ priceSum (turnsBy p cols) (r .slopes) prices + bestWorth (countedTurns (turnsBy p cols) (r .slopes) prices) → limitIs x ≡ limitOf s prices
+        pub limit-found : {x : ℕ} → x ≡ priceSum (turnsIn extent cols) (r .slopes) prices + bestWorth (countedTurns (turnsIn extent cols) (r .slopes) prices) → limitIs x ≡ limitOf s prices
         unfolding limitOf sheetLimit limitBy countedTurns
         limit-found h =
             rw (later (eq-eqb (length prices) (priceCount s) (omega (arith, l, turns-are, slopes-are))))
             (ap limitIs (h ∙ rw (posed, slopes-are) (ap (λ (n : ℕ). priceSum (sheetTurns s) (countsIn s .slopes) prices + n) (priced-best (sheetTurns s) (countsIn s .slopes) prices ∙ priced-sum (sheetTurns s) (countsIn s .slopes) prices (countsIn s .groomers) numbers))))
 
-pub ruleset limit-cases = (limit-fault, limit-other, limit-held, limit-ranged, limit-priced, limit-found)
+pub ruleset limit-cases = (limit-fault, limit-other, limit-held, limit-ranged, limit-driven, limit-priced, limit-found)

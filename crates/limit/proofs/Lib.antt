@@ -1,3 +1,1 @@
-pub mod PriceCases
-pub mod CountCases
 pub mod AnswerCases

@@ -1,33 +1,33 @@
-// A limit by prices: the prices themselves, and the best worth of turns that count for what their prices
-// leave of their worths.
+// A limit by prices: any bytes as a sheet, and any numbers as a price list.
 ghost use mathlib.Core.Path.{_≡_};
 ghost use Prim.Native.Nat.{_+_};
-ghost use Rattle.problem.specs.Columns.{turnsBy, Held};
+ghost use lib.ListN.{length};
+ghost use Rattle.problem.specs.Columns.{Held};
 ghost use Rattle.optimum.specs.Table.{bestWorth};
 ghost use Rattle.besttable.specs.Held.{Ranged};
 ghost use Rattle.price_spec.specs.Prices.{priceSum};
 ghost use Rattle.price_spec.specs.Limit.{limitRefused, limitOf};
-ghost use Rattle.limit.specs.Held.{countedTurns, Priced};
-
-mod links;
-mod paying;
-mod prices;
-
-use paying::put_counts;
+ghost use Rattle.prices.specs.Held.{countedTurns, turnsIn, orderPlaces, Driven, Priced};
 use price_spec::LimitAnswer;
-use prices::price_sum;
+use prices::Extent;
+use prices::ORDERS;
 use problem::PLACES;
-use problem::Size;
 
-// The limit of a problem; the counts take the place of the worths in the columns.
-fn limit_with(p: Size, cols: &mut [u16; PLACES], slopes: usize, prices: &[u16]) -> u32
-    requires { ⌜ Held p (now cols) × Ranged p (now cols) × Priced p (now cols) slopes (now prices) ⌝ }
-    ensures { λ r. ⌜ r ≡ priceSum (turnsBy p (now (cols .entry))) slopes (now (prices .entry))
-        + bestWorth (countedTurns (turnsBy p (now (cols .entry))) slopes (now (prices .entry))) ⌝ }
+// The limit of a problem, with places for the orders.
+fn limit_with(
+    e: Extent,
+    cols: &[u16; PLACES],
+    prices: &[u16],
+    orders: &mut [u16; ORDERS],
+    room: &mut [u16; PLACES],
+) -> u32
+    requires { ⌜ Held (e .size) (now cols) × Ranged (e .size) (now cols) × Driven (e .size) (now cols) × Priced e (now cols) (now prices) ⌝ }
+    requires { ⌜ length (now orders) ≡ orderPlaces ⌝ }
+    ensures { λ r. ⌜ r ≡ priceSum (turnsIn e (now (cols .entry))) (e .slopes) (now (prices .entry))
+        + bestWorth (countedTurns (turnsIn e (now (cols .entry))) (e .slopes) (now (prices .entry))) ⌝ }
 {
-    let sum = price_sum(p, &*cols, slopes, prices);
-    put_counts(p, &mut *cols, slopes, prices);
-    sum + besttable::best_worth(p, &*cols)
+    prices::put_orders(e, cols, &mut *orders, &mut *room);
+    prices::limit_at(e, cols, &*orders, prices)
 }
 
 fn refused(k: u8) -> LimitAnswer
@@ -44,17 +44,23 @@ pub fn limit(s: &[u8], prices: &[u16]) -> LimitAnswer
     ensures { λ r. ⌜ r ≡ limitOf (now (s .entry)) (now (prices .entry)) ⌝ }
 {
     let mut cols = [0u16; PLACES];
-    let r = problem::load(s, &mut cols);
+    let mut room = [0u16; PLACES];
+    let r = problem::load_with(s, &mut cols, &mut room);
     let fault = r.refusal;
     if fault != 0 {
         return refused(fault);
     }
     let slopes = r.slopes as usize;
-    if prices.len() != slopes + r.turns as usize {
+    let turns = r.turns as usize;
+    if prices.len() != slopes + turns {
         return refused(refusal::BAD_PRICES);
     }
-    let p = problem::shift_size(r.turns);
-    let limit = limit_with(p, &mut cols, slopes, prices);
+    let e = Extent {
+        size: problem::shift_size(r.turns),
+        slopes: slopes,
+    };
+    let mut orders = [0u16; ORDERS];
+    let limit = limit_with(e, &cols, prices, &mut orders, &mut room);
     LimitAnswer {
         refusal: 0,
         limit: limit,

@@ -1,11 +1,13 @@
 -- The table reads neither slopes nor drivers: it is the same if no two turns share a slope and none has a driver. Assumes nothing.
 use mathlib.Core.Path.{_≡_, refl, ap, _∙_}
+use mathlib.Core.Bool.{false}
 use mathlib.Core.List.{List, [], _∷_}
 use Prim.Native.Nat.{ℕ, _+_}
 use lib.Dec.{eqb}
+use lib.ListN.{replicate}
 use Rattle.lists.specs.Lists.{sum, below}
 use Rattle.model.specs.Turns.{Turns, oneGroomer}
-use Rattle.optimum.specs.Table.{Best, laterFirst, turnOrder, inTheWay, blocked, bestTable, bestOf, bestWorth}
+use Rattle.optimum.specs.Table.{Best, laterFirst, turnOrder, inTheWay, blocked, bestTable, bestOf, bestWorth, marked, bestChoice}
 use Rattle.optimum.specs.Groomers.{keep, ownTurns, groomerWorth, groomersWorth}
 
 -- turns with other worths
@@ -38,6 +40,10 @@ module _ (T : Turns) where
   pub bare-best : bestWorth (bare T) ≡ bestWorth T
   unfolding bestWorth
   bare-best = ap (λ (ts : List ℕ). bestOf (bare T) ts .worth) bare-order ∙ ap (λ (b : Best). b .worth) (bare-of (turnOrder T))
+
+  pub bare-choice : bestChoice (bare T) ≡ bestChoice T
+  unfolding bestChoice
+  bare-choice = ap (λ (ts : List ℕ). marked (replicate (T .count) false) (bestOf (bare T) ts .turns)) bare-order ∙ ap (λ (b : Best). marked (replicate (T .count) false) (b .turns)) (bare-of (turnOrder T))
 
   bare-groomer : (g : ℕ) → groomerWorth (bare T) g ≡ groomerWorth T g
   unfolding groomerWorth ownTurns

@@ -36,7 +36,7 @@ unfoldable pub pricedTurns : Turns → ℕ → List ℕ → Turns
 pricedTurns T slopes prices =
     record { count = T .count; gap = T .gap; slope = λ t. t; groomer = T .groomer; start = T .start; end = T .end; worth = countsFor T slopes prices; driver = λ t. 0 }
 
--- the prices that the limit has in it: of all slopes, and of the turns that name a driver
+-- the prices that the limit has in it: every slope's, and every turn's that has a driver
 unfoldable pub priceSum : Turns → ℕ → List ℕ → ℕ
 priceSum T slopes prices = sum (λ k. slopePrice prices (k + 1)) (below slopes) + sum (λ u. cond (ltb 0 (T .driver u)) (turnPrice slopes prices u) 0) (below (T .count))
 

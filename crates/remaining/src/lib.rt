@@ -1,4 +1,4 @@
-// The pick: what is spent is removed, and the earliest end is looked for among the turns that remain.
+// The pick: spent turns leave the list, then the one that ends first is found among those left in it.
 mod picking;
 
 pub use picking::pick_turn;

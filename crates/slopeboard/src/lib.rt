@@ -18,6 +18,8 @@ ghost use Rattle.trial.specs.Trial.{drawOf};
 ghost use Rattle.exact.specs.Answer.{earned};
 ghost use Rattle.exact.specs.Exact.{exactOf};
 ghost use Rattle.price_spec.specs.Limit.{limitOf};
+ghost use Rattle.refine_spec.specs.Refine.{refineOf};
+ghost use Rattle.refine_spec.specs.Answer.{refinedBy};
 ghost use Rattle.improve.specs.Answer.{improved};
 ghost use Rattle.improve.specs.Improve.{improveOf};
 ghost use Rattle.archive.specs.Archive.{keepOf, restoreOf};
@@ -37,6 +39,7 @@ use planner::PlanAnswer;
 use play::PlayAnswer;
 use playing::Standing;
 use price_spec::LimitAnswer;
+use refine_spec::RefineAnswer;
 use sheet::ReadAnswer;
 use writer::WriteAnswer;
 
@@ -189,4 +192,16 @@ pub extern "C" fn slopeboard_limit(sheet: &[u8], prices: &[u16]) -> LimitAnswer
     ensures { λ r. ⌜ r ≡ limitOf (now (sheet .entry)) (now (prices .entry)) ⌝ }
 {
     limit::limit(sheet, prices)
+}
+
+#[no_mangle]
+pub extern "C" fn slopeboard_refine(
+    sheet: &[u8],
+    rounds: u32,
+    board: &mut [u8],
+    prices: &mut [u16],
+) -> RefineAnswer
+    ensures { λ r. ⌜ refinedBy r (now (board .exit)) (now (prices .exit)) ≡ refineOf (now (sheet .entry)) rounds (now (board .entry)) (now (prices .entry)) ⌝ }
+{
+    refine::refine(sheet, rounds, &mut *board, &mut *prices)
 }

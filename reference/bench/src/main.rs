@@ -39,8 +39,8 @@ const LASTING: Duration = Duration::from_millis(250);
 const ROUNDS: [usize; 2] = [15, 401];
 
 /// A turn table with its counts, a sheet with its turns in that order, the
-/// planner's board for it, its kept form, delays, charging sheets of as many
-/// windows, a seed, and room for any answer.
+/// planner's board for it, its kept form, delays, prices and room for others,
+/// charging sheets of as many windows, a seed, and room for any answer.
 struct Job {
     groomers: u32,
     slopes: u32,
@@ -50,6 +50,7 @@ struct Job {
     kept: Vec<u8>,
     delays: Vec<u16>,
     prices: Vec<u16>,
+    room: Vec<u16>,
     hall: Vec<u8>,
     small_hall: Vec<u8>,
     full_hall: Vec<u8>,
@@ -87,6 +88,7 @@ impl Job {
             board,
             kept,
             delays,
+            room: vec![0; count],
             prices,
             hall,
             small_hall,
@@ -169,6 +171,18 @@ const LIMIT: Entry = Entry {
     name: "limit",
     library: |job| slopeboard::limit(&job.sheet, &job.prices).is_ok(),
     reference: |job| fast::limit(&job.sheet, &job.prices).is_ok(),
+};
+
+/// Rounds that make a better board.
+const BOARD_ROUNDS: u32 = 50;
+
+/// The entry that makes a better board by rounds.
+const REFINE: Entry = Entry {
+    name: "refine",
+    library: |job| {
+        slopeboard::refine(&job.sheet, BOARD_ROUNDS, &mut job.bytes, &mut job.room).is_ok()
+    },
+    reference: |job| fast::refine(&job.sheet, BOARD_ROUNDS, &mut job.bytes, &mut job.room).is_ok(),
 };
 
 /// The most visits of the search.
@@ -512,6 +526,14 @@ const TABLE: &[Rows] = &[
         ],
     ),
     (
+        &REFINE,
+        &[
+            ("", usual_sheet, &[200, 400]),
+            ("w", widest_sheet, &[400]),
+            ("d *", driven_sheet, &[400]),
+        ],
+    ),
+    (
         &IMPROVE,
         &[("", usual_sheet, &[32]), ("*", usual_sheet, &[64])],
     ),
@@ -551,7 +573,8 @@ fn main() {
     let wanted = |name: &str| named.is_empty() || named.iter().any(|word| word == name);
     println!("times of one call in microseconds, over {SHEETS} sheets; n is the number of turns, m of steps;");
     println!("12 groomers and 80 slopes; w: 16 groomers, 120 slopes, sorted; d: with drivers; k: so many groomers;");
-    println!("improve: at most {VISITS} visits; plan f: the reference makes no list at each pick;");
+    println!("improve: at most {VISITS} visits; refine: at most {BOARD_ROUNDS} rounds;");
+    println!("plan f: the reference makes no list at each pick;");
     println!("play o: the reference goes minute by minute; charge s: small draws, charge a: and all windows overlap; *: the slowest known");
     println!("                            library             reference");
     println!(

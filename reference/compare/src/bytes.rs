@@ -6,7 +6,8 @@ use std::fmt::Debug;
 use slopeboard_reference::gen::Rng;
 
 use crate::foreign::{
-    AssignAnswer, BestAnswer, BytesAnswer, ChargeAnswer, ImproveAnswer, PlayAnswer, Standing,
+    AssignAnswer, BestAnswer, BytesAnswer, ChargeAnswer, ImproveAnswer, PlayAnswer, RefineAnswer,
+    Standing,
 };
 use crate::report::{show, Report};
 
@@ -84,6 +85,12 @@ impl Answer for ChargeAnswer {
     }
 }
 
+impl Answer for RefineAnswer {
+    fn refusal(&self) -> u8 {
+        self.refusal
+    }
+}
+
 /// Two equal stretches of noise, one for each version, with the lent places in
 /// the middle of each.
 #[derive(Default)]
@@ -113,13 +120,51 @@ impl<P: Place> Lent<P> {
         report.count(ours.refusal());
         if ours != theirs {
             report.differs(|| format!("{ours:?} but {theirs:?}: {}", show(input, room)));
-        } else if let Some(place) = first_difference(&self.ours, &self.theirs) {
-            let place = place as isize - GUARD as isize;
-            report.differs(|| format!("at place {place}: {}", show(input, room)));
-        } else if ours.refusal() != 0 && self.theirs != self.before {
-            report.differs(|| format!("a refusal wrote: {}", show(input, room)));
+        } else if let Some(fault) = self.fault(ours.refusal()) {
+            report.differs(|| format!("{fault}: {}", show(input, room)));
         }
         ours
+    }
+
+    /// The same for calls that write to places of two kinds, so many of each.
+    pub fn compare_with<Q: Place, A: Answer>(
+        &mut self,
+        other: &mut Lent<Q>,
+        rng: &mut Rng,
+        report: &mut Report,
+        calls: (
+            impl Fn(&mut [P], &mut [Q]) -> A,
+            impl Fn(&mut [P], &mut [Q]) -> A,
+        ),
+        rooms: [usize; 2],
+        input: &[u8],
+    ) -> A {
+        self.fill(rng, rooms[0]);
+        other.fill(rng, rooms[1]);
+        let [lent, more] = rooms.map(|room| GUARD..GUARD + room);
+        let ours = calls.0(&mut self.ours[lent.clone()], &mut other.ours[more.clone()]);
+        let theirs = calls.1(&mut self.theirs[lent], &mut other.theirs[more]);
+        report.count(ours.refusal());
+        let text = |fault: String| format!("{fault}, {rooms:?}: {}", show(input, rooms[0]));
+        if ours != theirs {
+            report.differs(|| text(format!("{ours:?} but {theirs:?}")));
+        } else if let Some(fault) = self.fault(ours.refusal()) {
+            report.differs(|| text(fault));
+        } else if let Some(fault) = other.fault(ours.refusal()) {
+            report.differs(|| text(format!("second places, {fault}")));
+        }
+        ours
+    }
+
+    /// What is wrong with the places after two calls with this refusal, if
+    /// something is.
+    fn fault(&self, refusal: u8) -> Option<String> {
+        if let Some(place) = first_difference(&self.ours, &self.theirs) {
+            let place = place as isize - GUARD as isize;
+            return Some(format!("at place {place}"));
+        }
+        let wrote = refusal != 0 && self.theirs != self.before;
+        wrote.then(|| String::from("a refusal wrote"))
     }
 
     /// What the judge wrote at the front of its lent places.

@@ -4,7 +4,7 @@
 use slopeboard::raw;
 pub use slopeboard::raw::{
     AssignAnswer, BestAnswer, BytesAnswer, ChargeAnswer, CheckAnswer, CountAnswer, ImproveAnswer,
-    LimitAnswer, Part, PlayAnswer, ReadAnswer, Standing,
+    LimitAnswer, Part, PlayAnswer, ReadAnswer, RefineAnswer, Standing,
 };
 
 /// A slice as the library takes it. An empty one may come with any pointer,
@@ -145,4 +145,15 @@ pub fn charge(sheet: &[u8], map: &mut [u8]) -> ChargeAnswer {
 pub fn limit(sheet: &[u8], prices: &[u16]) -> LimitAnswer {
     let ((sheet, sheet_len), (prices, prices_len)) = (parts(sheet), parts(prices));
     unsafe { raw::slopeboard_limit(sheet, sheet_len, prices, prices_len) }
+}
+
+/// Makes a better board by rounds.
+pub fn refine(sheet: &[u8], rounds: u32, board: &mut [u8], prices: &mut [u16]) -> RefineAnswer {
+    let (sheet, sheet_len) = parts(sheet);
+    let ((board, board_len), (prices, prices_len)) = (parts_mut(board), parts_mut(prices));
+    unsafe {
+        raw::slopeboard_refine(
+            sheet, sheet_len, rounds, board, board_len, prices, prices_len,
+        )
+    }
 }

@@ -27,6 +27,7 @@ mod placed;
 mod plan;
 mod play;
 mod read;
+mod refine;
 mod report;
 mod sheets;
 mod write;
@@ -37,7 +38,7 @@ use std::process::ExitCode;
 use std::time::{Duration, Instant};
 
 /// Each entry's comparison, and the seed of its inputs.
-const ENTRIES: [(fn(u64) -> bool, u64); 18] = [
+const ENTRIES: [(fn(u64) -> bool, u64); 19] = [
     (read::run, 2024),
     (read::run_short, 2034),
     (write::run, 2025),
@@ -56,6 +57,7 @@ const ENTRIES: [(fn(u64) -> bool, u64); 18] = [
     (play::run, 2040),
     (charge::run, 2041),
     (limit::run, 2042),
+    (refine::run, 2043),
 ];
 
 /// All entries once, on the inputs of the gate, and the drawn sheets.

@@ -36,15 +36,23 @@ impl Case {
         sheet
     }
 
-    /// A price list.
-    fn prices(&self) -> Vec<u16> {
-        let line = self.line("prices").expect("a case has prices");
-        let words = line.split_whitespace();
+    /// A price list, if there is one.
+    fn prices(&self) -> Option<Vec<u16>> {
+        let words = self.line("prices")?.split_whitespace();
         let some = words.flat_map(|word| match word.split_once('*') {
             Some((times, price)) => vec![number(price); number(times)],
             None => vec![number(word)],
         });
-        some.collect()
+        Some(some.collect())
+    }
+
+    /// How many places are lent: of two kinds, just enough if nothing is said.
+    fn room(&self, enough: [usize; 2]) -> [usize; 2] {
+        let Some(line) = self.line("room") else {
+            return enough;
+        };
+        let numbers: Vec<usize> = line.split_whitespace().map(number).collect();
+        numbers.try_into().expect("room of two kinds")
     }
 
     /// Whether what came out is what the case says: a refusal, or these numbers.
@@ -108,13 +116,90 @@ fn cases(entry: &str) -> Vec<Case> {
 #[test]
 fn limit() {
     for case in cases("limit") {
-        let (sheet, prices) = (case.sheet(), case.prices());
+        let (sheet, prices) = (case.sheet(), case.prices().expect("a case has prices"));
         let library = slopeboard::limit(&sheet, &prices);
         for limit in [
             naive::limit(&sheet, &prices),
             library.map_err(Refusal::number),
         ] {
             case.holds(limit.map(|limit| [("limit", limit)]));
+        }
+    }
+}
+
+/// What is written beside the answer: bytes and prices.
+type Written = (Vec<u8>, Vec<u16>);
+
+/// Worth, limit and rounds made, by the words of a case.
+fn figures(worth: u32, limit: u32, rounds: u32) -> [(&'static str, u32); 3] {
+    [("worth", worth), ("limit", limit), ("made", rounds)]
+}
+
+/// Makes the rounds of a case in both versions, which must write the same.
+fn both<T>(
+    case: &Case,
+    enough: [usize; 2],
+    naive: impl Fn(&mut [u8], &mut [u16]) -> T,
+    library: impl Fn(&mut [u8], &mut [u16]) -> T,
+) -> ([T; 2], Written) {
+    let [bytes, numbers] = case.room(enough);
+    let fresh = || (vec![0xA5; bytes], vec![0xA5A5; numbers]);
+    let (mut ours, mut theirs) = (fresh(), fresh());
+    let answers = [
+        naive(&mut ours.0, &mut ours.1),
+        library(&mut theirs.0, &mut theirs.1),
+    ];
+    assert_eq!(ours, theirs, "{}", case.name);
+    if case.line("refused").is_some() {
+        assert_eq!(theirs, fresh(), "{}: a refusal wrote", case.name);
+    }
+    if let Some(prices) = case.prices() {
+        assert_eq!(theirs.1, prices, "{}: prices", case.name);
+    }
+    (answers, theirs)
+}
+
+#[test]
+fn refine() {
+    for case in cases("refine") {
+        let (sheet, rounds) = (case.sheet(), case.number("rounds").expect("rounds"));
+        let turns = usize::from(u16::from_be_bytes([sheet[5], sheet[6]]));
+        let enough = [
+            slopeboard::board_bytes(turns),
+            usize::from(sheet[4]) + turns,
+        ];
+        let naive = |board: &mut [u8], prices: &mut [u16]| {
+            let found = naive::refine(&sheet, rounds, board, prices)?;
+            Ok((found.bytes, figures(found.worth, found.limit, found.rounds)))
+        };
+        let library = |board: &mut [u8], prices: &mut [u16]| {
+            let found = slopeboard::refine(&sheet, rounds, board, prices);
+            let found = found.map_err(Refusal::number)?;
+            Ok((found.bytes, figures(found.worth, found.limit, found.rounds)))
+        };
+        let (answers, (board, _)) = both(&case, enough, naive, library);
+        assert_eq!(answers[0], answers[1], "{}", case.name);
+        for answer in answers {
+            case.holds(answer.map(|(_, figures)| figures));
+        }
+        let Ok((len, _)) = answers[1] else {
+            continue;
+        };
+        if let Some(line) = case.line("board") {
+            assert_eq!(board[..len], bytes(line), "{}: board", case.name);
+        }
+        let sums = slopeboard::check(&sheet, &board[..len]).expect("the board passes");
+        assert_eq!(Some(sums.worth), case.number("worth"), "{}", case.name);
+        let mut plan = vec![0; board.len()];
+        let len = slopeboard::plan(&sheet, &mut plan).expect("the sheet is accepted");
+        let plan = slopeboard::check(&sheet, &plan[..len]).expect("the plan passes");
+        for (word, sum) in [("planned", plan.worth), ("ceiling", plan.ceiling)] {
+            assert_eq!(
+                sum,
+                case.number(word).unwrap_or(sum),
+                "{}: {word}",
+                case.name
+            );
         }
     }
 }

@@ -134,6 +134,16 @@ impl Args {
         }
     }
 
+    /// The rounds of a command, if they are given.
+    pub fn rounds(&self) -> Result<Option<u32>, Failure> {
+        let Some(number) = self.number("--rounds")? else {
+            return Ok(None);
+        };
+        let rounds = u32::try_from(number);
+        let words = || format!("--rounds: {number} is no number from 0 to {}", u32::MAX);
+        rounds.map(Some).map_err(|_| self.wrong(&words()))
+    }
+
     /// The number of an option that must be given.
     pub fn needed(&self, option: &str) -> Result<u64, Failure> {
         let number = self.number(option)?;

@@ -1,7 +1,7 @@
 //! The library's entries, each with a buffer that is large enough.
 
 use crate::sheet::{Sheet, Turn};
-use slopeboard::{Counts, Improved, Refusal, Standing};
+use slopeboard::{Counts, Improved, Refined, Refusal, Standing};
 
 /// The turns of a sheet, and its counts.
 pub fn read(bytes: &[u8]) -> Result<Sheet, Refusal> {
@@ -77,6 +77,19 @@ pub fn improve(sheet: &[u8], turns: usize, visits: u64) -> Result<(Improved, Vec
     let mut map = vec![0; slopeboard::map_bytes(turns)];
     let improved = slopeboard::improve(sheet, visits, &mut map)?;
     Ok((improved, map))
+}
+
+/// What the rounds came to, the board and so many prices.
+pub fn refine(
+    sheet: &[u8],
+    numbers: usize,
+    rounds: u32,
+) -> Result<(Refined, Vec<u8>, Vec<u16>), Refusal> {
+    let mut board = vec![0; slopeboard::board_bytes(slopeboard::MOST_TURNS)];
+    let mut prices = vec![0; numbers];
+    let refined = slopeboard::refine(sheet, rounds, &mut board, &mut prices)?;
+    board.truncate(refined.bytes);
+    Ok((refined, board, prices))
 }
 
 /// The standing of each groomer.

@@ -12,10 +12,18 @@ pub enum Product {
     None,
     /// The bytes of this thing, which are no text.
     Bytes(&'static str, Vec<u8>),
+    /// The same, and prices for a file of their own.
+    Priced(&'static str, Vec<u8>, PriceFile),
     /// Text in place of which `--json` gives the answer alone.
     Text(String),
     /// Text that is written whether or not there is `--json`.
     Picture(String),
+}
+
+/// The file of `--prices`, and what is written to it.
+pub struct PriceFile {
+    pub name: String,
+    pub text: String,
 }
 
 /// What a command has made, and its answer in both forms. Each line of the text
@@ -38,23 +46,33 @@ impl Outcome {
 
     /// Writes everything to its place.
     pub fn emit(self, args: &Args) -> Result<(), Failure> {
-        let json = args.has("--json");
-        let said = if json {
+        let said = if args.has("--json") {
             format!("{}\n", self.json)
         } else {
             self.text
         };
-        match self.product {
+        self.product.emit(args, &said)
+    }
+}
+
+impl Product {
+    /// Writes the product and the answer, each to its place.
+    fn emit(self, args: &Args, said: &str) -> Result<(), Failure> {
+        match self {
             Product::None => deliver(args, said.as_bytes()),
-            Product::Text(_) if json => deliver(args, said.as_bytes()),
+            Product::Text(_) if args.has("--json") => deliver(args, said.as_bytes()),
             Product::Bytes(what, _) if args.value("-o").is_none() && io::stdout().is_terminal() => {
                 files::complain(&format!(
                     "the bytes of the {what} are left out: give -o FILE"
                 ));
                 files::print(said.as_bytes())
             }
-            Product::Bytes(_, bytes) => both(args, &bytes, &said),
-            Product::Text(text) | Product::Picture(text) => both(args, text.as_bytes(), &said),
+            Product::Bytes(_, bytes) => both(args, &bytes, said),
+            Product::Priced(what, bytes, prices) => {
+                files::write(&prices.name, prices.text.as_bytes())?;
+                Product::Bytes(what, bytes).emit(args, said)
+            }
+            Product::Text(text) | Product::Picture(text) => both(args, text.as_bytes(), said),
         }
     }
 }

@@ -5,6 +5,7 @@ use crate::csv;
 use crate::failure::{gather, Failure, Fault};
 use crate::files::Input;
 use slopeboard::Refusal;
+use std::fmt::Write;
 
 /// Reads a list: numbers with blanks or ends of lines between them.
 pub fn read(input: &Input) -> Result<Vec<u16>, Failure> {
@@ -19,6 +20,15 @@ pub fn read(input: &Input) -> Result<Vec<u16>, Failure> {
                 Fault::in_line(input, number, words)
             })
     }))
+}
+
+/// Text that [`read`] takes: a line for each price.
+pub fn text(prices: &[u16]) -> String {
+    let mut text = String::new();
+    for price in prices {
+        let _ = writeln!(text, "{price}");
+    }
+    text
 }
 
 /// The library refused a list for its length, where so many prices are wanted,

@@ -284,6 +284,8 @@ limit @sheet @empty => empty: 0 prices, where 7 are wanted, one for each of 3 sl
 check - - => only one of the files can be standard input
 limit - - => only one of the files can be standard input
 picture @sheet - --prices - => only one of the files can be standard input
+refine @noise => noise: it ends too early, before its last record is whole (refused 1)
+refine @sheet --prices /no/such/folder/x => /no/such/folder/x: cannot be written:
 plan @sheet -o /no/such/folder/x => /no/such/folder/x: cannot be written:
 ";
 
@@ -298,6 +300,12 @@ plan @sheet -o => plan: -o FILE: FILE is missing
 plan @sheet --json=yes => plan: --json takes no value
 plan @sheet -o @out -o @out => plan: -o is given twice
 improve @sheet --visits many => improve: --visits: many is no number
+refine => refine: SHEET is missing
+refine @sheet --rounds many => refine: --rounds: many is no number
+refine @sheet --rounds 4294967296 => refine: --rounds: 4294967296 is no number from 0 to 4294967295
+refine @sheet -o @out --prices @out => refine: -o and --prices name the same file
+picture @sheet @board --rounds 4294967296 => picture: --rounds: 4294967296 is no number from 0
+picture @sheet @board --rounds 1 --prices @sheet => picture: --prices or --rounds, not both
 limit @sheet => limit: PRICES is missing, or --free
 limit => limit: SHEET is missing
 limit @sheet @sheet --free => limit: --free leaves no place for PRICES
@@ -472,6 +480,7 @@ fn boards_that_do_not_pass() {
 fn wrong_words_and_numbers() {
     let folder = Folder::new("faults_words");
     folder.put("sheet", bytes(SHEET));
+    folder.put("board", bytes(BOARD));
     all_refused(&folder, WORDS);
     assert!(!Path::new(&folder.path("out")).exists());
     let said = run(&[]).refused();

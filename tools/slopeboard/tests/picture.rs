@@ -68,7 +68,7 @@ fn the_limit_beside_the_sums() {
     let hall = folder.put("hall", csv);
     let said = run(&["picture", &hall, &map, "--prices", &free]).refused();
     assert!(
-        said.contains("picture: --prices is not for a hall"),
+        said.contains("picture: --prices and --rounds are not for a hall"),
         "{said}"
     );
 }
@@ -117,7 +117,8 @@ fn the_picture_in_the_documents_and_the_readme() {
     let csv = repository("examples/shift.csv");
     let made = run(&["sheet", &csv, "--from", "17:00", "-o", &sheet]).well();
     let plan = run(&["plan", &sheet, "-o", &board]).well();
-    let svg = run(&["picture", &sheet, &board, "--from", "17:00"]).well();
+    let words = ["picture", &sheet, &board, "--rounds", "100"];
+    let svg = run(&[&words[..], &["--from", "17:00"]].concat()).well();
     let stored = fs::read_to_string(repository("docs/board.svg")).unwrap();
     assert!(
         svg.text() == stored,
@@ -129,9 +130,12 @@ fn the_picture_in_the_documents_and_the_readme() {
     let readme = fs::read_to_string(repository("tools/slopeboard/README.md")).unwrap();
     let printed = format!("```\n{}{}{}```\n", made.text(), plan.text(), svg.err);
     assert!(readme.contains(&printed), "{printed}");
-    let better = run(&["improve", &sheet, "--visits", "20000000"]).well();
-    let printed = format!("```\n{}```\n", better.err);
-    assert!(readme.contains(&printed), "{printed}");
+    let refined = run(&["refine", &sheet, "--rounds", "100"]).well();
+    let improved = run(&["improve", &sheet, "--visits", "20000000"]).well();
+    for better in [refined, improved] {
+        let printed = format!("```\n{}```\n", better.err);
+        assert!(readme.contains(&printed), "{printed}");
+    }
     let lines = fs::read_to_string(csv).unwrap();
     let first: String = lines.split_inclusive('\n').take(3).collect();
     assert!(readme.contains(&format!("```\n{first}```\n")));

@@ -130,10 +130,49 @@ fn limited(folder: &Folder, sheet: &str, board: &str, counts: [usize; 4]) {
     assert!(limit >= worth);
     let svg = run(&["picture", sheet, board, "--prices", &prices]).well();
     assert_eq!(limit_of(&svg.err), limit);
+    // a better board by rounds, and its prices read back
+    let better = folder.path("better");
+    let words = [
+        "refine",
+        sheet,
+        "--rounds=30",
+        "-o",
+        &better,
+        "--prices",
+        &prices,
+    ];
+    let ran = run(&words).well();
+    let figures: Vec<u32> = (1..6)
+        .step_by(2)
+        .map(|place| figure(ran.text(), place))
+        .collect();
+    let &[better_worth, limit, rounds] = &figures[..] else {
+        unreachable!();
+    };
+    assert!(worth <= better_worth && better_worth <= limit && rounds <= 30);
+    assert_eq!(
+        better_worth == limit,
+        ran.text().contains("no board earns more")
+    );
+    let checked = run(&["check", sheet, &better]).well();
+    assert_eq!(figure(checked.text(), 1), better_worth);
+    assert_eq!(chosen(checked.text()), chosen(ran.text()));
+    assert_eq!(
+        limit_of(run(&["limit", sheet, &prices]).well().text()),
+        limit
+    );
+    let svg = run(&["picture", sheet, &better, "--rounds", "30"]).well();
+    assert_eq!(limit_of(&svg.err), limit);
 }
 
 fn worth(answer: &str) -> u32 {
-    answer.split_whitespace().nth(1).unwrap().parse().unwrap()
+    figure(answer, 1)
+}
+
+/// The word at this place, from 0, as a number.
+fn figure(answer: &str, place: usize) -> u32 {
+    let word = answer.split_whitespace().nth(place).unwrap();
+    word.parse().unwrap()
 }
 
 fn played(folder: &Folder, sheet: &str, board: &str, counts: [usize; 4]) {

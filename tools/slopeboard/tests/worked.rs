@@ -228,15 +228,54 @@ fn limit_by_prices() {
     }
 }
 
+/// Two groomers, a turn of each on one slope, worth 100 and 60: the slope's price
+/// goes up by 25, 23 and 21.
+#[test]
+fn refine_by_rounds() {
+    let (folder, sheet, board) = files("worked_refine");
+    let (better, prices) = (folder.path("better.board"), folder.path("prices"));
+    let ran = run(&["refine", &sheet, "-o", &better, "--prices", &prices]).well();
+    let answer = "worth 240 limit 240 rounds 0\nno board earns more\n2 of 4 turns chosen: 1 3\n";
+    assert_eq!((ran.text(), ran.err.as_str()), (answer, ""));
+    assert_eq!(fs::read(&better).unwrap(), fs::read(&board).unwrap());
+    assert_eq!(fs::read_to_string(&prices).unwrap(), "0\n".repeat(7));
+    let csv = b"slope,groomer,start,length,worth\n1,1,0,60,100\n1,2,0,60,60\n";
+    let sheet = folder.put("two.sheet", run_on(&["sheet", "-"], csv).well().out);
+    for (rounds, limit, price) in [("0", 160, 0), ("1", 135, 25), ("2", 112, 48)] {
+        let words = ["refine", &sheet, "--rounds", rounds, "--prices", &prices];
+        let ran = run(&words).well();
+        let answer = format!("worth 100 limit {limit} rounds {rounds}\n1 of 2 turns chosen: 0\n");
+        assert_eq!(ran.err, answer);
+        let board = folder.put("two.board", ran.out);
+        run(&["check", &sheet, &board]).well();
+        assert_eq!(
+            fs::read_to_string(&prices).unwrap(),
+            format!("{price}\n0\n0\n")
+        );
+        let ran = run(&["limit", &sheet, &prices]).well();
+        assert_eq!(ran.text(), format!("limit {limit}\n"));
+        let ran = run(&["picture", &sheet, &board, "--rounds", rounds]).well();
+        assert_eq!(
+            ran.err,
+            format!("worth 100 tally 100 ceiling 100 limit {limit}\n")
+        );
+    }
+    let words = ["refine", &sheet, "--rounds", "4294967295", "--json"];
+    let ran = run(&[&words[..], &["-o", &better]].concat()).well();
+    let json = "{\"worth\":100,\"limit\":100,\"rounds\":3,\"turns\":2,\"chosen\":[0],\"prices\":[69,0,0]}\n";
+    assert_eq!(ran.text(), json);
+}
+
 /// A run of each command. A word that begins with @ is a file of the folder; the
 /// last eight make nothing but their answer.
-const RUNS: [&str; 19] = [
+const RUNS: [&str; 20] = [
     "sheet @shift.csv",
     "hall-sheet @hall.csv",
     "draw --seed=7 --groomers=4 --slopes=9 --turns=20",
     "plan @shift.sheet",
     "best @single.sheet",
     "improve @shift.sheet",
+    "refine @shift.sheet --prices @prices",
     "keep @shift.sheet",
     "restore @shift.kept",
     "charge @hall.sheet",
@@ -262,7 +301,7 @@ fn every_command_has_json() {
     folder.put("shift.kept", bytes(KEPT));
     folder.put("single.sheet", bytes("47524D01010001 1F01010000003C0064"));
     for (place, words) in RUNS.iter().enumerate() {
-        let options = if place < 11 {
+        let options = if place < 12 {
             " --json -o @out"
         } else {
             " --json"

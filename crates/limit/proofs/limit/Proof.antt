@@ -3,8 +3,8 @@ use borrow.Author.Needs.{needs}
 use Rattle.limit.proofs.limit.Statement.{statement}
 use Rattle.limit.proofs.limit.Tie as tie
 
-load-requires : tie.Need-load-requires
-load-requires c κs = search needs
+load-with-requires : tie.Need-load-with-requires
+load-with-requires c κs = search needs
 
 refused-requires : tie.Need-refused-requires
 refused-requires c κs = search needs
@@ -15,8 +15,8 @@ returns c = search (needs, limit-cases)
 cast-slopes : tie.Need-cast-slopes
 cast-slopes c = search needs
 
-cast-if2 : tie.Need-cast-if2
-cast-if2 c = search needs
+cast-turns : tie.Need-cast-turns
+cast-turns c = search needs
 
 add-if2 : tie.Need-add-if2
 add-if2 c = search needs
@@ -31,7 +31,7 @@ shift-size-requires : tie.Need-shift-size-requires
 shift-size-requires c κs = search needs
 
 limit-with-requires : tie.Need-limit-with-requires
-limit-with-requires c κs = search (needs, limit-cases)
+limit-with-requires c κs = ((search (needs, limit-cases), search (needs, limit-cases), search (needs, limit-cases), search (needs, limit-cases)), search needs)
 
 returns-3 : tie.Need-returns-3
 returns-3 c = search (needs, limit-cases)
@@ -40,11 +40,11 @@ pub limit-spec : {M : Type 1} → statement M
 limit-spec =
     tie.close
     (tie.spec
-    load-requires
+    load-with-requires
     refused-requires
     returns
     cast-slopes
-    cast-if2
+    cast-turns
     add-if2
     refused-requires-2
     returns-2

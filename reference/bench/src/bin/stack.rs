@@ -130,10 +130,11 @@ fn need(found: &BTreeMap<String, Function>, name: &str) -> usize {
 }
 
 /// Bytes of the arguments that the caller puts on the stack, since six go into
-/// registers: playing has eight.
+/// registers: playing has eight; refining has seven, and a place for its answer,
+/// which is too long for registers.
 fn arguments(name: &str) -> usize {
     match name {
-        "slopeboard_play" => 16,
+        "slopeboard_play" | "slopeboard_refine" => 16,
         _ => 0,
     }
 }

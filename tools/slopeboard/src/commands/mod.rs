@@ -30,7 +30,7 @@ pub struct Command {
 }
 
 /// All commands, as the help lists them.
-pub const COMMANDS: [&Command; 16] = [
+pub const COMMANDS: [&Command; 17] = [
     &make::SHEET,
     &make::HALL_SHEET,
     &make::DRAW,
@@ -42,6 +42,7 @@ pub const COMMANDS: [&Command; 16] = [
     &search::BEST,
     &search::IMPROVE,
     &priced::LIMIT,
+    &priced::REFINE,
     &play::PLAY,
     &make::KEEP,
     &make::RESTORE,

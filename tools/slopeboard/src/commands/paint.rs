@@ -1,7 +1,7 @@
 //! The command that makes pictures.
 
 use super::plan::{passes, planned};
-use super::priced::limit_by;
+use super::priced::{limit_by, refined};
 use super::{from, read_sheet, Command, FROM};
 use crate::args::{Args, Opt};
 use crate::failure::Failure;
@@ -18,17 +18,23 @@ const PRICES: Opt = Opt {
     words: "show the limit by these prices, too",
 };
 
+const ROUNDS: Opt = Opt {
+    name: "--rounds",
+    value: Some("N"),
+    words: "show the limit that so many rounds find, too",
+};
+
 pub const PICTURE: Command = Command {
     name: "picture",
     about: "make a picture (SVG) of a board, or of a hall's plan",
     files: &["SHEET", "BOARD"],
-    options: &[FROM, PRICES],
+    options: &[FROM, PRICES, ROUNDS],
     help: "\
 Takes a sheet and a board that passes 'check'. Writes a picture: a row for each
 groomer, the minutes along, the chosen turns as bars with slope and worth, the
 others as thin lines below; under it worth, tally and ceiling. With --from the
 minutes are times of day. With --prices the limit that 'limit' prints stands
-under it, too.
+under it, too, or with --rounds the one that 'refine' prints.
 
 Or takes a charging sheet and the choice map that 'charge' writes. The picture
 then has the units drawn in each minute against those that there are, and the
@@ -48,8 +54,8 @@ fn picture(args: &Args) -> Result<Outcome, Failure> {
     let first = files::read(args.file(0))?;
     let second = files::read(args.file(1))?;
     if first.bytes.starts_with(b"GRE") {
-        if args.has("--prices") {
-            return Err(args.wrong("--prices is not for a hall"));
+        if args.has("--prices") || args.has("--rounds") {
+            return Err(args.wrong("--prices and --rounds are not for a hall"));
         }
         return hall_picture(&first, &second, from);
     }
@@ -74,10 +80,12 @@ fn picture(args: &Args) -> Result<Outcome, Failure> {
 
 /// The limit of the sheet, if it is asked for.
 fn limit(args: &Args, input: &Input, sheet: &Sheet) -> Result<Option<u32>, Failure> {
-    let Some(name) = args.value("--prices") else {
-        return Ok(None);
-    };
-    limit_by(input, sheet, &files::read(name)?).map(Some)
+    match (args.value("--prices"), args.rounds()?) {
+        (None, None) => Ok(None),
+        (Some(name), None) => limit_by(input, sheet, &files::read(name)?).map(Some),
+        (None, Some(rounds)) => Ok(Some(refined(input, sheet, rounds)?.0.limit)),
+        _ => Err(args.wrong("--prices or --rounds, not both")),
+    }
 }
 
 /// A line of sums, with the limit last if there is one.

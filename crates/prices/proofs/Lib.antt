@@ -1,0 +1,5 @@
+pub mod PaidRuns
+pub mod RunCases
+pub mod SumCases
+pub mod CountCases
+pub mod LookCases

@@ -1,0 +1,93 @@
+-- A look at prices by cases: the table over the counts, and the set read back from it. Assumes nothing.
+use Prim.Native.Nat.{ℕ, _+_, _*_, _≤_}
+use mathlib.Core.Path.{_≡_, refl, sym, ap, _∙_}
+use mathlib.Core.Bool.{Bool, false}
+use mathlib.Core.List.{List, [], _∷_}
+use native.Mathlib.Omega.{arith}
+use mir.Syntax.{w32}
+use mir.Val.{Fits}
+use lib.ListN.{drop, getD, replicate}
+use Rattle.sheet.specs.Kind.{mostTurns, mostSlopes}
+use Rattle.model.specs.Turns.{Turns, oneGroomer}
+use Rattle.problem.specs.Columns.{turnsBy}
+use Rattle.optimum.specs.Table.{laterFirst, turnOrder, inTheWay, blocked, bestWorth, marked, bestChoice}
+use Rattle.besttable.specs.Held.{placeBefore, wayFrom, InTurnOrder, Befores, Counts, Chained, Filled, Readable, Skips}
+use Rattle.besttable.proofs.BestCases.{turns-chained, filled-entries, filled-skips, turns-readable, way-best, first-entry}
+use Rattle.price_spec.specs.Prices.{priceSum}
+use Rattle.prices.specs.declared.Extent.{Extent}
+use Rattle.prices.specs.Held.{countedTurns, turnsIn, mostPrice, CountsTo, Ordered, Priced}
+
+-- ---- counts change no order
+
+module _ (T : Turns) (slopes : ℕ) (prices : List ℕ) where
+  counted-order : turnOrder (countedTurns T slopes prices) ≡ turnOrder T
+  unfolding turnOrder laterFirst oneGroomer countedTurns
+  counted-order = refl
+
+  counted-blocked : (t : ℕ) (us : List ℕ) → blocked (countedTurns T slopes prices) t us ≡ blocked T t us
+  unfolding blocked inTheWay oneGroomer countedTurns
+  counted-blocked t [] = refl
+  counted-blocked t (u ∷ us) = rw (counted-blocked t us)
+
+  counted-before : (i : ℕ) → placeBefore (countedTurns T slopes prices) i ≡ placeBefore T i
+  counted-before i = rw counted-order (ap (λ (k : ℕ). i + 1 + k) (counted-blocked (getD (turnOrder T) i 0) (drop (i + 1) (turnOrder T))))
+
+  counted-count : countedTurns T slopes prices .count ≡ T .count
+  unfolding countedTurns
+  counted-count = refl
+
+  module _ (orders : List ℕ) (few : T .count ≤ mostTurns) (o : Ordered T orders) where
+    places-counted : InTurnOrder (countedTurns T slopes prices) orders
+    places-counted =
+        record {
+          places = omega (arith, o .places, counted-count);
+          turns = λ i h. o .groomers i (omega (arith, counted-count)) ∙ ap (λ (ts : List ℕ). getD ts i 0) (sym counted-order);
+        }
+
+    befores-counted : Befores (countedTurns T slopes prices) orders (countedTurns T slopes prices .count)
+    befores-counted = record { places = omega (arith, o .places); values = λ k h. o .before k (omega (arith, counted-count)) ∙ sym (counted-before k) }
+
+  counts-are : (counts : List ℕ) → T .count ≤ mostTurns → CountsTo T slopes prices counts (T .count) → Counts (countedTurns T slopes prices) counts
+  unfolding countedTurns
+  counts-are counts few c = record { places = omega (arith, c .places); values = c .values }
+
+-- ---- as the code leaves it
+
+module _ (e : Extent) (cols orders prices : List ℕ) (w : Priced e cols prices) (o : Ordered (turnsIn e cols) orders) where
+  module _ (counts : List ℕ) (c : CountsTo (turnsIn e cols) (e .slopes) prices counts (e .size .count)) where
+    pub look-chained : Chained (e .size .count) orders counts
+    unfolding turnsBy countedTurns
+    look-chained =
+        turns-chained (countedTurns (turnsIn e cols) (e .slopes) prices) orders (places-counted (turnsIn e cols) (e .slopes) prices orders (w .few) o) counts (w .few)
+        (befores-counted (turnsIn e cols) (e .slopes) prices orders (w .few) o) (counts-are (turnsIn e cols) (e .slopes) prices counts (w .few) c)
+
+    module _ (worths skips : List ℕ) (f : Filled (e .size .count) orders counts 0 worths skips) where
+      pub look-skips : Skips (countedTurns (turnsIn e cols) (e .slopes) prices) 0 skips
+      unfolding turnsBy countedTurns
+      look-skips =
+          filled-skips (countedTurns (turnsIn e cols) (e .slopes) prices) orders (places-counted (turnsIn e cols) (e .slopes) prices orders (w .few) o) counts (w .few)
+          (befores-counted (turnsIn e cols) (e .slopes) prices orders (w .few) o) (counts-are (turnsIn e cols) (e .slopes) prices counts (w .few) c) worths skips f
+
+      first-is : getD worths 0 0 ≡ bestWorth (countedTurns (turnsIn e cols) (e .slopes) prices)
+      unfolding turnsBy countedTurns
+      first-is =
+          first-entry (countedTurns (turnsIn e cols) (e .slopes) prices) worths (
+          filled-entries (countedTurns (turnsIn e cols) (e .slopes) prices) orders (places-counted (turnsIn e cols) (e .slopes) prices orders (w .few) o) counts (w .few)
+          (befores-counted (turnsIn e cols) (e .slopes) prices orders (w .few) o) (counts-are (turnsIn e cols) (e .slopes) prices counts (w .few) c) worths skips f)
+
+      pub look-sum : {a : ℕ} → a ≡ priceSum (turnsIn e cols) (e .slopes) prices → a + getD worths 0 0 ≡ priceSum (turnsIn e cols) (e .slopes) prices + bestWorth (countedTurns (turnsIn e cols) (e .slopes) prices)
+      look-sum q = rw (q, first-is)
+
+      pub look-fits : {a : ℕ} → a ≤ (mostSlopes + mostTurns) * mostPrice → Fits w32 (a + getD worths 0 0)
+      look-fits l = omega (arith, f .most 0 (omega arith) (omega arith), w .few)
+
+  module _ (skips : List ℕ) (s : Skips (countedTurns (turnsIn e cols) (e .slopes) prices) 0 skips) where
+    pub look-readable : Readable (e .size .count) orders skips
+    unfolding turnsBy countedTurns
+    look-readable = turns-readable (countedTurns (turnsIn e cols) (e .slopes) prices) orders (places-counted (turnsIn e cols) (e .slopes) prices orders (w .few) o) skips (w .few) s
+
+    pub look-best : {S S′ : List Bool} → S ≡ replicate (e .size .count) false → S′ ≡ marked S (wayFrom orders skips (e .size .count) (e .size .count) 0) → S′ ≡ bestChoice (countedTurns (turnsIn e cols) (e .slopes) prices)
+    unfolding turnsBy countedTurns
+    look-best q r = way-best (countedTurns (turnsIn e cols) (e .slopes) prices) orders (places-counted (turnsIn e cols) (e .slopes) prices orders (w .few) o) skips (w .few) s q r
+
+pub ruleset look-cases = (look-chained, look-skips, look-sum, look-fits, look-readable, look-best)

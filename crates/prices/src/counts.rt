@@ -1,0 +1,117 @@
+// What each turn pays, and what it counts for.
+ghost use mathlib.Core.Path.{_≡_};
+ghost use Prim.Native.Nat.{_+_, _-_, _*_, _≤_, _<_};
+ghost use lib.ListN.{length, getD};
+ghost use Rattle.sheet.specs.Kind.{mostTurns, mostSlopes};
+ghost use Rattle.price_spec.specs.Prices.{paidBy, countsFor, priceSum};
+ghost use Rattle.prices.specs.Held.{turnsIn, paidFrom, paidTo, mostPrice, Priced, Ordered, SumsTo, CountsTo};
+use super::Extent;
+use super::ORDERS;
+use super::runs::FROMS;
+use super::runs::TOS;
+use super::sums::price_at;
+use super::sums::put_sums;
+use super::sums::slope_prices;
+use besttable::ENTRIES;
+use problem::MOST_TURNS;
+use problem::PLACES;
+use problem::row_at;
+
+// The sum of what is paid at the places of turn t's run.
+fn run_sum(orders: &[u16; ORDERS], sums: &[u32; ENTRIES], t: usize) -> u32
+    requires { ⌜ (t < mostTurns) × (paidFrom (now orders) t ≤ mostTurns) × (paidTo (now orders) t ≤ mostTurns) ⌝ }
+    requires { ⌜ getD (now sums) (paidFrom (now orders) t) 0 ≤ getD (now sums) (paidTo (now orders) t) 0 ⌝ }
+    ensures { λ r. ⌜ r ≡ getD (now (sums .entry)) (paidTo (now (orders .entry)) t) 0 - getD (now (sums .entry)) (paidFrom (now (orders .entry)) t) 0 ⌝ }
+{
+    sums[orders[TOS + t] as usize] - sums[orders[FROMS + t] as usize]
+}
+
+// The greater of two numbers.
+fn at_least(x: u32, least: u32) -> u32
+    ensures { λ r. ⌜ r ≡ least + (x - least) ⌝ }
+{
+    if x <= least { least } else { x }
+}
+
+// What is left of a worth, nothing if all of it is paid. It has no jumps: one a turn would be guessed wrong
+// too often.
+fn left_of(worth: u16, paid: u32) -> u16
+    ensures { λ r. ⌜ r ≡ worth - paid ⌝ }
+{
+    (at_least(worth as u32, paid) - paid) as u16
+}
+
+// All that turn t pays.
+fn paid_by(
+    e: Extent,
+    cols: &[u16; PLACES],
+    orders: &[u16; ORDERS],
+    prices: &[u16],
+    sums: &[u32; ENTRIES],
+    t: usize,
+) -> u32
+    requires { ⌜ (t < e .size .count) × Priced e (now cols) (now prices) × Ordered (turnsIn e (now cols)) (now orders) ⌝ }
+    requires { ⌜ SumsTo (turnsIn e (now cols)) (e .slopes) (now prices) (now sums) (e .size .count) ⌝ }
+    ensures { λ r. ⌜ r ≡ paidBy (turnsIn e (now (cols .entry))) (e .slopes) (now (prices .entry)) t ⌝ }
+{
+    let row = row_at(cols, t);
+    price_at(prices, row.slope as usize - 1) + run_sum(orders, sums, t)
+}
+
+// What turn t counts for.
+fn count_of(
+    e: Extent,
+    cols: &[u16; PLACES],
+    orders: &[u16; ORDERS],
+    prices: &[u16],
+    sums: &[u32; ENTRIES],
+    t: usize,
+) -> u16
+    requires { ⌜ (t < e .size .count) × Priced e (now cols) (now prices) × Ordered (turnsIn e (now cols)) (now orders) ⌝ }
+    requires { ⌜ SumsTo (turnsIn e (now cols)) (e .slopes) (now prices) (now sums) (e .size .count) ⌝ }
+    ensures { λ r. ⌜ r ≡ countsFor (turnsIn e (now (cols .entry))) (e .slopes) (now (prices .entry)) t ⌝ }
+{
+    let paid = paid_by(e, cols, orders, prices, sums, t);
+    let row = row_at(cols, t);
+    left_of(row.worth, paid)
+}
+
+// What all turns count for, with the sums.
+fn put_counts_with(
+    e: Extent,
+    cols: &[u16; PLACES],
+    orders: &[u16; ORDERS],
+    prices: &[u16],
+    sums: &[u32; ENTRIES],
+    counts: &mut [u16; MOST_TURNS],
+)
+    requires { ⌜ Priced e (now cols) (now prices) × Ordered (turnsIn e (now cols)) (now orders) × (length (now counts) ≡ mostTurns) ⌝ }
+    requires { ⌜ SumsTo (turnsIn e (now cols)) (e .slopes) (now prices) (now sums) (e .size .count) ⌝ }
+    ensures { λ _. ⌜ CountsTo (turnsIn e (now (cols .entry))) (e .slopes) (now (prices .entry)) (now (counts .exit)) (e .size .count) ⌝ }
+{
+    let n = e.size.count;
+    let mut t = 0;
+    while t < n {
+        counts[t] = count_of(e, cols, orders, prices, sums, t);
+        t += 1;
+    }
+}
+
+// What all turns count for; returns the prices that the limit has in it.
+pub fn put_counts(
+    e: Extent,
+    cols: &[u16; PLACES],
+    orders: &[u16; ORDERS],
+    prices: &[u16],
+    counts: &mut [u16; MOST_TURNS],
+) -> u32
+    requires { ⌜ Priced e (now cols) (now prices) × Ordered (turnsIn e (now cols)) (now orders) × (length (now counts) ≡ mostTurns) ⌝ }
+    ensures { λ _. ⌜ CountsTo (turnsIn e (now (cols .entry))) (e .slopes) (now (prices .entry)) (now (counts .exit)) (e .size .count) ⌝ }
+    ensures { λ r. ⌜ (r ≡ priceSum (turnsIn e (now (cols .entry))) (e .slopes) (now (prices .entry))) × (r ≤ (mostSlopes + mostTurns) * mostPrice) ⌝ }
+{
+    let mut sums = [0u32; ENTRIES];
+    put_sums(e, cols, orders, prices, &mut sums);
+    put_counts_with(e, cols, orders, prices, &sums, &mut *counts);
+    let n = e.size.count;
+    slope_prices(prices, e.slopes) + sums[n]
+}

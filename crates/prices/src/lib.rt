@@ -1,0 +1,21 @@
+// What turns pay and count for at some prices, and the best sets of the groomers at these counts.
+mod counts;
+mod looking;
+mod orders;
+mod runs;
+mod sums;
+
+pub use looking::limit_at;
+pub use looking::look;
+pub use orders::put_orders;
+use problem::MOST_TURNS;
+use problem::Size;
+
+// Five numbers for each turn: see Ordered.
+pub const ORDERS: usize = 5 * MOST_TURNS;
+
+// How many turns and slopes there are, and the gap.
+pub struct Extent {
+    pub size: Size,
+    pub slopes: usize,
+}

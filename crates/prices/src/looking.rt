@@ -1,0 +1,73 @@
+// A look at some prices: the limit, and the groomers' best sets.
+ghost use mathlib.Core.Path.{_≡_};
+ghost use mathlib.Core.Bool.{false};
+ghost use Prim.Native.Nat.{_+_};
+ghost use lib.ListN.{length, replicate};
+ghost use Rattle.sheet.specs.Kind.{mostTurns};
+ghost use Rattle.choicemap.specs.Choice.{choiceIn, Clean};
+ghost use Rattle.optimum.specs.Table.{bestWorth, bestChoice};
+ghost use Rattle.besttable.specs.Held.{entryPlaces, Skips};
+ghost use Rattle.price_spec.specs.Prices.{priceSum};
+ghost use Rattle.prices.specs.Held.{countedTurns, turnsIn, Priced, Ordered};
+use super::Extent;
+use super::ORDERS;
+use super::counts::put_counts;
+use besttable::ENTRIES;
+use besttable::fill_table;
+use besttable::read_back;
+use problem::MOST_TURNS;
+use problem::PLACES;
+
+// The table over the counts; returns the limit.
+fn limit_with(
+    e: Extent,
+    cols: &[u16; PLACES],
+    orders: &[u16; ORDERS],
+    prices: &[u16],
+    worths: &mut [u32; ENTRIES],
+    skips: &mut [u16; MOST_TURNS],
+) -> u32
+    requires { ⌜ Priced e (now cols) (now prices) × Ordered (turnsIn e (now cols)) (now orders) ⌝ }
+    requires { ⌜ (length (now worths) ≡ entryPlaces) × (length (now skips) ≡ mostTurns) ⌝ }
+    ensures { λ r. ⌜ r ≡ priceSum (turnsIn e (now (cols .entry))) (e .slopes) (now (prices .entry))
+        + bestWorth (countedTurns (turnsIn e (now (cols .entry))) (e .slopes) (now (prices .entry))) ⌝ }
+    ensures { λ _. ⌜ Skips (countedTurns (turnsIn e (now (cols .entry))) (e .slopes) (now (prices .entry))) 0 (now (skips .exit)) ⌝ }
+{
+    let mut counts = [0u16; MOST_TURNS];
+    let sum = put_counts(e, cols, orders, prices, &mut counts);
+    fill_table(e.size.count, orders, &counts, &mut *worths, &mut *skips);
+    sum + worths[0]
+}
+
+// The limit at these prices, and the turns of the groomers' best sets into a map that has none chosen.
+pub fn look(
+    e: Extent,
+    cols: &[u16; PLACES],
+    orders: &[u16; ORDERS],
+    prices: &[u16],
+    map: &mut [u8],
+) -> u32
+    requires { ⌜ Priced e (now cols) (now prices) × Ordered (turnsIn e (now cols)) (now orders) ⌝ }
+    requires { ⌜ Clean (e .size .count) (now map) × (choiceIn (e .size .count) (now map) ≡ replicate (e .size .count) false) ⌝ }
+    ensures { λ r. ⌜ r ≡ priceSum (turnsIn e (now (cols .entry))) (e .slopes) (now (prices .entry))
+        + bestWorth (countedTurns (turnsIn e (now (cols .entry))) (e .slopes) (now (prices .entry))) ⌝ }
+    ensures { λ _. ⌜ Clean (e .size .count) (now (map .exit))
+        × (choiceIn (e .size .count) (now (map .exit)) ≡ bestChoice (countedTurns (turnsIn e (now (cols .entry))) (e .slopes) (now (prices .entry)))) ⌝ }
+{
+    let mut worths = [0u32; ENTRIES];
+    let mut skips = [0u16; MOST_TURNS];
+    let limit = limit_with(e, cols, orders, prices, &mut worths, &mut skips);
+    read_back(e.size.count, orders, &skips, &mut *map);
+    limit
+}
+
+// The limit at these prices alone.
+pub fn limit_at(e: Extent, cols: &[u16; PLACES], orders: &[u16; ORDERS], prices: &[u16]) -> u32
+    requires { ⌜ Priced e (now cols) (now prices) × Ordered (turnsIn e (now cols)) (now orders) ⌝ }
+    ensures { λ r. ⌜ r ≡ priceSum (turnsIn e (now (cols .entry))) (e .slopes) (now (prices .entry))
+        + bestWorth (countedTurns (turnsIn e (now (cols .entry))) (e .slopes) (now (prices .entry))) ⌝ }
+{
+    let mut worths = [0u32; ENTRIES];
+    let mut skips = [0u16; MOST_TURNS];
+    limit_with(e, cols, orders, prices, &mut worths, &mut skips)
+}

@@ -1,0 +1,115 @@
+// The drivers' order, and the run of places in it whose prices each turn pays. It is taken from columns that
+// have the drivers in the groomers' place.
+ghost use mathlib.Core.Path.{_≡_};
+ghost use mathlib.Core.Bool.{_&&_};
+ghost use Prim.Native.Nat.{_*_, _≤_, _<_};
+ghost use lib.Dec.{eqb};
+ghost use lib.ListN.{length};
+ghost use Rattle.sheet.specs.Kind.{mostTurns};
+ghost use Rattle.problem.specs.Columns.{turnsBy, Held};
+ghost use Rattle.besttable.specs.Held.{Numbered, InTurnOrder};
+ghost use Rattle.prices.specs.Held.{orderPlaces, withRun, RunStart, RunBefore, PlaceRun, RunsTo};
+use super::ORDERS;
+use besttable::row_at_place;
+use besttable::skip_blocked;
+use problem::MOST_TURNS;
+use problem::PLACES;
+use problem::Row;
+use problem::Size;
+
+// Where the drivers' order begins, and the first and last places of the runs.
+pub const DRIVERS: usize = 2 * MOST_TURNS;
+
+pub const FROMS: usize = 3 * MOST_TURNS;
+
+pub const TOS: usize = 4 * MOST_TURNS;
+
+// Places of the drivers' order, from one to before another.
+struct Run {
+    from: u16,
+    to: u16,
+}
+
+// Whether two turns have one groomer and one end.
+fn in_one_run(x: Row, y: Row) -> bool
+    ensures { λ r. ⌜ r ≡ (eqb (x .groomer) (y .groomer) && eqb (x .end) (y .end)) ⌝ }
+{
+    (x.groomer == y.groomer) & (x.end == y.end)
+}
+
+// The first place whose turn has the groomer and the end of the one at i, from that of the place before.
+fn run_start(p: Size, cols: &[u16; PLACES], order: &[u16], i: usize, from: usize) -> usize
+    requires { ⌜ (i < p .count) × Held p (now cols) × InTurnOrder (turnsBy p (now cols)) (now order) × RunBefore (turnsBy p (now cols)) i from ⌝ }
+    ensures { λ r. ⌜ RunStart (turnsBy p (now (cols .entry))) i r ⌝ }
+{
+    if i == 0 {
+        return 0;
+    }
+    let last = row_at_place(cols, order, i - 1);
+    if in_one_run(last, row_at_place(cols, order, i)) {
+        return from;
+    }
+    i
+}
+
+// What the turn at place i pays for: all that end with it, and all behind that are in its way; nothing if it
+// names no driver.
+fn run_of(p: Size, cols: &[u16; PLACES], order: &[u16], i: usize, from: usize) -> Run
+    requires { ⌜ (i < p .count) × Held p (now cols) × InTurnOrder (turnsBy p (now cols)) (now order) × RunStart (turnsBy p (now cols)) i from ⌝ }
+    ensures { λ r. ⌜ PlaceRun (turnsBy p (now (cols .entry))) i (r .from) (r .to) ⌝ }
+{
+    let row = row_at_place(cols, order, i);
+    if row.groomer == 0 {
+        return Run { from: 0, to: 0 };
+    }
+    let to = skip_blocked(p, cols, order, i);
+    Run {
+        from: from as u16,
+        to: to as u16,
+    }
+}
+
+// Puts turn t and its run at place i.
+fn put_run(orders: &mut [u16; ORDERS], i: usize, t: u16, run: Run)
+    requires { ⌜ (i < mostTurns) × (t < mostTurns) × (length (now orders) ≡ orderPlaces) ⌝ }
+    ensures { λ _. ⌜ now (orders .exit) ≡ withRun (now (orders .entry)) i t (run .from) (run .to) ⌝ }
+{
+    let at = t as usize;
+    orders[DRIVERS + i] = t;
+    orders[FROMS + at] = run.from;
+    orders[TOS + at] = run.to;
+}
+
+// All turns in the drivers' order, with their runs.
+fn put_runs(p: Size, cols: &[u16; PLACES], order: &[u16], orders: &mut [u16; ORDERS])
+    requires { ⌜ Held p (now cols) × InTurnOrder (turnsBy p (now cols)) (now order) × (length (now orders) ≡ orderPlaces) ⌝ }
+    ensures { λ _. ⌜ RunsTo (turnsBy p (now (cols .entry))) (now (orders .entry)) (now (orders .exit)) (p .count) ⌝ }
+{
+    let mut from = 0;
+    let mut i = 0;
+    while i < p.count {
+        from = run_start(p, cols, order, i, from);
+        let run = run_of(p, cols, order, i, from);
+        put_run(&mut *orders, i, order[i], run);
+        i += 1;
+    }
+}
+
+// The same from the columns alone, with places for the order.
+fn put_drivers_with(p: Size, cols: &[u16; PLACES], order: &mut [u16], orders: &mut [u16; ORDERS])
+    requires { ⌜ Held p (now cols) × Numbered p (now cols) × (p .count ≤ length (now order)) × (length (now orders) ≡ orderPlaces) ⌝ }
+    ensures { λ _. ⌜ RunsTo (turnsBy p (now (cols .entry))) (now (orders .entry)) (now (orders .exit)) (p .count) ⌝ }
+{
+    let n = p.count;
+    besttable::put_any_order(p, cols, &mut order[0..n]);
+    put_runs(p, cols, &*order, &mut *orders);
+}
+
+// The same.
+pub fn put_drivers(p: Size, cols: &[u16; PLACES], orders: &mut [u16; ORDERS])
+    requires { ⌜ Held p (now cols) × Numbered p (now cols) × (length (now orders) ≡ orderPlaces) ⌝ }
+    ensures { λ _. ⌜ RunsTo (turnsBy p (now (cols .entry))) (now (orders .entry)) (now (orders .exit)) (p .count) ⌝ }
+{
+    let mut order = [0u16; MOST_TURNS];
+    put_drivers_with(p, cols, &mut order, &mut *orders);
+}

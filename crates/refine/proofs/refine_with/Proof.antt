@@ -1,0 +1,74 @@
+use Rattle.choices.proofs.Unchosen.{zeros-cases}
+use Rattle.refine.proofs.AnswerCases.{start-worth, write-room, refine-written, written-cases}
+use borrow.Author.Needs.{needs}
+use Rattle.refine.proofs.refine_with.Statement.{statement}
+use Rattle.refine.proofs.refine_with.Tie as tie
+
+cast-map-bytes : tie.Need-cast-map-bytes
+cast-map-bytes c = search needs
+
+map-bytes-requires : tie.Need-map-bytes-requires
+map-bytes-requires c κs = search needs
+
+array-borrow-prefix-space : tie.Need-array-borrow-prefix-space
+array-borrow-prefix-space c = search needs
+
+slice-aggregate-map : tie.Need-slice-aggregate-map
+slice-aggregate-map c = search (needs, zeros-cases)
+
+plan-board-requires : tie.Need-plan-board-requires
+plan-board-requires c κs = (search needs, (search written-cases, search needs))
+
+add-k : tie.Need-add-k
+add-k c = search needs
+
+slice-relend-prefix-run : tie.Need-slice-relend-prefix-run
+slice-relend-prefix-run c = search written-cases
+
+slice-aggregate-run : tie.Need-slice-aggregate-run
+slice-aggregate-run c = search needs
+
+run-requires : tie.Need-run-requires
+run-requires c κs =
+    let planned = c .before .before .before .before .before .before .before .before .before .plan-board .ensures in
+    let start = c .before .before .before .before .before .before .before .before .before .before .before .before .before .before .before .before .before .before .before in
+    (record { held = start .pre .0 .0; priced = start .pre .0 .2; clean = planned .0 .clean; worth-is = start-worth _ _ _ (planned .0); places = planned .1 }, start .pre .0 .1)
+
+write-choice-requires : tie.Need-write-choice-requires
+write-choice-requires c κs =
+    let reached = c .before .before .before .before .before .before in
+    let planned = reached .before .before .before .before .before .before .before .before .before .before in
+    let start = planned .before .before .before .before .before .before .before .before .before .before in
+    write-room _ _ _ (planned .plan-board .ensures .0) (start .pre .1 .0) (reached .run .ensures .clean)
+
+same-length : tie.Need-same-length
+same-length c = search needs
+
+same-length-2 : tie.Need-same-length-2
+same-length-2 c = search needs
+
+returns : tie.Need-returns
+returns c =
+    let written = c .before .before .before in
+    let reached = written .before .before .before .before .before .before .before in
+    let planned = reached .before .before .before .before .before .before .before .before .before .before in
+    let start = planned .before .before .before .before .before .before .before .before .before .before in
+    refine-written _ _ _ (planned .plan-board .ensures .0) _ _ (start .pre .1 .0) (start .pre .0 .2) (reached .run .ensures) (written .write-choice .ensures) (reached .run .kept .1 .1 .0)
+
+pub refine-with-spec : {M : Type 1} → statement M
+refine-with-spec =
+    tie.close
+    (tie.spec
+    cast-map-bytes
+    map-bytes-requires
+    array-borrow-prefix-space
+    slice-aggregate-map
+    plan-board-requires
+    add-k
+    slice-relend-prefix-run
+    slice-aggregate-run
+    run-requires
+    write-choice-requires
+    same-length
+    same-length-2
+    returns)

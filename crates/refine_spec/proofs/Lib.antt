@@ -1,0 +1,9 @@
+pub mod Rounds
+pub mod Loop
+pub mod Relaxed
+pub mod Selection
+pub mod Shift
+pub mod Boards
+pub mod RefineCauses
+pub mod Promised
+pub mod Worked

@@ -1,0 +1,90 @@
+-- Rounds in which prices move, whatever the rule: a look at the prices, then a round, until limit and worth meet (requests P-2 and P-3). Assumes nothing.
+use mathlib.Core.Bool.{Bool, cond}
+use mathlib.Core.List.{List, [], _∷_}
+use Prim.Native.Nat.{ℕ, zero, suc, _+_, _-_, _*_, _/_, max}
+use lib.Dec.{ltb, eqb}
+
+-- a rule, for a shift or for a hall: the limit at some prices, the choice made from their relaxed set, what a choice is worth, and the prices after a round with some change
+pub record Rule : Type 0 where
+  pub limit : List ℕ → ℕ
+  pub choice : List ℕ → List Bool
+  pub worth : List Bool → ℕ
+  pub moved : ℕ → List ℕ → List ℕ
+
+-- between two looks: the prices to look at, the change of the next round, the rounds made; the lowest limit so far and the price list that gave it; the best choice so far and its worth
+pub record Stage : Type 0 where
+  pub prices : List ℕ
+  pub change : ℕ
+  pub rounds : ℕ
+  pub limit : ℕ
+  pub list : List ℕ
+  pub choice : List Bool
+  pub worth : ℕ
+
+-- before the first look: its own limit stands already, so that the look finds none lower
+unfoldable pub startFrom : Rule → ℕ → List ℕ → List Bool → Stage
+startFrom R change prices S = record { prices = prices; change = change; rounds = 0; limit = R .limit prices; list = prices; choice = S; worth = R .worth S }
+
+-- the lower limit with its list, of equal ones the earlier
+unfoldable pub lowerLimit : Rule → Stage → Stage
+lowerLimit R x =
+    let lower = ltb (R .limit (x .prices)) (x .limit) in
+    record {
+      prices = x .prices;
+      change = x .change;
+      rounds = x .rounds;
+      limit = cond lower (R .limit (x .prices)) (x .limit);
+      list = cond lower (x .prices) (x .list);
+      choice = x .choice;
+      worth = x .worth;
+    }
+
+-- the choice made at these prices, where its worth is greater than the best so far
+unfoldable pub betterChoice : Rule → Stage → Stage
+betterChoice R x =
+    let S = R .choice (x .prices) in
+    let better = ltb (x .worth) (R .worth S) in
+    record {
+      prices = x .prices;
+      change = x .change;
+      rounds = x .rounds;
+      limit = x .limit;
+      list = x .list;
+      choice = cond better S (x .choice);
+      worth = cond better (R .worth S) (x .worth);
+    }
+
+-- a look at the prices
+unfoldable pub looked : Rule → Stage → Stage
+looked R x = betterChoice R (lowerLimit R x)
+
+-- the change of the next round: fifteen sixteenths of it, rounded down, and never below 1
+unfoldable pub nextChange : ℕ → ℕ
+nextChange change = max 1 (15 * change / 16)
+
+-- a round: the prices of the last look move, and the change falls
+unfoldable pub moving : Rule → Stage → Stage
+moving R x =
+    record {
+      prices = R .moved (x .change) (x .prices);
+      change = nextChange (x .change);
+      rounds = x .rounds + 1;
+      limit = x .limit;
+      list = x .list;
+      choice = x .choice;
+      worth = x .worth;
+    }
+
+-- at most so many rounds: after each look it ends if the lowest limit is the best worth, or no round is left
+unfoldable pub refined : Rule → ℕ → Stage → Stage
+refined R zero x = looked R x
+refined R (suc n) x = let y = looked R x in cond (eqb (y .limit) (y .worth)) y (refined R n (moving R y))
+
+-- the greatest of f over a list, 0 over none
+unfoldable pub greatestOf : (ℕ → ℕ) → List ℕ → ℕ
+greatestOf f [] = 0
+greatestOf f (t ∷ ts) = max (f t) (greatestOf f ts)
+
+-- the change of the first round: the greatest worth divided by a number, rounded up
+unfoldable pub firstChange : ℕ → ℕ → ℕ
+firstChange divisor greatest = (greatest + (divisor - 1)) / divisor
