@@ -89,7 +89,8 @@ pub fn plan_among(a: Among, cols: &[u16; PLACES], out: &mut [u8]) -> usize
     put_among(a, cols, &mut own);
     if a.wide {
         let mut room = [0u16; PLACES];
-        return stepping::plan_steps(a.size, &own, &mut *out, &mut room);
+        let made = stepping::plan_steps(a.size, &own, &mut *out, &mut room);
+        return made.count;
     }
     plan_small(a, cols, &own, &mut *out)
 }

@@ -3,7 +3,6 @@ ghost use mathlib.Core.Path.{_≡_};
 ghost use Prim.Native.Nat.{_≤_};
 ghost use lib.ListN.{length};
 ghost use Rattle.problem.specs.Columns.{columnPlaces, turnsBy, Held};
-ghost use Rattle.planning.specs.Plan.{boardFor};
 ghost use Rattle.search.specs.Words.{wordBits};
 ghost use Rattle.improve.specs.Start.{StartOf};
 use problem::PLACES;
@@ -17,27 +16,20 @@ pub struct Start {
     pub turns: u64,
 }
 
-// What a planned board has.
-fn start_from(p: Size, cols: &[u16; PLACES], b: &[u8]) -> Start
-    requires { ⌜ Held p (now cols) × (p .count ≤ wordBits) × (now b ≡ boardFor (turnsBy p (now cols))) ⌝ }
-    ensures { λ r. ⌜ StartOf (turnsBy p (now (cols .entry))) r ⌝ }
-{
-    let steps = opening::steps(b);
-    let m = board::step_count(b);
-    let map = opening::map(b);
-    Start {
-        worth: board::worth(b),
-        ceiling: ratio::ceiling_of(p, cols, steps, m as usize),
-        turns: word_of(map, p.count),
-    }
-}
-
-// The board is planned into a place of its own, with room for what planning puts down.
+// The board is planned into a place of its own, with room for what planning puts down. The ceiling was
+// counted while the steps were made.
 pub fn start_of(p: Size, cols: &[u16; PLACES], room: &mut [u16; PLACES]) -> Start
     requires { ⌜ Held p (now cols) × (p .count ≤ wordBits) × (length (now room) ≡ columnPlaces) ⌝ }
     ensures { λ r. ⌜ StartOf (turnsBy p (now (cols .entry))) r ⌝ }
 {
     let mut space = [0u8; planner::BOARD_BYTES];
-    let bytes = planner::write_board(p, cols, &mut space, &mut *room);
-    start_from(p, cols, &space[..bytes as usize])
+    let made = planner::write_board(p, cols, &mut space, &mut *room);
+    let bytes = made.bytes as usize;
+    let b = &space[..bytes];
+    let map = opening::map(b);
+    Start {
+        worth: board::worth(b),
+        ceiling: made.ceiling,
+        turns: word_of(map, p.count),
+    }
 }

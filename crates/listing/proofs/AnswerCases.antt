@@ -1,8 +1,8 @@
 -- The listing's answer by its cases, each premise in the form in which the code's calls and tests leave it. Assumes nothing.
-use Prim.Native.Nat.{ℕ, _+_, _*_, _<_, _≤_}
+use Prim.Native.Nat.{ℕ, _+_, _<_, _≤_}
 use mathlib.Core.Path.{_≡_, refl, sym, _∙_, ap}
 use mathlib.Core.List.{List, [], _∷_, _++_}
-use mathlib.Core.Bool.{true, false}
+use mathlib.Core.Bool.{false}
 use native.Mathlib.Omega.{arith}
 use lib.Dec.{ltb}
 use lib.ListN.{length, take, drop}
@@ -16,13 +16,9 @@ use Rattle.wire.proofs.Puts.{puts-front, puts-length}
 use lib.Seq.{take-at}
 use Rattle.text.specs.Place.{lastPlace}
 use Rattle.model.specs.Turns.{Turns, PositiveLengths}
-use Rattle.model.specs.Steps.{initial}
-use Rattle.model.specs.Pick as pick
-use Rattle.model.specs.Rules.{allRight}
+use Rattle.model.specs.Pick.{steps}
 use Rattle.model.specs.Ceiling.{ceiling}
 use Rattle.model.specs.Choice.{choice}
-use Rattle.model.proofs.Planned.{planned-right, steps-few}
-use Rattle.model.proofs.Readings.{allRight-is}
 use Rattle.model.proofs.Promised.{planned-keeps}
 use Rattle.sheet.specs.declared.answer.ReadAnswer.{ReadAnswer}
 use Rattle.sheet.specs.Kind.{mostTurns}
@@ -30,9 +26,9 @@ use Rattle.sheet.specs.Read.{countsIn, sheetCauses, answerOf}
 use Rattle.sheet.proofs.Readings.{sheet-numbered}
 use Rattle.sheet.proofs.Whole.{whole-refusal, whole-accepted, whole-answer, whole-turns}
 use Rattle.choicemap.specs.Choice.{choiceIn, Clean}
-use Rattle.board.specs.Board.{boardHeader, stepSize, boardTurns, boardSteps, boardTally, boardWorth, boardMap, boardChoice, boardLength, stepsIn}
-use Rattle.opening.specs.Open.{malformed, stepsPart}
-use Rattle.opening.proofs.Openings.{formed-header, part-length, part-steps}
+use Rattle.board.specs.Board.{boardHeader, boardTurns, boardTally, boardWorth, boardMap, boardChoice, boardLength}
+use Rattle.opening.specs.Open.{malformed}
+use Rattle.opening.proofs.Openings.{formed-header}
 use Rattle.opening.proofs.OpenCauses.{formed-clean}
 use Rattle.problem.specs.declared.columns.Size.{Size}
 use Rattle.problem.specs.Columns.{turnsBy, Held}
@@ -109,7 +105,7 @@ module _ (size : Size) (cols b : List ℕ) (e : b ≡ boardFor (turnsBy size col
   pub board-opens : malformed b ≡ false
   board-opens = back .planned-opens
 
-  pub board-header : boardHeader ≤ length b
+  board-header : boardHeader ≤ length b
   board-header = formed-header b board-opens
 
   turns-are : boardTurns b ≡ size .count
@@ -131,13 +127,11 @@ module _ (size : Size) (cols b : List ℕ) (e : b ≡ boardFor (turnsBy size col
       unfolding listingFor
       listing-is = rw (choice-is, w)
 
-      pub listing-fits : length (listingFor groomers T) ≤ listingBytes → length (listingOf groomers T (choiceIn (size .count) map) sums) ≤ listingBytes
+      listing-fits : length (listingFor groomers T) ≤ listingBytes → length (listingOf groomers T (choiceIn (size .count) map) sums) ≤ listingBytes
       listing-fits g = rw listing-is g
 
-      pub listing-answer : {x : Written} (lent : List ℕ) → x ≡ textAnswer (listingOf groomers T (choiceIn (size .count) map) sums) lent → x ≡ textAnswer (listingFor groomers T) lent
+      listing-answer : {x : Written} (lent : List ℕ) → x ≡ textAnswer (listingOf groomers T (choiceIn (size .count) map) sums) lent → x ≡ textAnswer (listingFor groomers T) lent
       listing-answer lent g = rw listing-is at g
-
-pub ruleset board-cases = (board-opens, board-header, board-ready, listing-fits, listing-answer)
 
 -- ---- its sums
 
@@ -148,23 +142,21 @@ module _ (size : Size) (cols b : List ℕ) (e : b ≡ boardFor (turnsBy size col
   pub sums-header : boardHeader ≤ length b
   sums-header = board-header size cols b e held
 
-  module _ {steps : List ℕ} {m : ℕ} (q : steps ≡ stepsPart b) (p : m ≡ boardSteps b) where
-    steps-are : stepsIn m steps ≡ pick.steps (turnsBy size cols)
-    steps-are = rw (p, q) (part-steps b (planned .planned-opens) ∙ planned .step-list)
+  module _ (groomers : ℕ) {map : List ℕ} {worth tallied limit : ℕ} (q : map ≡ boardMap b) (w : worth ≡ boardWorth b) (t : tallied ≡ boardTally b) (l : limit ≡ ceiling (turnsBy size cols) (steps (turnsBy size cols))) where
+    abbrev sums : Sums
+    sums = record { worth = worth; tally = tallied; ceiling = limit }
 
-    pub sums-room : stepSize * m ≤ length steps
-    sums-room = rw (p, q) (omega (arith, part-length b (planned .planned-opens)))
-
-    pub sums-few : m ≤ size .count
-    sums-few = omega (arith, planned .step-count, steps-few (turnsBy size cols), count-is size cols)
-
-    pub sums-right : allRight (turnsBy size cols) (initial (turnsBy size cols)) (stepsIn m steps) ≡ true
-    sums-right = rw steps-are (allRight-is (turnsBy size cols) (initial (turnsBy size cols)) (pick.steps (turnsBy size cols)) .1 (planned-right (turnsBy size cols)))
-
-    pub sums-are : {worth tallied limit : ℕ} → worth ≡ boardWorth b → tallied ≡ boardTally b → limit ≡ ceiling (turnsBy size cols) (stepsIn m steps)
-        → _≡_ {A = Sums} (record { worth = worth; tally = tallied; ceiling = limit }) (sumsFor (turnsBy size cols))
+    sums-are : sums ≡ sumsFor (turnsBy size cols)
     unfolding sumsFor
-    sums-are w t l = rw (w, t, l, planned .worth, planned .tallied, steps-are)
+    sums-are = rw (w, t, l, planned .worth, planned .tallied)
+
+    pub sums-fit : length (listingFor groomers (turnsBy size cols)) ≤ listingBytes → length (listingOf groomers (turnsBy size cols) (choiceIn (size .count) map) sums) ≤ listingBytes
+    sums-fit g = listing-fits size cols b e held q groomers sums-are g
+
+    pub sums-answer : {x : Written} (lent : List ℕ) → x ≡ textAnswer (listingOf groomers (turnsBy size cols) (choiceIn (size .count) map) sums) lent → x ≡ textAnswer (listingFor groomers (turnsBy size cols)) lent
+    sums-answer lent g = listing-answer size cols b e held q groomers sums-are lent g
+
+pub ruleset sums-cases = (board-opens, board-ready, sums-header, sums-fit, sums-answer)
 
 -- ---- planned into a place of its own
 

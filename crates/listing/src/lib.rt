@@ -6,17 +6,20 @@ ghost use mathlib.Core.Path.{_≡_};
 ghost use Prim.Native.Nat.{_≤_, _<_};
 ghost use lib.ListN.{length};
 ghost use Rattle.wire.specs.Number.{puts};
+ghost use Rattle.model.specs.Pick.{steps};
+ghost use Rattle.model.specs.Ceiling.{ceiling};
 ghost use Rattle.problem.specs.Columns.{columnPlaces, turnsBy, Held};
 ghost use Rattle.choicemap.specs.Choice.{choiceIn};
 ghost use Rattle.planning.specs.Plan.{boardFor};
 ghost use Rattle.lines.specs.Text.{listingOf, refusedLine};
 ghost use Rattle.listing.specs.Ready.{Ready};
 ghost use Rattle.listing.specs.Limits.{listingBytes};
-ghost use Rattle.listing.specs.List.{sumsFor, listingFor, listOf};
+ghost use Rattle.listing.specs.List.{listingFor, listOf};
 ghost use Rattle.listing.specs.Answer.{listed, listRefused, textAnswer};
 use lines::Sums;
 use lines::put_refused;
 use parts::put_listing;
+use planner::BoardMade;
 use problem::PLACES;
 use problem::Size;
 
@@ -66,26 +69,24 @@ fn list_map(
     }
 }
 
-// The sums of the planner's board.
-fn sums_of(p: Size, cols: &[u16; PLACES], b: &[u8]) -> Sums
-    requires { ⌜ Held p (now cols) × (now b ≡ boardFor (turnsBy p (now cols))) ⌝ }
-    ensures { λ r. ⌜ r ≡ sumsFor (turnsBy p (now (cols .entry))) ⌝ }
-{
-    let steps = opening::steps(b);
-    let m = board::step_count(b);
-    Sums {
-        worth: board::worth(b),
-        tally: board::tally(b),
-        ceiling: ratio::ceiling_of(p, cols, steps, m as usize),
-    }
-}
-
-// The listing of the planner's board.
-fn list_board(p: Size, cols: &[u16; PLACES], groomers: u16, b: &[u8], out: &mut [u8]) -> ListAnswer
-    requires { ⌜ Held p (now cols) × (length (listingFor groomers (turnsBy p (now cols))) ≤ listingBytes) × (now b ≡ boardFor (turnsBy p (now cols))) ⌝ }
+// The listing of the planner's board. The ceiling was counted while the steps were made.
+fn list_board(
+    p: Size,
+    cols: &[u16; PLACES],
+    groomers: u16,
+    b: &[u8],
+    made: BoardMade,
+    out: &mut [u8],
+) -> ListAnswer
+    requires { ⌜ Held p (now cols) × (length (listingFor groomers (turnsBy p (now cols))) ≤ listingBytes) ⌝ }
+    requires { ⌜ (now b ≡ boardFor (turnsBy p (now cols))) × (made .ceiling ≡ ceiling (turnsBy p (now cols)) (steps (turnsBy p (now cols)))) ⌝ }
     ensures { λ r. ⌜ listed r (now (out .exit)) ≡ textAnswer (listingFor groomers (turnsBy p (now (cols .entry)))) (now (out .entry)) ⌝ }
 {
-    let sums = sums_of(p, cols, b);
+    let sums = Sums {
+        worth: board::worth(b),
+        tally: board::tally(b),
+        ceiling: made.ceiling,
+    };
     list_map(p, cols, groomers, opening::map(b), sums, &mut *out)
 }
 
@@ -102,8 +103,9 @@ fn list_problem(
     ensures { λ r. ⌜ listed r (now (out .exit)) ≡ textAnswer (listingFor groomers (turnsBy p (now (cols .entry)))) (now (out .entry)) ⌝ }
 {
     let mut space = [0u8; planner::BOARD_BYTES];
-    let bytes = planner::write_board(p, cols, &mut space, &mut *room);
-    list_board(p, cols, groomers, &space[..bytes as usize], &mut *out)
+    let made = planner::write_board(p, cols, &mut space, &mut *room);
+    let bytes = made.bytes as usize;
+    list_board(p, cols, groomers, &space[..bytes], made, &mut *out)
 }
 
 // Plans any bytes as a sheet, and writes the drivers' listing into any lent bytes.

@@ -1,3 +1,4 @@
 pub mod Bounds
 pub mod Below
 pub mod Counting
+pub mod Blocks

@@ -2,9 +2,7 @@
 mod counting;
 mod residuals;
 
-pub use counting::apply_counted;
-pub use counting::ceiling_of;
-pub use residuals::apply_step;
+pub use counting::apply_step;
 pub use residuals::first_open;
 pub use residuals::is_open;
 pub use residuals::left_of;

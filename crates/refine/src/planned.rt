@@ -46,10 +46,11 @@ pub fn plan_board(
     ensures { λ r. ⌜ PlannedIn p (now (cols .entry)) (now (out .entry)) r (now (out .exit)) (now (map .exit)) ⌝ }
     ensures { λ _. ⌜ length (now (room .exit)) ≡ columnPlaces ⌝ }
 {
-    let bytes = planner::write_board(p, cols, &mut *out, &mut *room);
-    let worth = copy_choice(p, cols, &out[..bytes as usize], &mut *map);
+    let made = planner::write_board(p, cols, &mut *out, &mut *room);
+    let bytes = made.bytes as usize;
+    let worth = copy_choice(p, cols, &out[..bytes], &mut *map);
     Planned {
-        bytes: bytes,
+        bytes: made.bytes,
         worth: worth,
     }
 }

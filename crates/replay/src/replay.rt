@@ -88,7 +88,7 @@ fn replay_one(
 {
     let from = ratio::first_open(&*rest, closed);
     if orders::is_right(&*rest, p, cols, j, amount, from) {
-        let cost = ratio::apply_counted(&mut *rest, p, cols, j, amount, from);
+        let cost = ratio::apply_step(&mut *rest, p, cols, j, amount, from);
         return Outcome {
             right: true,
             cost: cost,

@@ -1,4 +1,5 @@
 // The planner's steps, by the printed lines: what is spent is removed, the pick is made, the step is taken.
 mod stepping;
 
+pub use stepping::StepsMade;
 pub use stepping::plan_steps;

@@ -9,8 +9,8 @@ slice-aggregate-write-board c = search needs
 write-board-requires : tie.Need-write-board-requires
 write-board-requires c κs = search needs
 
-cast-space : tie.Need-cast-space
-cast-space c = search needs
+cast-bytes : tie.Need-cast-bytes
+cast-bytes c = search needs
 
 array-share-prefix-space : tie.Need-array-share-prefix-space
 array-share-prefix-space c = search (needs, space-cases)
@@ -33,7 +33,7 @@ list-problem-spec =
     (tie.spec
     slice-aggregate-write-board
     write-board-requires
-    cast-space
+    cast-bytes
     array-share-prefix-space
     slice-aggregate-list-board
     list-board-requires

@@ -1,4 +1,4 @@
-use Rattle.improve.proofs.StartCases.{own-place-cases}
+use Rattle.improve.proofs.StartCases.{place-cases}
 use borrow.Author.Needs.{needs}
 use Rattle.improve.proofs.plan.start_of.Statement.{statement}
 use Rattle.improve.proofs.plan.start_of.Tie as tie
@@ -9,20 +9,26 @@ slice-aggregate-write-board c = search needs
 write-board-requires : tie.Need-write-board-requires
 write-board-requires c κs = search needs
 
-cast-space : tie.Need-cast-space
-cast-space c = search needs
+cast-bytes : tie.Need-cast-bytes
+cast-bytes c = search needs
 
 array-share-prefix-space : tie.Need-array-share-prefix-space
-array-share-prefix-space c = search (needs, own-place-cases)
+array-share-prefix-space c = search (needs, place-cases)
 
-slice-aggregate-start-from : tie.Need-slice-aggregate-start-from
-slice-aggregate-start-from c = search (needs, own-place-cases)
+slice-aggregate-b : tie.Need-slice-aggregate-b
+slice-aggregate-b c = search (needs, place-cases)
 
-start-from-requires : tie.Need-start-from-requires
-start-from-requires c κs = search (needs, own-place-cases)
+map-requires : tie.Need-map-requires
+map-requires c κs = search (needs, place-cases)
+
+worth-requires : tie.Need-worth-requires
+worth-requires c κs = search (needs, place-cases)
+
+word-of-requires : tie.Need-word-of-requires
+word-of-requires c κs = (search needs, search (needs, place-cases))
 
 returns : tie.Need-returns
-returns c = search needs
+returns c = search (needs, place-cases)
 
 pub start-of-spec : {M : Type 1} → statement M
 start-of-spec =
@@ -30,8 +36,10 @@ start-of-spec =
     (tie.spec
     slice-aggregate-write-board
     write-board-requires
-    cast-space
+    cast-bytes
     array-share-prefix-space
-    slice-aggregate-start-from
-    start-from-requires
+    slice-aggregate-b
+    map-requires
+    worth-requires
+    word-of-requires
     returns)

@@ -6,8 +6,8 @@ use Rattle.refine.proofs.planned.plan_board.Tie as tie
 write-board-requires : tie.Need-write-board-requires
 write-board-requires c κs = search needs
 
-cast-copy-choice : tie.Need-cast-copy-choice
-cast-copy-choice c = search needs
+cast-bytes : tie.Need-cast-bytes
+cast-bytes c = search needs
 
 slice-reshare-prefix-copy-choice : tie.Need-slice-reshare-prefix-copy-choice
 slice-reshare-prefix-copy-choice c = search (needs, lent-cases)
@@ -32,7 +32,7 @@ plan-board-spec =
     tie.close
     (tie.spec
     write-board-requires
-    cast-copy-choice
+    cast-bytes
     slice-reshare-prefix-copy-choice
     slice-aggregate-copy-choice
     copy-choice-requires

@@ -9,8 +9,8 @@ first-open-requires c κs = search needs
 is-right-requires : tie.Need-is-right-requires
 is-right-requires c κs = search needs
 
-apply-counted-requires : tie.Need-apply-counted-requires
-apply-counted-requires c κs = (search one-cases, search needs, search needs, search one-cases, search needs)
+apply-step-requires : tie.Need-apply-step-requires
+apply-step-requires c κs = (search one-cases, search needs, search needs, search one-cases, search needs)
 
 same-length : tie.Need-same-length
 same-length c = search needs
@@ -30,7 +30,7 @@ replay-one-spec =
     (tie.spec
     first-open-requires
     is-right-requires
-    apply-counted-requires
+    apply-step-requires
     same-length
     returns
     same-length-2
