@@ -29,11 +29,11 @@
  * - All working space is on the caller's stack: at most SLOPEBOARD_STACK_.. bytes, given for each function below. No
  *   function calls itself but the search of slopeboard_improve, one level deeper for each of at most 64 turns.
  * - Times, measured and not proved, in microseconds: one call on the slowest sheets known, the best of many rounds
- *   over 64 sheets (reference/bench), on one core of an x86-64 server at 2.6 GHz. slopeboard_list 221,
- *   slopeboard_plan 127, slopeboard_charge 126, slopeboard_play 86, slopeboard_check 74, slopeboard_limit 17,
- *   slopeboard_keep 12, slopeboard_assign 9.1, slopeboard_draw 8.2, slopeboard_write 5.2, slopeboard_restore 4.1,
- *   slopeboard_read 2.5, slopeboard_best 2.4; slopeboard_improve 24 for 10,000 visits,
- *   slopeboard_refine 1,700 for 50 rounds. A slower sheet may exist.
+ *   over 64 sheets (reference/bench), on one core of an x86-64 server at 2.6 GHz. slopeboard_list 152,
+ *   slopeboard_charge 137, slopeboard_plan 133, slopeboard_play 86, slopeboard_check 57, slopeboard_limit 17,
+ *   slopeboard_keep 12, slopeboard_assign 9.1, slopeboard_draw 8.2, slopeboard_write 5.2, slopeboard_charge_limit 4.6,
+ *   slopeboard_restore 4.1, slopeboard_read 2.5, slopeboard_best 2.5; slopeboard_improve 24 for 10,000 visits;
+ *   slopeboard_refine 690 and slopeboard_charge_refine 640 for 50 rounds. A slower sheet may exist.
  */
 #ifndef SLOPEBOARD_H
 #define SLOPEBOARD_H
@@ -47,7 +47,7 @@ extern "C" {
 #endif
 
 /* The number of this interface. Each change that a caller can see raises it. */
-#define SLOPEBOARD_VERSION 17
+#define SLOPEBOARD_VERSION 18
 
 /* The refusals. In a charging sheet the turns are windows and the slopes are vehicles. */
 enum {
@@ -78,7 +78,7 @@ enum {
     SLOPEBOARD_BAD_SEED = 23,         /* the seed is 0 or above SLOPEBOARD_MOST_SEED */
     SLOPEBOARD_BAD_DELAYS = 24,       /* the delays are not one for each turn, or one is above 120 */
     SLOPEBOARD_BAD_DRAW = 25,         /* a window's draw is 0 or above the hall's units */
-    SLOPEBOARD_BAD_PRICES = 26        /* there are not as many prices as slopes and turns together */
+    SLOPEBOARD_BAD_PRICES = 26        /* there are not as many prices as slopes and turns together (charging: not 960) */
 };
 
 /* The greatest numbers, and the room that is always enough. */
@@ -93,6 +93,7 @@ enum {
 #define SLOPEBOARD_NO_TURN 65535
 #define SLOPEBOARD_MOST_UNITS 48
 #define SLOPEBOARD_MOST_VEHICLES 60
+#define SLOPEBOARD_MINUTES 960
 #define SLOPEBOARD_NUMBERS_PER_TURN 6
 #define SLOPEBOARD_MOST_NUMBERS (SLOPEBOARD_NUMBERS_PER_TURN * SLOPEBOARD_MOST_TURNS)
 /* Enough for every sheet and every kept form: a header of 7 bytes and records of at most 10. */
@@ -100,7 +101,7 @@ enum {
 /* The bytes of a choice map. Turn t has bit t % 8 of byte t / 8, bit 0 being the lowest: 1 if it is chosen. Bits
  * behind the last turn are 0. */
 #define SLOPEBOARD_MAP_BYTES(turns) (((turns) + 7) / 8)
-/* A price list has a number for each slope and one for each turn. */
+/* A price list has a number for each slope and one for each turn. That of a hall has SLOPEBOARD_MINUTES. */
 #define SLOPEBOARD_MOST_PRICES (SLOPEBOARD_MOST_SLOPES + SLOPEBOARD_MOST_TURNS)
 /* The room that slopeboard_plan and slopeboard_refine ask for. The board may be shorter. */
 #define SLOPEBOARD_BOARD_BYTES(turns) (15 + ((turns) + 7) / 8 + 4 * (turns))
@@ -115,18 +116,20 @@ enum {
  * need beyond their return address comes on top. */
 #define SLOPEBOARD_STACK_ASSIGN 10736
 #define SLOPEBOARD_STACK_BEST 14000
-#define SLOPEBOARD_STACK_CHARGE 24568
-#define SLOPEBOARD_STACK_CHECK 13408
+#define SLOPEBOARD_STACK_CHARGE 24552
+#define SLOPEBOARD_STACK_CHARGE_LIMIT 14544
+#define SLOPEBOARD_STACK_CHARGE_REFINE 32464
+#define SLOPEBOARD_STACK_CHECK 13344
 #define SLOPEBOARD_STACK_COUNT 8
 #define SLOPEBOARD_STACK_DRAW 7072
 #define SLOPEBOARD_STACK_IMPROVE 17696
 #define SLOPEBOARD_STACK_IS_CHOSEN 8
 #define SLOPEBOARD_STACK_KEEP 5392
 #define SLOPEBOARD_STACK_LIMIT 20576
-#define SLOPEBOARD_STACK_LIST 22808
+#define SLOPEBOARD_STACK_LIST 22840
 #define SLOPEBOARD_STACK_OPEN 8
 #define SLOPEBOARD_STACK_PLAN 15160
-#define SLOPEBOARD_STACK_PLAY 24304
+#define SLOPEBOARD_STACK_PLAY 24240
 #define SLOPEBOARD_STACK_READ 4992
 #define SLOPEBOARD_STACK_READ_SHORT 4992
 #define SLOPEBOARD_STACK_REFINE 23832
@@ -204,7 +207,7 @@ typedef struct {
 
 typedef struct {
     uint8_t refusal;
-    uint32_t limit; /* no feasible set is worth more */
+    uint32_t limit; /* no feasible set (charging: no allowed set) is worth more */
 } slopeboard_limit_answer;
 
 typedef struct {
@@ -214,6 +217,13 @@ typedef struct {
     uint32_t limit;  /* at the written prices */
     uint32_t rounds; /* how many were made */
 } slopeboard_refine_answer;
+
+typedef struct {
+    uint8_t refusal;
+    uint32_t worth;  /* of the windows in the map */
+    uint32_t limit;  /* at the written prices */
+    uint32_t rounds; /* how many were made */
+} slopeboard_charge_refine_answer;
 
 /* Reads a sheet into a turn table: for each turn slope, groomer, start, length, worth and driver, which is 0 if the
  * turn names none. The answer has the counts of the sheet's header.
@@ -408,12 +418,12 @@ slopeboard_charge_answer slopeboard_charge(const uint8_t *sheet, size_t sheet_le
 slopeboard_limit_answer slopeboard_limit(const uint8_t *sheet, size_t sheet_len, const uint16_t *prices,
                                          size_t prices_len);
 
-/* Makes a better board than slopeboard_plan does, and a limit close above it, in at most so many rounds, and
- * writes the board and the prices that give the limit.
+/* Looks for a better board than slopeboard_plan's and for a low limit, in at most `rounds` rounds, and writes the
+ * board and the prices that give the limit.
  *
  * slopeboard_check passes the board. It has the steps and the tally of the planned one, and is worth no less.
- * slopeboard_limit gives the limit again at the written prices, so that no set of turns in which no two conflict
- * is worth more: if the worth is the limit, no board is worth more. More rounds never give less worth or a higher
+ * slopeboard_limit gives the limit again at the written prices, so that no feasible set is worth more: if the
+ * worth is the limit, no board is worth more. More rounds never give less worth or a higher
  * limit. The rounds of the answer are those allowed, or fewer if worth and limit meet before.
  *
  * It begins with the planned board, with prices of 0 and with a change: a quarter of the greatest worth on the
@@ -435,6 +445,39 @@ slopeboard_limit_answer slopeboard_limit(const uint8_t *sheet, size_t sheet_len,
  * SLOPEBOARD_BOARD_BYTES of the sheet's turns, or prices_len below the number of slopes and turns together. */
 slopeboard_refine_answer slopeboard_refine(const uint8_t *sheet, size_t sheet_len, uint32_t rounds, uint8_t *board,
                                            size_t board_len, uint16_t *prices, size_t prices_len);
+
+/* Works out a charging hall's limit by prices: whatever the prices are, no allowed set of windows is worth more.
+ *
+ * The list has a price for each minute from 0 to 959, in sixteenths. A window pays the prices of its minutes,
+ * added up and then times its draw, in whole numbers: what is left of a sixteenth is dropped. What is then left
+ * of its worth, 0 if nothing is, is what it counts for. For each vehicle the window that counts for the most is
+ * taken, the lowest number of equals, and none if all count for 0. The limit is what these count for and, besides,
+ * all prices, added up and then times the units, in whole numbers likewise.
+ *
+ * Refusals: those of slopeboard_charge but 11, in their order; then 26 if prices_len is not SLOPEBOARD_MINUTES. */
+slopeboard_limit_answer slopeboard_charge_limit(const uint8_t *sheet, size_t sheet_len, const uint16_t *prices,
+                                                size_t prices_len);
+
+/* Looks for a better set of windows than slopeboard_charge's and for a low limit, in at most `rounds` rounds, and
+ * writes its choice map and the prices that give the limit. The set is allowed and is worth no less
+ * than the plan of slopeboard_charge; that no further window could be chosen is not promised.
+ * slopeboard_charge_limit gives the limit again at the written prices, so that no allowed set is worth more.
+ * More rounds never give less worth or a higher limit. The rounds of the answer are those allowed, or fewer if
+ * worth and limit meet before.
+ *
+ * It works as slopeboard_refine does, from that plan, with the limit of slopeboard_charge_limit and the windows
+ * that it takes. A choice is made from these by worth, and then from all windows, of each that may go together
+ * with those chosen before. The change, in sixteenths as the prices are, is an eighth of the greatest worth at
+ * first, upwards to a whole number, 0 without windows. A round goes by what the windows taken draw in a minute. If
+ * that is above the units, the minute's price rises by the change times what is above, divided by the units,
+ * upwards to a whole number, up to 65,535 at most. If not, it falls by the change times what is left of the units,
+ * divided by the units, downwards to a whole number, down to 0 at most.
+ *
+ * Refusals: those of slopeboard_charge but 11, in their order; then 11 if map_len is below SLOPEBOARD_MAP_BYTES
+ * of the sheet's windows, or prices_len below SLOPEBOARD_MINUTES. */
+slopeboard_charge_refine_answer slopeboard_charge_refine(const uint8_t *sheet, size_t sheet_len, uint32_t rounds,
+                                                         uint8_t *map, size_t map_len, uint16_t *prices,
+                                                         size_t prices_len);
 
 #ifdef __cplusplus
 }

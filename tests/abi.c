@@ -62,6 +62,11 @@ STANDS_AT(slopeboard_refine_answer, bytes, 4);
 STANDS_AT(slopeboard_refine_answer, worth, 8);
 STANDS_AT(slopeboard_refine_answer, limit, 12);
 STANDS_AT(slopeboard_refine_answer, rounds, 16);
+LAID_OUT(slopeboard_charge_refine_answer, 16);
+STANDS_AT(slopeboard_charge_refine_answer, refusal, 0);
+STANDS_AT(slopeboard_charge_refine_answer, worth, 4);
+STANDS_AT(slopeboard_charge_refine_answer, limit, 8);
+STANDS_AT(slopeboard_charge_refine_answer, rounds, 12);
 
 static int differences;
 
@@ -320,6 +325,41 @@ static void refining(void) {
     EXPECT(refined.refusal == SLOPEBOARD_BUFFER_TOO_SMALL && untouched() && prices[0] == LENT * 257);
 }
 
+/* Twelve units in one minute: two windows of draw 6 and twelve of draw 1, all of worth 1. With the third round the
+ * minute's price is 3, and the large windows pay all that they are worth. */
+static void pricing_the_hall(void) {
+    uint8_t hall[7 + 9 + 2 + 3 + 11 * 2] = {
+        0x47, 0x52, 0x45, 12, 14, 0, 14, 0x1F, 1, 6, 500 >> 8, 500 & 255, 0, 1, 0, 1, 0x01, 2, 0x03, 3, 1,
+    };
+    for (int window = 3; window < 14; window++) {
+        hall[15 + 2 * window] = 0x01;
+        hall[16 + 2 * window] = window + 1;
+    }
+    uint16_t prices[SLOPEBOARD_MINUTES + 1] = {0};
+    slopeboard_limit_answer limit = slopeboard_charge_limit(hall, sizeof hall, prices, SLOPEBOARD_MINUTES);
+    EXPECT(limit.refusal == 0 && limit.limit == 14);
+    prices[500] = 16;
+    limit = slopeboard_charge_limit(hall, sizeof hall, prices, SLOPEBOARD_MINUTES);
+    EXPECT(limit.refusal == 0 && limit.limit == 12);
+    limit = slopeboard_charge_limit(hall, sizeof hall, prices, SLOPEBOARD_MINUTES + 1);
+    EXPECT(limit.refusal == SLOPEBOARD_BAD_PRICES && limit.limit == 0);
+
+    memset(prices, LENT, sizeof prices);
+    slopeboard_charge_refine_answer refined = slopeboard_charge_refine(hall, sizeof hall, 2, fresh(), 2, prices, SLOPEBOARD_MINUTES);
+    EXPECT(refined.refusal == 0 && refined.worth == 2 && refined.limit == 14 && refined.rounds == 2);
+    EXPECT(lent[0] == 0x03 && lent[1] == 0 && lent[2] == LENT);
+    refined = slopeboard_charge_refine(hall, sizeof hall, 3, fresh(), 2, prices, SLOPEBOARD_MINUTES);
+    EXPECT(refined.refusal == 0 && refined.worth == 12 && refined.limit == 14 && refined.rounds == 3);
+    EXPECT(lent[0] == 0xFC && lent[1] == 0x3F && lent[2] == LENT);
+    EXPECT(prices[500] == 0 && prices[SLOPEBOARD_MINUTES] == LENT * 257);
+    memset(prices, LENT, sizeof prices);
+    refined = slopeboard_charge_refine(hall, sizeof hall, 3, fresh(), 2, prices, SLOPEBOARD_MINUTES - 1);
+    EXPECT(refined.refusal == SLOPEBOARD_BUFFER_TOO_SMALL && refined.worth == 0 && refined.limit == 0);
+    EXPECT(refined.rounds == 0 && untouched() && prices[0] == LENT * 257);
+    refined = slopeboard_charge_refine(hall, sizeof hall, 3, fresh(), 1, prices, SLOPEBOARD_MINUTES);
+    EXPECT(refined.refusal == SLOPEBOARD_BUFFER_TOO_SMALL && untouched() && prices[0] == LENT * 257);
+}
+
 int main(void) {
     reading();
     writing();
@@ -336,5 +376,6 @@ int main(void) {
     charging();
     limiting();
     refining();
+    pricing_the_hall();
     return differences != 0;
 }

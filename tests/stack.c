@@ -20,7 +20,7 @@ static ucontext_t here, there;
 static uint8_t sheet[SLOPEBOARD_MOST_SHEET_BYTES], small[SLOPEBOARD_MOST_SHEET_BYTES], hall[SLOPEBOARD_MOST_SHEET_BYTES];
 static uint8_t single[SLOPEBOARD_MOST_SHEET_BYTES], board[SLOPEBOARD_MOST_BOARD_BYTES], kept[SLOPEBOARD_MOST_SHEET_BYTES];
 static size_t sheet_len, small_len, hall_len, single_len, board_len, kept_len;
-static uint16_t table[SLOPEBOARD_MOST_NUMBERS], delays[TURNS], prices[SLOPEBOARD_MOST_SLOPES + TURNS];
+static uint16_t table[SLOPEBOARD_MOST_NUMBERS], delays[TURNS], prices[SLOPEBOARD_MOST_SLOPES + TURNS], minutes[SLOPEBOARD_MINUTES];
 static uint8_t bytes[SLOPEBOARD_MOST_SHEET_BYTES + SLOPEBOARD_MOST_TEXT_BYTES];
 static uint16_t numbers[SLOPEBOARD_MOST_NUMBERS];
 static slopeboard_standing list[SLOPEBOARD_MOST_GROOMERS];
@@ -46,6 +46,8 @@ static void call_restore(void) { refusal = slopeboard_restore(kept, kept_len, by
 static void call_play(void) { refusal = slopeboard_play(sheet, sheet_len, board, board_len, delays, TURNS, list, SLOPEBOARD_MOST_GROOMERS).refusal; }
 static void call_limit(void) { refusal = slopeboard_limit(sheet, sheet_len, prices, SLOPEBOARD_MOST_SLOPES + TURNS).refusal; }
 static void call_refine(void) { refusal = slopeboard_refine(sheet, sheet_len, 20, bytes, sizeof bytes, numbers, SLOPEBOARD_MOST_NUMBERS).refusal; }
+static void call_charge_limit(void) { refusal = slopeboard_charge_limit(hall, hall_len, minutes, SLOPEBOARD_MINUTES).refusal; }
+static void call_charge_refine(void) { refusal = slopeboard_charge_refine(hall, hall_len, 20, bytes, sizeof bytes, numbers, SLOPEBOARD_MOST_NUMBERS).refusal; }
 static void call_charge(void) { refusal = slopeboard_charge(hall, hall_len, bytes, sizeof bytes).refusal; }
 
 /* How many bytes of the painted stack a call touches. */
@@ -72,6 +74,7 @@ static void prepare(uint64_t seed) {
     small_len = drawn(seed, 60, SLOPEBOARD_MOST_SEARCHED_TURNS, small);
     slopeboard_read(sheet, sheet_len, table, SLOPEBOARD_MOST_NUMBERS);
     for (int place = 0; place < SLOPEBOARD_MOST_SLOPES + TURNS; place++) prices[place] = seed * 977 * place % 1000;
+    for (int place = 0; place < SLOPEBOARD_MINUTES; place++) minutes[place] = seed * 977 * place % 300;
     for (int turn = 0; turn < TURNS; turn++) {
         delays[turn] = (seed * 7 + turn) % (SLOPEBOARD_MOST_DELAY + 1);
         table[SLOPEBOARD_NUMBERS_PER_TURN * turn + 5] = turn % (SLOPEBOARD_MOST_DRIVER + 1);
@@ -108,7 +111,7 @@ int main(void) {
         ENTRY(steps, STEPS), ENTRY(count, COUNT), ENTRY(is_chosen, IS_CHOSEN), ENTRY(check, CHECK), ENTRY(list, LIST),
         ENTRY(assign, ASSIGN), ENTRY(best, BEST), ENTRY(improve, IMPROVE), ENTRY(draw, DRAW), ENTRY(keep, KEEP),
         ENTRY(restore, RESTORE), ENTRY(play, PLAY), ENTRY(charge, CHARGE), ENTRY(limit, LIMIT),
-        ENTRY(refine, REFINE),
+        ENTRY(refine, REFINE), ENTRY(charge_limit, CHARGE_LIMIT), ENTRY(charge_refine, CHARGE_REFINE),
     };
     size_t count = sizeof entries / sizeof entries[0];
     int faults = 0;

@@ -9,6 +9,8 @@ pub const MOST_SHORT_TURNS: usize = 96;
 /// Turns of a sheet that the search for a better choice takes.
 pub const MOST_SEARCHED_TURNS: usize = 64;
 pub const LAST_END: u32 = 960;
+/// Minutes of a shift; a hall's list has a price for each.
+pub const MINUTES: usize = 960;
 pub const MOST_WORTH: u16 = 60_000;
 
 /// Minutes that a groomer needs from the end of a turn to its next start.

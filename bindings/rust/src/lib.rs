@@ -5,8 +5,9 @@
 //! done, works out the best worth where each slope has one turn, looks for a
 //! better choice than the planned one, draws sheets from a seed, writes sheets
 //! by column and back, plays a board with delays, plans a charging hall, works
-//! out by prices what no choice can be worth more than, and makes better boards
-//! by rounds in which prices move. A second reader takes at most 96 turns. Every buffer is the caller's: on a refusal it holds
+//! out by prices what no choice can be worth more than, makes better boards by
+//! rounds in which prices move, and does both for the hall. A second reader
+//! takes at most 96 turns. Every buffer is the caller's: on a refusal it holds
 //! what it held before, and on success so do its places past the last one
 //! written. The order in which refusals are looked for is in
 //! `include/slopeboard.h`.
@@ -25,7 +26,7 @@ pub use refusal::Refusal;
 
 /// The number of this interface, as `SLOPEBOARD_VERSION` in the header: each
 /// change that a caller can see raises it.
-pub const VERSION: u32 = 17;
+pub const VERSION: u32 = 18;
 
 /// Numbers that a turn takes in a turn table: slope, groomer, start, length,
 /// worth, driver. Driver 0 is none.
@@ -49,6 +50,8 @@ pub const NO_TURN: u16 = 65_535;
 pub const MOST_UNITS: usize = 48;
 /// Vehicles that a charging hall has at most.
 pub const MOST_VEHICLES: usize = 60;
+/// Minutes of a shift. A hall's list has a price for each.
+pub const MINUTES: usize = 960;
 /// Prices that a list of any sheet has at most: one for each slope, then one for
 /// each turn.
 pub const MOST_PRICES: usize = MOST_SLOPES + MOST_TURNS;
@@ -110,6 +113,18 @@ pub struct Refined {
     pub worth: u32,
     /// The limit at the written prices. No set of the sheet's turns without a
     /// conflict is worth more; so, if it is the worth, no board is.
+    pub limit: u32,
+    /// How many rounds were made.
+    pub rounds: u32,
+}
+
+/// What the rounds for a hall came to.
+#[derive(Clone, Copy, Debug, PartialEq, Eq)]
+pub struct ChargeRefined {
+    /// What the windows in the map are worth.
+    pub worth: u32,
+    /// The limit at the written prices. No allowed set of windows is worth more;
+    /// so, if it is the worth, none is worth more than those in the map.
     pub limit: u32,
     /// How many rounds were made.
     pub rounds: u32,
@@ -347,6 +362,51 @@ pub fn refine(
     refusal::none(answer.refusal)?;
     Ok(Refined {
         bytes: answer.bytes as usize,
+        worth: answer.worth,
+        limit: answer.limit,
+        rounds: answer.rounds,
+    })
+}
+
+/// Works out a charging hall's limit by prices: whatever the prices are, no
+/// allowed set of the sheet's windows is worth more. The list has a price for
+/// each of [`MINUTES`], in sixteenths.
+pub fn charge_limit(sheet: &[u8], prices: &[u16]) -> Result<u32, Refusal> {
+    let (prices, prices_len) = (prices.as_ptr(), prices.len());
+    let answer =
+        unsafe { raw::slopeboard_charge_limit(sheet.as_ptr(), sheet.len(), prices, prices_len) };
+    refusal::none(answer.refusal)?;
+    Ok(answer.limit)
+}
+
+/// Starts from the plan that [`charge`] writes and prices of 0, makes at most so
+/// many rounds in which the prices move, and writes the choice map of the best
+/// set found and the prices of the lowest limit. The set is allowed and worth no
+/// less than the plan, and [`charge_limit`] gives the same limit at these
+/// prices. More rounds never give less worth or a higher limit. It stops early
+/// if worth and limit meet. Asks for [`map_bytes`] of the sheet's windows, and
+/// for [`MINUTES`] prices.
+pub fn charge_refine(
+    sheet: &[u8],
+    rounds: u32,
+    map: &mut [u8],
+    prices: &mut [u16],
+) -> Result<ChargeRefined, Refusal> {
+    let (map, map_len) = (map.as_mut_ptr(), map.len());
+    let (prices, prices_len) = (prices.as_mut_ptr(), prices.len());
+    let answer = unsafe {
+        raw::slopeboard_charge_refine(
+            sheet.as_ptr(),
+            sheet.len(),
+            rounds,
+            map,
+            map_len,
+            prices,
+            prices_len,
+        )
+    };
+    refusal::none(answer.refusal)?;
+    Ok(ChargeRefined {
         worth: answer.worth,
         limit: answer.limit,
         rounds: answer.rounds,

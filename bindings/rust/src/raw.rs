@@ -99,7 +99,7 @@ pub struct ChargeAnswer {
     pub worth: u32,
 }
 
-/// What a limit by prices is; 0 on a refusal.
+/// What a limit by prices is, a sheet's or a hall's; 0 on a refusal.
 #[repr(C)]
 #[derive(Clone, Copy, Debug, PartialEq, Eq)]
 pub struct LimitAnswer {
@@ -113,6 +113,16 @@ pub struct LimitAnswer {
 pub struct RefineAnswer {
     pub refusal: u8,
     pub bytes: u32,
+    pub worth: u32,
+    pub limit: u32,
+    pub rounds: u32,
+}
+
+/// What a better set of windows by rounds gives; 0 on a refusal.
+#[repr(C)]
+#[derive(Clone, Copy, Debug, PartialEq, Eq)]
+pub struct ChargeRefineAnswer {
+    pub refusal: u8,
     pub worth: u32,
     pub limit: u32,
     pub rounds: u32,
@@ -250,4 +260,21 @@ extern "C" {
         prices: *mut u16,
         prices_len: usize,
     ) -> RefineAnswer;
+
+    pub fn slopeboard_charge_limit(
+        sheet: *const u8,
+        sheet_len: usize,
+        prices: *const u16,
+        prices_len: usize,
+    ) -> LimitAnswer;
+
+    pub fn slopeboard_charge_refine(
+        sheet: *const u8,
+        sheet_len: usize,
+        rounds: u32,
+        map: *mut u8,
+        map_len: usize,
+        prices: *mut u16,
+        prices_len: usize,
+    ) -> ChargeRefineAnswer;
 }

@@ -59,7 +59,8 @@ pub enum Refusal {
     BadDelays = 24,
     /// A window's draw is 0 or above the hall's units.
     BadDraw = 25,
-    /// The price list has not one number for each slope and each turn.
+    /// The price list has not one number for each slope and each turn; for a
+    /// hall, not one for each minute.
     BadPrices = 26,
 }
 

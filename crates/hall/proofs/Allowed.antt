@@ -1,11 +1,11 @@
--- Choosing among the windows of one kind, by its cases: one window, and all of a list. Assumes nothing.
+-- Choosing windows by its cases: one window, one of a kind, and all of a list. Assumes nothing.
 use Prim.Native.Nat.{ℕ, _<_}
 use mathlib.Core.Path.{_≡_, sym, _∙_, ap}
-use mathlib.Core.Bool.{Bool, true, false, _&&_}
+use mathlib.Core.Bool.{Bool, true, false, cond, _&&_}
 use mathlib.Core.List.{List}
 use native.Mathlib.Omega.{arith}
-use lib.ListN.{replicate}
-use Rattle.lists.proofs.Bools.{and-1, and-2}
+use lib.ListN.{set, replicate}
+use Rattle.lists.proofs.Bools.{and-1}
 use Rattle.model.specs.Steps.{Step}
 use Rattle.model.specs.Choice.{choose, chooseEach}
 use Rattle.model.proofs.Choices.{choose-set, choose-not}
@@ -30,7 +30,7 @@ use Rattle.hall.proofs.Supplies.{row-in-hall, lasts-room, row-stays, su
 -- ---- one window
 
 module _ (a : Among) (cols map used : List ℕ) (j : ℕ) {r : Row} {q : Bool} (held : HallHeld a cols) (l : j < a .size .count) (e : r ≡ rowIn cols j)
-    (s : Supplied (hallBy a cols) (choiceIn (a .size .count) map) used) (f : q ≡ (kindRow a r && allowedRow (a .units) used r)) where
+    (s : Supplied (hallBy a cols) (choiceIn (a .size .count) map) used) (f : q ≡ allowedRow (a .units) used r) where
   abbrev H : Hall
   H = hallBy a cols
 
@@ -43,35 +43,48 @@ module _ (a : Among) (cols map used : List ℕ) (j : ℕ) {r : Row} {q : Bool} (
   row-turn : r ≡ turnRow (H .windows) j
   row-turn = e ∙ row-is (a .size) cols j l
 
-  allowed-is : allowedRow (a .units) used r ≡ staysAllowed H S j
-  allowed-is = rw row-turn (row-stays H S used s j inside (held .held .ends j l))
+  allowed-is : q ≡ staysAllowed H S j
+  allowed-is = f ∙ rw row-turn (row-stays H S used s j inside (held .held .ends j l))
 
-  fits-is : fitsAmong H (ofKind a cols) S j ≡ q
-  unfolding fitsAmong
-  fits-is = sym (f ∙ rw (allowed-is, row-turn) (ap (λ (b : Bool). b && staysAllowed H S j) (kind-is a cols j)))
-
-  pub allowed-none : q ≡ false → S ≡ choose (fitsAmong H (ofKind a cols)) S j
-  allowed-none g = sym (choose-not (fitsAmong H (ofKind a cols)) S j (fits-is ∙ g))
+  pub allowed-none : q ≡ false → S ≡ choose (staysAllowed H) S j
+  allowed-none g = sym (choose-not (staysAllowed H) S j (sym allowed-is ∙ g))
 
   module _ (g : q ≡ true) where
-    both : (kindRow a r && allowedRow (a .units) used r) ≡ true
-    both = sym f ∙ g
-
     pub allowed-room : RoomFor (a .units) used r
-    allowed-room = lasts-room (a .units) used r (and-2 (kindRow a r) (allowedRow (a .units) used r) both)
+    allowed-room = lasts-room (a .units) used r (sym f ∙ g)
 
     module _ {map′ : List ℕ} (m : map′ ≡ withTurn map j) (d : Clean (a .size .count) map) where
-      pub allowed-added : choiceIn (a .size .count) map′ ≡ choose (fitsAmong H (ofKind a cols)) S j
-      allowed-added = rw m (choice-with map j (d .bytes) (bit-inside l d) (a .size .count) l ∙ sym (choose-set (fitsAmong H (ofKind a cols)) S j (fits-is ∙ g)))
+      pub allowed-added : choiceIn (a .size .count) map′ ≡ choose (staysAllowed H) S j
+      allowed-added = rw m (choice-with map j (d .bytes) (bit-inside l d) (a .size .count) l ∙ sym (choose-set (staysAllowed H) S j (sym allowed-is ∙ g)))
 
       free : vehicleFree H S j ≡ true
       unfolding staysAllowed
-      free = and-1 (vehicleFree H S j) (supplyLasts H S j) (sym allowed-is ∙ and-2 (kindRow a r) (allowedRow (a .units) used r) both)
+      free = and-1 (vehicleFree H S j) (supplyLasts H S j) (sym allowed-is ∙ g)
 
       pub allowed-supplied : {used′ : List ℕ} → WithWindow r used used′ → Supplied H (choiceIn (a .size .count) map′) used′
       allowed-supplied w = rw (m, choice-with map j (d .bytes) (bit-inside l d) (a .size .count) l) (supplied-put H S used s j inside (choice-length (a .size .count) map ∙ sym (count-is (a .size) cols)) free (rw row-turn at w))
 
 pub ruleset allowed-cases = (row-in-hall, bit-inside, room-clean, allowed-none, allowed-room, allowed-added, allowed-supplied)
+
+-- ---- one window of a kind
+
+module _ (a : Among) (cols : List ℕ) (j : ℕ) {r : Row} {q : Bool} (l : j < a .size .count) (e : r ≡ rowIn cols j) (f : q ≡ kindRow a r) (S : List Bool) where
+  kind-of : q ≡ ofKind a cols j
+  kind-of = f ∙ rw (e, row-is (a .size) cols j l) (kind-is a cols j)
+
+  -- what fits among the kind is what stays allowed
+  fits-is : fitsAmong (hallBy a cols) (ofKind a cols) S j ≡ (q && staysAllowed (hallBy a cols) S j)
+  unfolding fitsAmong
+  fits-is = rw kind-of
+
+  pub kind-added : {S′ : List Bool} → q ≡ true → S′ ≡ choose (staysAllowed (hallBy a cols)) S j → S′ ≡ choose (fitsAmong (hallBy a cols) (ofKind a cols)) S j
+  unfolding choose
+  kind-added g h = let z : fitsAmong (hallBy a cols) (ofKind a cols) S j ≡ staysAllowed (hallBy a cols) S j = fits-is ∙ rw g in h ∙ ap (λ (b : Bool). cond b (set S j true) S) (sym z)
+
+  pub kind-none : q ≡ false → S ≡ choose (fitsAmong (hallBy a cols) (ofKind a cols)) S j
+  kind-none g = sym (choose-not (fitsAmong (hallBy a cols) (ofKind a cols)) S j (fits-is ∙ rw g))
+
+pub ruleset kind-cases = (kind-added, kind-none)
 
 -- ---- all windows of the list
 

@@ -191,7 +191,7 @@ module _ (s : List ℕ) (z : firstOf (causesFor chargingSheet s) ≡ 0) where
   unfolding chargingSheet
   units-of = let h = legal-header chargingSheet charging-sound s z in (h .groomers-from, h .groomers-to)
 
-  vehicles-of : countsIn s .slopes ≤ mostVehicles
+  pub vehicles-of : countsIn s .slopes ≤ mostVehicles
   unfolding chargingSheet
   vehicles-of = legal-header chargingSheet charging-sound s z .slopes-to
 
@@ -217,10 +217,10 @@ module _ (s lent : List ℕ) {K : Kind} {r : ReadAnswer} (k : K ≡ chargingShee
       rw (g, q, ne-eqb (r .refusal) 0 f)
 
   module _ (f : r .refusal ≡ 0) where
-    accepted : firstOf (causesFor chargingSheet s) ≡ 0
+    pub accepted : firstOf (causesFor chargingSheet s) ≡ 0
     accepted = whole-accepted-for chargingSheet s own f
 
-    count : r .turns ≡ turnCount s
+    pub count : r .turns ≡ turnCount s
     count = whole-turns-for chargingSheet s own f
 
     units : r .groomers ≡ countsIn s .groomers
@@ -244,7 +244,7 @@ module _ (s lent : List ℕ) {K : Kind} {r : ReadAnswer} (k : K ≡ chargingShee
             draws = λ t l. rw (turns-are, units) (draw-of s accepted t (omega (arith, count)) .1);
           }
 
-      hall-is : hallIn (r .groomers) size cols ≡ hallOf s
+      pub hall-is : hallIn (r .groomers) (record { count = r .turns; gap = hallGap }) cols ≡ hallOf s
       unfolding hallOf
       hall-is = rw (units, turns-are)
 

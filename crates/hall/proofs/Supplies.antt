@@ -26,7 +26,6 @@ use Rattle.hallmodel.specs.Hall.{Hall, windowCount, vehicle, draw, sameVehicle,
 use Rattle.hallmodel.proofs.Windows.{vehicle-is, is-vehicle, charges-in, in-charges, drawAt-charging, drawAt-not}
 use Rattle.hallmodel.proofs.Allowing.{free-vehicle}
 use Rattle.charging.specs.declared.among.Among.{Among}
-use Rattle.charging.specs.Among.{kindRow}
 use Rattle.charging.specs.Bounds.{HallHeld}
 use Rattle.hall.specs.Supply.{usedPlaces, lastsRow, allowedRow, RowInHall, RoomFor, Drawn, WithWindow, Supplied}
 
@@ -89,13 +88,7 @@ lasts-room units used r e m h l =
     let test : ℕ → Bool = λ i. leb (getD used (r .start + i) 0 + r .groomer) units in
     rw q at (leb-true (getD used (r .start + (m - r .start)) 0 + r .groomer) units (every-at test (r .end - r .start) (and-2 (eqb (getD used (shiftMinutes + r .slope) 0) 0) (every test (r .end - r .start)) e) (m - r .start) (omega arith)))
 
-pub among-fits : (a : Among) (used : List ℕ) (r : Row) {b q : Bool} → b ≡ kindRow a r → b ≡ true → q ≡ allowedRow (a .units) used r → q ≡ (kindRow a r && allowedRow (a .units) used r)
-among-fits a used r e f g = rw (← e, f) g
-
-pub among-unfit : (a : Among) (used : List ℕ) (r : Row) {b : Bool} → b ≡ kindRow a r → b ≡ false → false ≡ (kindRow a r && allowedRow (a .units) used r)
-among-unfit a used r e f = rw (← e, f)
-
-pub ruleset lasts-cases = (room-in-8, lasts-start, lasts-more, lasts-done, allowed-not, allowed-lasts, among-fits, among-unfit)
+pub ruleset lasts-cases = (room-in-8, lasts-start, lasts-more, lasts-done, allowed-not, allowed-lasts)
 
 -- ---- a row draws
 

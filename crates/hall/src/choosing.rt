@@ -1,5 +1,5 @@
-// Choosing among the windows of one kind: those of a list of numbers, from its last to its first, each with
-// which the set stays allowed. It is the garage's way of choosing with another test of what fits.
+// Choosing windows: those of a list of numbers, from its last to its first, each with which the set stays
+// allowed. It is the garage's way of choosing with another test of what fits.
 ghost use mathlib.Core.Path.{_≡_};
 ghost use mathlib.Core.Bool.{false};
 ghost use Prim.Native.Nat.{_*_, _≤_, _<_};
@@ -10,12 +10,13 @@ ghost use Rattle.choicemap.specs.Choice.{choiceIn, Clean};
 ghost use Rattle.board.specs.Board.{stepSize, stepsIn};
 ghost use Rattle.choices.specs.Bounds.{StepsOf};
 ghost use Rattle.chooser.specs.Asked.{NumbersOf};
+ghost use Rattle.hallmodel.specs.Hall.{staysAllowed};
 ghost use Rattle.hallmodel.specs.Plan.{fitsAmong, chooseAmong};
 ghost use Rattle.charging.specs.Among.{hallBy, ofKind};
 ghost use Rattle.charging.specs.Bounds.{HallHeld};
 ghost use Rattle.hall.specs.Supply.{Supplied};
 use super::supply::USED;
-use super::supply::fits_among;
+use super::supply::is_allowed;
 use super::supply::use_row;
 use charging::Among;
 use chooser::ASKED;
@@ -23,8 +24,24 @@ use chooser::put_asked;
 use problem::PLACES;
 use problem::row_at;
 
-// Chooses window j if it is of the kind and the set stays allowed.
+// Chooses window j if the set stays allowed.
 fn add_if_allowed(a: Among, cols: &[u16; PLACES], map: &mut [u8], used: &mut [u8; USED], j: usize)
+    requires { ⌜ (j < a .size .count) × HallHeld a (now cols) × Clean (a .size .count) (now map) ⌝ }
+    requires { ⌜ Supplied (hallBy a (now cols)) (choiceIn (a .size .count) (now map)) (now used) ⌝ }
+    ensures { λ _. ⌜ choiceIn (a .size .count) (now (map .exit))
+        ≡ choose (staysAllowed (hallBy a (now (cols .entry)))) (choiceIn (a .size .count) (now (map .entry))) j ⌝ }
+    ensures { λ _. ⌜ Clean (a .size .count) (now (map .exit)) ⌝ }
+    ensures { λ _. ⌜ Supplied (hallBy a (now (cols .entry))) (choiceIn (a .size .count) (now (map .exit))) (now (used .exit)) ⌝ }
+{
+    let row = row_at(cols, j);
+    if is_allowed(a.units, &*used, row) {
+        choicemap::set_bit(&mut *map, j);
+        use_row(&mut *used, a.units, row);
+    }
+}
+
+// Chooses window j if it is of the kind and the set stays allowed.
+fn add_of_kind(a: Among, cols: &[u16; PLACES], map: &mut [u8], used: &mut [u8; USED], j: usize)
     requires { ⌜ (j < a .size .count) × HallHeld a (now cols) × Clean (a .size .count) (now map) ⌝ }
     requires { ⌜ Supplied (hallBy a (now cols)) (choiceIn (a .size .count) (now map)) (now used) ⌝ }
     ensures { λ _. ⌜ choiceIn (a .size .count) (now (map .exit))
@@ -32,19 +49,35 @@ fn add_if_allowed(a: Among, cols: &[u16; PLACES], map: &mut [u8], used: &mut [u8
     ensures { λ _. ⌜ Clean (a .size .count) (now (map .exit)) ⌝ }
     ensures { λ _. ⌜ Supplied (hallBy a (now (cols .entry))) (choiceIn (a .size .count) (now (map .exit))) (now (used .exit)) ⌝ }
 {
-    let row = row_at(cols, j);
-    if fits_among(a, &*used, row) {
-        choicemap::set_bit(&mut *map, j);
-        use_row(&mut *used, a.units, row);
+    if charging::is_of_kind(a, row_at(cols, j)) {
+        add_if_allowed(a, cols, &mut *map, &mut *used, j);
     }
 }
 
-// The windows of a list of numbers, from its last to its first, into a map that has none chosen.
+// The windows of a list of numbers that are of the kind, from its last to its first, into a map that has none
+// chosen.
 fn choose_each(a: Among, cols: &[u16; PLACES], list: &[u16], map: &mut [u8])
     requires { ⌜ HallHeld a (now cols) × NumbersOf (a .size .count) (now list) × Clean (a .size .count) (now map) ⌝ }
     requires { ⌜ choiceIn (a .size .count) (now map) ≡ replicate (a .size .count) false ⌝ }
     ensures { λ _. ⌜ choiceIn (a .size .count) (now (map .exit))
         ≡ chooseEach (fitsAmong (hallBy a (now (cols .entry))) (ofKind a (now (cols .entry)))) (now (list .entry)) (replicate (a .size .count) false) ⌝ }
+    ensures { λ _. ⌜ Clean (a .size .count) (now (map .exit)) ⌝ }
+{
+    let mut used = [0u8; USED];
+    let mut left = list.len();
+    while 0 < left {
+        left -= 1;
+        let j = list[left] as usize;
+        add_of_kind(a, cols, &mut *map, &mut used, j);
+    }
+}
+
+// All windows of a list of numbers, from its last to its first, into a map that has none chosen.
+pub fn choose_listed(a: Among, cols: &[u16; PLACES], list: &[u16], map: &mut [u8])
+    requires { ⌜ HallHeld a (now cols) × NumbersOf (a .size .count) (now list) × Clean (a .size .count) (now map) ⌝ }
+    requires { ⌜ choiceIn (a .size .count) (now map) ≡ replicate (a .size .count) false ⌝ }
+    ensures { λ _. ⌜ choiceIn (a .size .count) (now (map .exit))
+        ≡ chooseEach (staysAllowed (hallBy a (now (cols .entry)))) (now (list .entry)) (replicate (a .size .count) false) ⌝ }
     ensures { λ _. ⌜ Clean (a .size .count) (now (map .exit)) ⌝ }
 {
     let mut used = [0u8; USED];

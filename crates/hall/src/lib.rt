@@ -15,6 +15,7 @@ mod choosing;
 mod supply;
 
 use charging::Among;
+pub use choosing::choose_listed;
 use choosing::choose_windows;
 use problem::MOST_TURNS;
 use problem::PLACES;
@@ -29,7 +30,7 @@ use turns::Refusals;
 const MOST_UNITS: u16 = 48;
 
 // The free minutes between two windows: none.
-const HALL_GAP: u16 = 0;
+pub const HALL_GAP: u16 = 0;
 
 // A bit for each window that a sheet can have, and steps for as many.
 const MAP_BYTES: usize = (MOST_TURNS + 7) / 8;
@@ -45,7 +46,7 @@ pub struct ChargeAnswer {
 
 // A charging sheet: its first count is the hall's units, its second the vehicles, and a window's second field
 // is its draw. No map has a driver.
-fn charging_sheet() -> Kind
+pub fn charging_sheet() -> Kind
     ensures { λ r. ⌜ r ≡ chargingSheet ⌝ }
 {
     Kind {
@@ -82,7 +83,7 @@ fn plan_kind(a: Among, cols: &[u16; PLACES], map: &mut [u8]) -> u32
 
 // Plans both kinds, each into a map of its own, and copies one of them out: the wide windows' only if it earns
 // more than the other. Returns what the copied one earns.
-fn write_plan(units: u16, p: Size, cols: &[u16; PLACES], map: &mut [u8]) -> u32
+pub fn write_plan(units: u16, p: Size, cols: &[u16; PLACES], map: &mut [u8]) -> u32
     requires { ⌜ HeldHall units p (now cols) × (length (now map) ≡ mapBytes (p .count)) ⌝ }
     ensures { λ r. ⌜ r ≡ hallWorth (hallIn units p (now (cols .entry))) ⌝ }
     ensures { λ _. ⌜ now (map .exit) ≡ mapOf (hallChoice (hallIn units p (now (cols .entry)))) ⌝ }

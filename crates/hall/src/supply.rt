@@ -1,11 +1,8 @@
 // What the chosen windows use: the units drawn at each minute of the shift, and behind them a place for each
 // vehicle, not 0 where it is among them.
 ghost use mathlib.Core.Path.{_≡_};
-ghost use mathlib.Core.Bool.{_&&_};
 ghost use lib.ListN.{length};
-ghost use Rattle.charging.specs.Among.{kindRow};
 ghost use Rattle.hall.specs.Supply.{usedPlaces, lastsRow, allowedRow, RowInHall, RoomFor, Drawn, WithWindow};
-use charging::Among;
 use problem::Row;
 
 const MINUTES: usize = turns::SHIFT_MINUTES as usize;
@@ -35,7 +32,7 @@ fn lasts(units: u16, used: &[u8; USED], r: Row) -> bool
 }
 
 // Whether a window can be beside the chosen ones: its vehicle is not among them, and the supply lasts.
-fn is_allowed(units: u16, used: &[u8; USED], r: Row) -> bool
+pub fn is_allowed(units: u16, used: &[u8; USED], r: Row) -> bool
     requires { ⌜ RowInHall units r ⌝ }
     ensures { λ q. ⌜ q ≡ allowedRow units (now (used .entry)) r ⌝ }
 {
@@ -44,18 +41,6 @@ fn is_allowed(units: u16, used: &[u8; USED], r: Row) -> bool
         return false;
     }
     lasts(units, used, r)
-}
-
-// The same of the windows of one kind.
-pub fn fits_among(a: Among, used: &[u8; USED], r: Row) -> bool
-    requires { ⌜ RowInHall (a .units) r ⌝ }
-    ensures { λ q. ⌜ q ≡ (kindRow a r && allowedRow (a .units) (now (used .entry)) r) ⌝ }
-{
-    if charging::is_of_kind(a, r) {
-        is_allowed(a.units, used, r)
-    } else {
-        false
-    }
 }
 
 // A window draws at its minutes.

@@ -19,6 +19,9 @@ ghost use Rattle.exact.specs.Answer.{earned};
 ghost use Rattle.exact.specs.Exact.{exactOf};
 ghost use Rattle.price_spec.specs.Limit.{limitOf};
 ghost use Rattle.refine_spec.specs.Refine.{refineOf};
+ghost use Rattle.hall_price_spec.specs.Limit.{chargeLimitOf};
+ghost use Rattle.hall_price_spec.specs.Refine.{chargeRefineOf};
+ghost use Rattle.hall_price_spec.specs.Answer.{chargeRefinedBy};
 ghost use Rattle.refine_spec.specs.Answer.{refinedBy};
 ghost use Rattle.improve.specs.Answer.{improved};
 ghost use Rattle.improve.specs.Improve.{improveOf};
@@ -30,6 +33,7 @@ ghost use Rattle.opening.specs.Part.{stepsPartAt};
 use checking::CheckAnswer;
 use exact::BestAnswer;
 use hall::ChargeAnswer;
+use hall_price_spec::ChargeRefineAnswer;
 use improve::Improved;
 use listing::ListAnswer;
 use opening::CountAnswer;
@@ -204,4 +208,24 @@ pub extern "C" fn slopeboard_refine(
     ensures { λ r. ⌜ refinedBy r (now (board .exit)) (now (prices .exit)) ≡ refineOf (now (sheet .entry)) rounds (now (board .entry)) (now (prices .entry)) ⌝ }
 {
     refine::refine(sheet, rounds, &mut *board, &mut *prices)
+}
+
+#[no_mangle]
+pub extern "C" fn slopeboard_charge_limit(sheet: &[u8], prices: &[u16]) -> LimitAnswer
+    ensures { λ r. ⌜ r ≡ chargeLimitOf (now (sheet .entry)) (now (prices .entry)) ⌝ }
+{
+    hall_prices::charge_limit(sheet, prices)
+}
+
+#[no_mangle]
+pub extern "C" fn slopeboard_charge_refine(
+    sheet: &[u8],
+    rounds: u32,
+    map: &mut [u8],
+    prices: &mut [u16],
+) -> ChargeRefineAnswer
+    ensures { λ r. ⌜ chargeRefinedBy r (now (map .exit)) (now (prices .exit))
+        ≡ chargeRefineOf (now (sheet .entry)) rounds (now (map .entry)) (now (prices .entry)) ⌝ }
+{
+    hall_prices::charge_refine(sheet, rounds, &mut *map, &mut *prices)
 }

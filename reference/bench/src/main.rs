@@ -50,6 +50,7 @@ struct Job {
     kept: Vec<u8>,
     delays: Vec<u16>,
     prices: Vec<u16>,
+    minutes: Vec<u16>,
     room: Vec<u16>,
     hall: Vec<u8>,
     small_hall: Vec<u8>,
@@ -88,7 +89,8 @@ impl Job {
             board,
             kept,
             delays,
-            room: vec![0; count],
+            room: vec![0; slopeboard::MINUTES],
+            minutes: prices::list(&mut Rng::new(seed), 4, slopeboard::MINUTES, 4000),
             prices,
             hall,
             small_hall,
@@ -256,6 +258,37 @@ const CHARGE_TOGETHER: Entry = Entry {
     name: "charge a",
     library: |job| slopeboard::charge(&job.full_hall, &mut job.bytes).is_ok(),
     reference: |job| fast::charge(&job.full_hall, &mut job.bytes).is_ok(),
+};
+
+/// The hall's limit by prices.
+const CHARGE_LIMIT: Entry = Entry {
+    name: "charge l",
+    library: |job| slopeboard::charge_limit(&job.hall, &job.minutes).is_ok(),
+    reference: |job| fast::charge_limit(&job.hall, &job.minutes).is_ok(),
+};
+
+/// A better choice of windows by rounds.
+const CHARGE_REFINE: Entry = Entry {
+    name: "charge r",
+    library: |job| {
+        slopeboard::charge_refine(&job.hall, BOARD_ROUNDS, &mut job.bytes, &mut job.room).is_ok()
+    },
+    reference: |job| {
+        fast::charge_refine(&job.hall, BOARD_ROUNDS, &mut job.bytes, &mut job.room).is_ok()
+    },
+};
+
+/// The same on windows of small draws.
+const CHARGE_REFINE_SMALL: Entry = Entry {
+    name: "charge q",
+    library: |job| {
+        let room = (&mut job.bytes, &mut job.room);
+        slopeboard::charge_refine(&job.small_hall, BOARD_ROUNDS, room.0, room.1).is_ok()
+    },
+    reference: |job| {
+        let room = (&mut job.bytes, &mut job.room);
+        fast::charge_refine(&job.small_hall, BOARD_ROUNDS, room.0, room.1).is_ok()
+    },
 };
 
 /// Best and median time of one call, in nanoseconds.
@@ -530,7 +563,7 @@ const TABLE: &[Rows] = &[
         &[
             ("", usual_sheet, &[200, 400]),
             ("w", widest_sheet, &[400]),
-            ("d *", driven_sheet, &[400]),
+            ("d", driven_sheet, &[400]),
         ],
     ),
     (
@@ -548,6 +581,9 @@ const TABLE: &[Rows] = &[
     (&CHARGE, &[("", usual_sheet, &[200, 400])]),
     (&CHARGE_SMALL, &[("*", usual_sheet, &[400])]),
     (&CHARGE_TOGETHER, &[("*", usual_sheet, &[400])]),
+    (&CHARGE_LIMIT, &[("", usual_sheet, &[200, 400])]),
+    (&CHARGE_REFINE, &[("", usual_sheet, &[200, 400])]),
+    (&CHARGE_REFINE_SMALL, &[("", usual_sheet, &[400])]),
 ];
 
 /// Jobs for sheets of so many turns, all of one kind.
@@ -573,9 +609,12 @@ fn main() {
     let wanted = |name: &str| named.is_empty() || named.iter().any(|word| word == name);
     println!("times of one call in microseconds, over {SHEETS} sheets; n is the number of turns, m of steps;");
     println!("12 groomers and 80 slopes; w: 16 groomers, 120 slopes, sorted; d: with drivers; k: so many groomers;");
-    println!("improve: at most {VISITS} visits; refine: at most {BOARD_ROUNDS} rounds;");
+    println!(
+        "improve: at most {VISITS} visits; refine, charge r and q: at most {BOARD_ROUNDS} rounds;"
+    );
     println!("plan f: the reference makes no list at each pick;");
-    println!("play o: the reference goes minute by minute; charge s: small draws, charge a: and all windows overlap; *: the slowest known");
+    println!("play o: the reference goes minute by minute; charge s: small draws, charge a: and all windows overlap;");
+    println!("charge l: the hall's limit, charge r: its rounds, charge q: with small draws; *: the slowest known");
     println!("                            library             reference");
     println!(
         "entry     sheet                  best    median        best    median   ratio  growth"

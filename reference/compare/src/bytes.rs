@@ -6,8 +6,8 @@ use std::fmt::Debug;
 use slopeboard_reference::gen::Rng;
 
 use crate::foreign::{
-    AssignAnswer, BestAnswer, BytesAnswer, ChargeAnswer, ImproveAnswer, PlayAnswer, RefineAnswer,
-    Standing,
+    AssignAnswer, BestAnswer, BytesAnswer, ChargeAnswer, ChargeRefineAnswer, ImproveAnswer,
+    PlayAnswer, RefineAnswer, Standing,
 };
 use crate::report::{show, Report};
 
@@ -86,6 +86,12 @@ impl Answer for ChargeAnswer {
 }
 
 impl Answer for RefineAnswer {
+    fn refusal(&self) -> u8 {
+        self.refusal
+    }
+}
+
+impl Answer for ChargeRefineAnswer {
     fn refusal(&self) -> u8 {
         self.refusal
     }

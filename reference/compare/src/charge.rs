@@ -1,4 +1,5 @@
-//! Planning a charging hall.
+//! Planning a charging hall, and the charging sheets that every entry for halls
+//! is compared on.
 
 use slopeboard_reference::gen::{self, Rng};
 use slopeboard_reference::halls;
@@ -12,114 +13,132 @@ use crate::report::Report;
 
 /// Compares the two versions on all halls.
 pub fn run(seed: u64) -> bool {
+    let mut rng = Rng::new(seed);
     let mut run = Run {
-        rng: Rng::new(seed),
         report: Report::new("charge"),
         lent: Lent::default(),
         placed: Placed::default(),
     };
-    run.shaped();
-    run.small();
-    run.faulty();
-    run.edges();
+    each(&mut rng, |rng, sheet| run.rooms(rng, sheet));
+    run.lengths(&mut rng);
     run.report.finish((1..=6).chain(8..=11).chain([25]))
 }
 
+/// Hands every charging sheet to the function: more than half of them accepted
+/// ones.
+pub fn each(rng: &mut Rng, mut run: impl FnMut(&mut Rng, &[u8])) {
+    shaped(rng, &mut run);
+    small(rng, &mut run);
+    faulty(rng, &mut run);
+    edges(rng, &mut run);
+}
+
+/// Halls of every shape: mostly few windows, at times many.
+fn shaped(rng: &mut Rng, run: &mut impl FnMut(&mut Rng, &[u8])) {
+    for round in 0..20_000 {
+        let windows = match round % 400 {
+            0 | 1 => rng.between(61, 300),
+            2..=20 => rng.between(16, 60),
+            _ => rng.below(16),
+        };
+        let hall = halls::hall(rng, round % halls::SHAPES, windows as usize);
+        let sheet = halls::encode(rng, &hall, 10).bytes;
+        run(rng, &sheet);
+    }
+    for _ in 0..140 {
+        let windows = rng.between(61, 400) as usize;
+        let hall = halls::usual(rng, windows);
+        let sheet = halls::encode(rng, &hall, 0).bytes;
+        run(rng, &sheet);
+    }
+}
+
+/// Few windows in few minutes; of both kinds, and of large ones alone.
+fn small(rng: &mut Rng, run: &mut impl FnMut(&mut Rng, &[u8])) {
+    for round in 0..20_000 {
+        let hall = match round % 3 {
+            0 => halls::large(rng, 14),
+            _ => halls::small(rng, 12),
+        };
+        let sheet = halls::encode(rng, &hall, 10).bytes;
+        run(rng, &sheet);
+    }
+}
+
+/// Every kind of fault.
+fn faulty(rng: &mut Rng, run: &mut impl FnMut(&mut Rng, &[u8])) {
+    for round in 0..30_000 {
+        let windows = rng.between(1, 8) as usize;
+        let shape = rng.below(halls::SHAPES);
+        let hall = halls::hall(rng, shape, windows);
+        let sheet = halls::with_fault(rng, &hall, round % halls::FAULTS);
+        run(rng, &sheet);
+    }
+}
+
+/// Headers at their bounds, marks, and every length of some sheets.
+fn edges(rng: &mut Rng, run: &mut impl FnMut(&mut Rng, &[u8])) {
+    for units in 0..=50 {
+        for vehicles in [0, 1, 2, 59, 60, 61, 255] {
+            for windows in [0, 1] {
+                run(rng, &[b'G', b'R', b'E', units, vehicles, 0, windows]);
+                run(rng, &[b'G', b'R', b'E', units, vehicles, 1, 0x90 + windows]);
+            }
+        }
+    }
+    for round in 0..100 {
+        let windows = rng.between(1, 8) as usize;
+        let hall = halls::hall(rng, round % halls::SHAPES, windows);
+        let sheet = halls::encode(rng, &hall, 10).bytes;
+        for sheet in halls::wrong_marks(&sheet) {
+            run(rng, &sheet);
+        }
+        for len in 0..sheet.len() {
+            run(rng, &sheet[..len]);
+        }
+    }
+}
+
 struct Run {
-    rng: Rng,
     report: Report,
     lent: Lent<u8>,
     placed: Placed,
 }
 
 impl Run {
-    /// Halls of every shape: mostly few windows, at times many.
-    fn shaped(&mut self) {
-        for round in 0..20_000 {
-            let windows = match round % 400 {
-                0 | 1 => self.rng.between(61, 300),
-                2..=20 => self.rng.between(16, 60),
-                _ => self.rng.below(16),
-            };
-            let hall = halls::hall(&mut self.rng, round % halls::SHAPES, windows as usize);
-            let sheet = halls::encode(&mut self.rng, &hall, 10).bytes;
-            self.rooms(&sheet);
-        }
-        for _ in 0..140 {
-            let windows = self.rng.between(61, 400) as usize;
-            let hall = halls::usual(&mut self.rng, windows);
-            let sheet = halls::encode(&mut self.rng, &hall, 0).bytes;
-            self.rooms(&sheet);
-        }
-    }
-
-    /// Few windows in few minutes; of both kinds, and of large ones alone.
-    fn small(&mut self) {
-        for round in 0..20_000 {
-            let hall = match round % 3 {
-                0 => halls::large(&mut self.rng, 14),
-                _ => halls::small(&mut self.rng, 12),
-            };
-            let sheet = halls::encode(&mut self.rng, &hall, 10).bytes;
-            self.rooms(&sheet);
-        }
-    }
-
-    /// Every kind of fault.
-    fn faulty(&mut self) {
-        for round in 0..30_000 {
-            let windows = self.rng.between(1, 8) as usize;
-            let shape = self.rng.below(halls::SHAPES);
-            let hall = halls::hall(&mut self.rng, shape, windows);
-            let sheet = halls::with_fault(&mut self.rng, &hall, round % halls::FAULTS);
-            self.rooms(&sheet);
-        }
-    }
-
-    /// Headers at their bounds, marks, and every length of some sheets.
-    fn edges(&mut self) {
-        for units in 0..=50 {
-            for vehicles in [0, 1, 2, 59, 60, 61, 255] {
-                for windows in [0, 1] {
-                    self.rooms(&[b'G', b'R', b'E', units, vehicles, 0, windows]);
-                    self.rooms(&[b'G', b'R', b'E', units, vehicles, 1, 0x90 + windows]);
-                }
-            }
-        }
+    /// Every length of some sheets, with their own bytes behind.
+    fn lengths(&mut self, rng: &mut Rng) {
         for round in 0..100 {
-            let windows = self.rng.between(1, 8) as usize;
-            let hall = halls::hall(&mut self.rng, round % halls::SHAPES, windows);
-            let sheet = halls::encode(&mut self.rng, &hall, 10).bytes;
-            for sheet in halls::wrong_marks(&sheet) {
-                self.rooms(&sheet);
-            }
+            let windows = rng.between(1, 8) as usize;
+            let hall = halls::hall(rng, round % halls::SHAPES, windows);
+            let sheet = halls::encode(rng, &hall, 10).bytes;
             for len in 0..sheet.len() {
                 let (cut, behind) = sheet.split_at(len);
-                self.placed.put_before(&mut self.rng, cut, behind);
-                self.compare(1);
+                self.placed.put_before(rng, cut, behind);
+                self.compare(rng, 1);
             }
         }
     }
 
     /// The sheet with just the map's bytes, and if it is accepted also with a
     /// byte less or more.
-    fn rooms(&mut self, sheet: &[u8]) {
-        self.placed.put(&mut self.rng, sheet);
+    fn rooms(&mut self, rng: &mut Rng, sheet: &[u8]) {
+        self.placed.put(rng, sheet);
         let bytes = gen::turns_claimed(sheet).div_ceil(8);
-        if self.compare(bytes) {
+        if self.compare(rng, bytes) {
             self.note_properties();
             let less = bytes.saturating_sub(1);
-            let room = self.rng.pick(&[less, bytes + 1, bytes + 1, 50]);
-            self.compare(room);
+            let room = rng.pick(&[less, bytes + 1, bytes + 1, 50]);
+            self.compare(rng, room);
         }
     }
 
     /// Compares the two versions on what has been placed.
-    fn compare(&mut self, room: usize) -> bool {
+    fn compare(&mut self, rng: &mut Rng, room: usize) -> bool {
         let sheet = self.placed.input();
         let ours = |map: &mut [u8]| answer(naive::charge(sheet, map));
         let theirs = |map: &mut [u8]| foreign::charge(sheet, map);
-        let (rng, report) = (&mut self.rng, &mut self.report);
+        let report = &mut self.report;
         let answer = self.lent.compare(rng, report, (ours, theirs), room, sheet);
         answer.refusal == 0
     }

@@ -3,8 +3,8 @@
 
 use slopeboard::raw;
 pub use slopeboard::raw::{
-    AssignAnswer, BestAnswer, BytesAnswer, ChargeAnswer, CheckAnswer, CountAnswer, ImproveAnswer,
-    LimitAnswer, Part, PlayAnswer, ReadAnswer, RefineAnswer, Standing,
+    AssignAnswer, BestAnswer, BytesAnswer, ChargeAnswer, ChargeRefineAnswer, CheckAnswer,
+    CountAnswer, ImproveAnswer, LimitAnswer, Part, PlayAnswer, ReadAnswer, RefineAnswer, Standing,
 };
 
 /// A slice as the library takes it. An empty one may come with any pointer,
@@ -155,5 +155,25 @@ pub fn refine(sheet: &[u8], rounds: u32, board: &mut [u8], prices: &mut [u16]) -
         raw::slopeboard_refine(
             sheet, sheet_len, rounds, board, board_len, prices, prices_len,
         )
+    }
+}
+
+/// Gives the limit of a hall at these prices.
+pub fn charge_limit(sheet: &[u8], prices: &[u16]) -> LimitAnswer {
+    let ((sheet, sheet_len), (prices, prices_len)) = (parts(sheet), parts(prices));
+    unsafe { raw::slopeboard_charge_limit(sheet, sheet_len, prices, prices_len) }
+}
+
+/// Makes a better choice of windows by rounds.
+pub fn charge_refine(
+    sheet: &[u8],
+    rounds: u32,
+    map: &mut [u8],
+    prices: &mut [u16],
+) -> ChargeRefineAnswer {
+    let (sheet, sheet_len) = parts(sheet);
+    let ((map, map_len), (prices, prices_len)) = (parts_mut(map), parts_mut(prices));
+    unsafe {
+        raw::slopeboard_charge_refine(sheet, sheet_len, rounds, map, map_len, prices, prices_len)
     }
 }

@@ -12,6 +12,8 @@ mod best;
 mod bound;
 mod bytes;
 mod charge;
+mod charge_limit;
+mod charge_refine;
 mod check;
 mod choice;
 mod draw;
@@ -38,7 +40,7 @@ use std::process::ExitCode;
 use std::time::{Duration, Instant};
 
 /// Each entry's comparison, and the seed of its inputs.
-const ENTRIES: [(fn(u64) -> bool, u64); 19] = [
+const ENTRIES: [(fn(u64) -> bool, u64); 21] = [
     (read::run, 2024),
     (read::run_short, 2034),
     (write::run, 2025),
@@ -58,6 +60,8 @@ const ENTRIES: [(fn(u64) -> bool, u64); 19] = [
     (charge::run, 2041),
     (limit::run, 2042),
     (refine::run, 2043),
+    (charge_limit::run, 2044),
+    (charge_refine::run, 2045),
 ];
 
 /// All entries once, on the inputs of the gate, and the drawn sheets.

@@ -1,5 +1,6 @@
 //! A better board by rounds.
 
+use slopeboard_reference::fast;
 use slopeboard_reference::gen::{self, Rng};
 use slopeboard_reference::naive::{self, any_driver, sheet::accept, Refined};
 
@@ -95,7 +96,7 @@ fn note_properties(
     let sheet_read = accept(sheet).unwrap_or_else(|_| unreachable!("the sheet was accepted"));
     let turns = &sheet_read.turns;
     let mut board = vec![0; slopeboard::board_bytes(turns.len())];
-    naive::plan(sheet, &mut board).expect("the sheet was accepted");
+    fast::plan(sheet, &mut board).expect("the sheet was accepted");
     let planned = u32::from_be_bytes([board[11], board[12], board[13], board[14]]);
     let better = answer.worth > planned;
     let slopes = sheet_read.slopes as usize;

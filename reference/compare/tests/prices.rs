@@ -113,18 +113,33 @@ fn cases(entry: &str) -> Vec<Case> {
     cases
 }
 
-#[test]
-fn limit() {
-    for case in cases("limit") {
+/// Each list gives the same limit in both versions, which is the case's.
+fn limits(
+    entry: &str,
+    naive: fn(&[u8], &[u16]) -> Result<u32, u8>,
+    library: fn(&[u8], &[u16]) -> Result<u32, Refusal>,
+) {
+    for case in cases(entry) {
         let (sheet, prices) = (case.sheet(), case.prices().expect("a case has prices"));
-        let library = slopeboard::limit(&sheet, &prices);
-        for limit in [
-            naive::limit(&sheet, &prices),
-            library.map_err(Refusal::number),
-        ] {
+        let library = library(&sheet, &prices).map_err(Refusal::number);
+        for limit in [naive(&sheet, &prices), library] {
             case.holds(limit.map(|limit| [("limit", limit)]));
         }
     }
+}
+
+#[test]
+fn limit() {
+    limits("limit", naive::limit, slopeboard::limit);
+}
+
+#[test]
+fn charge_limit() {
+    limits(
+        "charge_limit",
+        naive::charge_limit,
+        slopeboard::charge_limit,
+    );
 }
 
 /// What is written beside the answer: bytes and prices.
@@ -200,6 +215,35 @@ fn refine() {
                 "{}: {word}",
                 case.name
             );
+        }
+    }
+}
+
+#[test]
+fn charge_refine() {
+    for case in cases("charge_refine") {
+        let (sheet, rounds) = (case.sheet(), case.number("rounds").expect("rounds"));
+        let windows = usize::from(u16::from_be_bytes([sheet[5], sheet[6]]));
+        let enough = [slopeboard::map_bytes(windows), slopeboard::MINUTES];
+        let naive = |map: &mut [u8], prices: &mut [u16]| {
+            let found = naive::charge_refine(&sheet, rounds, map, prices)?;
+            Ok(figures(found.worth, found.limit, found.rounds))
+        };
+        let library = |map: &mut [u8], prices: &mut [u16]| {
+            let found = slopeboard::charge_refine(&sheet, rounds, map, prices);
+            let found = found.map_err(Refusal::number)?;
+            Ok(figures(found.worth, found.limit, found.rounds))
+        };
+        let (answers, (map, _)) = both(&case, enough, naive, library);
+        for answer in answers {
+            case.holds(answer);
+        }
+        if let Some(line) = case.line("map") {
+            assert_eq!(map, bytes(line), "{}: map", case.name);
+        }
+        if let Some(planned) = case.number("planned") {
+            let plan = slopeboard::charge(&sheet, &mut vec![0; map.len()]);
+            assert_eq!(plan, Ok(planned), "{}", case.name);
         }
     }
 }

@@ -4,10 +4,7 @@ use super::charge::parse;
 use super::refusal;
 use super::sheet::no_turns;
 use super::turns::Turn;
-use crate::limits::{LAST_END, MOST_TURNS, MOST_VEHICLES};
-
-/// Minutes that have a price.
-pub const MINUTES: usize = LAST_END as usize;
+use crate::limits::{MINUTES, MOST_TURNS, MOST_VEHICLES};
 
 /// Prices are parts of this kind.
 const PARTS: u32 = 16;

@@ -3,12 +3,12 @@
 
 use super::board::map_len;
 use super::charge::{parse, planned, Selection};
-use super::charge_limit::{look, Taken, MINUTES};
+use super::charge_limit::{look, Taken};
 use super::ranks::{add, lowest, next_change, remove, Ranks, Set, WORDS};
 use super::refusal;
 use super::sheet::no_turns;
 use super::turns::Turn;
-use crate::limits::MOST_VEHICLES;
+use crate::limits::{MINUTES, MOST_VEHICLES};
 
 /// What the rounds came to, beside choice map and prices.
 #[derive(Clone, Copy, Debug, PartialEq, Eq)]

@@ -1,7 +1,7 @@
 //! The library's entries, each with a buffer that is large enough.
 
 use crate::sheet::{Sheet, Turn};
-use slopeboard::{Counts, Improved, Refined, Refusal, Standing};
+use slopeboard::{ChargeRefined, Counts, Improved, Refined, Refusal, Standing};
 
 /// The turns of a sheet, and its counts.
 pub fn read(bytes: &[u8]) -> Result<Sheet, Refusal> {
@@ -111,6 +111,19 @@ pub fn charge(sheet: &[u8], windows: usize) -> Result<(u32, Vec<u8>), Refusal> {
     let mut map = vec![0; slopeboard::map_bytes(windows)];
     let worth = slopeboard::charge(sheet, &mut map)?;
     Ok((worth, map))
+}
+
+/// What the rounds for a hall of at most so many windows came to, the choice map
+/// and the prices.
+pub fn charge_refine(
+    sheet: &[u8],
+    windows: usize,
+    rounds: u32,
+) -> Result<(ChargeRefined, Vec<u8>, Vec<u16>), Refusal> {
+    let mut map = vec![0; slopeboard::map_bytes(windows)];
+    let mut prices = vec![0; slopeboard::MINUTES];
+    let refined = slopeboard::charge_refine(sheet, rounds, &mut map, &mut prices)?;
+    Ok((refined, map, prices))
 }
 
 /// The bytes that a call wrote.

@@ -197,6 +197,7 @@ fn meaning(refusal: Refusal, role: Role) -> String {
         }
         (Refusal::BadSlope, Role::Hall) => "a window's vehicle is 0 or above the count of vehicles",
         (Refusal::BadTime, Role::Hall) => "a window has length 0 or ends after minute 960",
+        (Refusal::BadPrices, Role::Hall) => "there is not a price for each minute",
         (Refusal::BadWorth, Role::Hall) => "a window's worth is 0 or above 60000",
         _ => return limit(refusal).unwrap_or_else(|| rule(refusal).to_owned()),
     };

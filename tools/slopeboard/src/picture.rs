@@ -94,7 +94,7 @@ fn turn_span(number: usize, turn: &Turn, from: Option<u64>) -> Span {
 
 /// The units drawn in each minute against those that there are; below, the
 /// chosen windows as bars and the others as thin lines.
-pub fn hall(hall: &Hall, chosen: &[usize], from: Option<u64>) -> String {
+pub fn hall(hall: &Hall, chosen: &[usize], captions: &[&str], from: Option<u64>) -> String {
     let count = hall.windows.len();
     let last = hall.windows.iter().map(Window::end).max().unwrap_or(0);
     let title = format!("Hall: {} of {count} windows are chosen", chosen.len());
@@ -113,7 +113,9 @@ pub fn hall(hall: &Hall, chosen: &[usize], from: Option<u64>) -> String {
         others: spans(false),
     });
     chart.axis();
-    chart.caption(&hall_line(hall, chosen), true);
+    for (place, caption) in captions.iter().enumerate() {
+        chart.caption(caption, place == 0);
+    }
     chart.dashed_legend("the units of the hall; the grey area is what the chosen windows draw");
     chart.bar_legend(
         "vehicle 1",

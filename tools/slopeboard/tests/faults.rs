@@ -284,6 +284,11 @@ limit @sheet @empty => empty: 0 prices, where 7 are wanted, one for each of 3 sl
 check - - => only one of the files can be standard input
 limit - - => only one of the files can be standard input
 picture @sheet - --prices - => only one of the files can be standard input
+charge-limit @sheet --free => with GRE, the mark of a charging sheet; it opens as a sheet does (refused 2)
+charge-refine @sheet => with GRE, the mark of a charging sheet; it opens as a sheet does (refused 2)
+charge-limit @hall @empty => empty: 0 prices, where 960 are wanted, one for each minute (refused 26)
+picture @hall @map --prices @empty => empty: 0 prices, where 960 are wanted, one for each minute (refused 26)
+charge-refine @hall --prices /no/such/folder/x => /no/such/folder/x: cannot be written:
 refine @noise => noise: it ends too early, before its last record is whole (refused 1)
 refine @sheet --prices /no/such/folder/x => /no/such/folder/x: cannot be written:
 plan @sheet -o /no/such/folder/x => /no/such/folder/x: cannot be written:
@@ -306,6 +311,9 @@ refine @sheet --rounds 4294967296 => refine: --rounds: 4294967296 is no number f
 refine @sheet -o @out --prices @out => refine: -o and --prices name the same file
 picture @sheet @board --rounds 4294967296 => picture: --rounds: 4294967296 is no number from 0
 picture @sheet @board --rounds 1 --prices @sheet => picture: --prices or --rounds, not both
+charge-limit @sheet @sheet --free => charge-limit: --free leaves no place for PRICES
+charge-refine @sheet --rounds 4294967296 => charge-refine: --rounds: 4294967296 is no number from 0
+charge-refine @sheet -o @out --prices @out => charge-refine: -o and --prices name the same file
 limit @sheet => limit: PRICES is missing, or --free
 limit => limit: SHEET is missing
 limit @sheet @sheet --free => limit: --free leaves no place for PRICES
@@ -343,6 +351,11 @@ fn files_that_are_missing_empty_or_another_kind() {
     folder.put("board", bytes(BOARD));
     folder.put("empty", "");
     folder.put("noise", "what");
+    folder.put(
+        "hall",
+        run_on(&["hall-sheet", "-"], HALL_CSV.as_bytes()).well().out,
+    );
+    folder.put("map", [0x03]);
     all_refused(&folder, FILES);
 }
 

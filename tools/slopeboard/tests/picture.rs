@@ -64,13 +64,6 @@ fn the_limit_beside_the_sums() {
             .contains(">The limit is the worth: no board earns more.<");
         assert_eq!(met, prices == &free && choice == &board);
     }
-    let csv = run_on(&["hall-sheet", "-"], HALL_CSV.as_bytes()).well().out;
-    let hall = folder.put("hall", csv);
-    let said = run(&["picture", &hall, &map, "--prices", &free]).refused();
-    assert!(
-        said.contains("picture: --prices and --rounds are not for a hall"),
-        "{said}"
-    );
 }
 
 #[test]

@@ -142,13 +142,7 @@ fn limited(folder: &Folder, sheet: &str, board: &str, counts: [usize; 4]) {
         &prices,
     ];
     let ran = run(&words).well();
-    let figures: Vec<u32> = (1..6)
-        .step_by(2)
-        .map(|place| figure(ran.text(), place))
-        .collect();
-    let &[better_worth, limit, rounds] = &figures[..] else {
-        unreachable!();
-    };
+    let [better_worth, limit, rounds] = [1, 3, 5].map(|place| figure(ran.text(), place));
     assert!(worth <= better_worth && better_worth <= limit && rounds <= 30);
     assert_eq!(
         better_worth == limit,
@@ -217,6 +211,7 @@ fn charged(folder: &Folder, sheet: &str, seed: usize) {
     run_on(&["hall-sheet", "-", "-o", &hall], lines.as_bytes()).well();
     assert_eq!(run(&["show", &hall]).well().text(), lines);
     let plan = run(&["charge", &hall, "-o", &map]).well();
+    rounds_of_hall(folder, &hall, worth(plan.text()));
     let svg = run(&["picture", &hall, &map]).well();
     assert!(svg
         .err
@@ -224,4 +219,24 @@ fn charged(folder: &Folder, sheet: &str, seed: usize) {
     let tags = xml::tags(svg.text()).unwrap();
     assert_eq!(xml::of_class(&tags, "chosen"), chosen(plan.text()).len());
     assert_eq!(xml::of_class(&tags, "supply"), 1);
+}
+
+/// A better choice of windows by rounds, and its prices read back.
+fn rounds_of_hall(folder: &Folder, hall: &str, planned: u32) {
+    let (map, prices) = (folder.path("better.map"), folder.path("hall.prices"));
+    let words = ["charge-refine", hall, "--rounds=10", "-o", &map];
+    let ran = run(&[&words[..], &["--prices", &prices]].concat()).well();
+    let [worth, limit, rounds] = [1, 3, 5].map(|place| figure(ran.text(), place));
+    assert!(planned <= worth && worth <= limit && rounds <= 10);
+    let met = ran.text().contains("no choice earns more");
+    assert_eq!(worth == limit, met);
+    let again = run(&["charge-limit", hall, &prices]).well();
+    assert_eq!(figure(again.text(), 1), limit);
+    let free = run(&["charge-limit", hall, "--free"]).well();
+    assert!(figure(free.text(), 1) >= limit);
+    let svg = run(&["picture", hall, &map, "--prices", &prices]).well();
+    assert!(svg.err.starts_with(&format!("worth {worth},")));
+    assert!(svg.err.ends_with(&format!(", limit {limit}\n")));
+    let bars = xml::of_class(&xml::tags(svg.text()).unwrap(), "chosen");
+    assert_eq!(bars, chosen(ran.text()).len());
 }

@@ -266,9 +266,65 @@ fn refine_by_rounds() {
     assert_eq!(ran.text(), json);
 }
 
+/// Twelve units in one minute: two windows of draw 6 and twelve of draw 1, all of
+/// worth 1. The plan takes the first two. The price of the minute goes up by 1 a
+/// round, in sixteenths, and at 3 the first two pay all that they are worth.
+#[test]
+fn the_hall_by_prices() {
+    let folder = Folder::new("worked_hall_prices");
+    let mut csv = String::from("vehicle,draw,start,length,worth\n1,6,500,1,1\n2,6,500,1,1\n");
+    for vehicle in 3..=14 {
+        csv += &format!("{vehicle},1,500,1,1\n");
+    }
+    let (hall, map) = (folder.path("hall"), folder.path("map"));
+    let words = ["hall-sheet", "-", "--units", "12", "-o", &hall];
+    run_on(&words, csv.as_bytes()).well();
+    let free = run(&["charge-limit", &hall, "--free"]).well();
+    assert_eq!((free.text(), free.err.as_str()), ("limit 14\n", ""));
+    let prices = folder.path("prices");
+    let words = ["charge-refine", &hall, "-o", &map, "--prices", &prices];
+    let ran = run(&[&words[..], &["--rounds", "2"]].concat()).well();
+    let answer = "worth 2 limit 14 rounds 2\n2 of 14 windows chosen: 0 1\n";
+    assert_eq!(ran.text(), answer);
+    assert_eq!(fs::read(&map).unwrap(), [0x03, 0x00]);
+    let ran = run(&[&words[..], &["--rounds", "3"]].concat()).well();
+    assert!(ran
+        .text()
+        .starts_with("worth 12 limit 14 rounds 3\n12 of 14 windows chosen: 2 3 "));
+    assert_eq!(fs::read(&map).unwrap(), [0xFC, 0x3F]);
+    assert_eq!(fs::read_to_string(&prices).unwrap(), "0\n".repeat(960));
+    // with a price of 16 the limit is 12 units, and the set is proved to be the best
+    let list = "0 ".repeat(500) + "16" + &" 0".repeat(459);
+    for answer in [
+        run_on(&["charge-limit", &hall, "-"], list.as_bytes()).well(),
+        run(&["charge-limit", &hall, &folder.put("prices", &list)]).well(),
+    ] {
+        assert_eq!(answer.text(), "limit 12\n");
+    }
+    let svg = run(&["picture", &hall, &map, "--prices", &prices]).well();
+    let sums = "worth 12, at most 12 of 12 units drawn, limit 12";
+    assert_eq!(svg.err, format!("{sums}\n"));
+    assert!(svg.text().contains(&format!(">{sums}<")));
+    let svg = run(&["picture", &hall, &map, "--rounds", "1", "--json"]).well();
+    assert!(
+        svg.err.contains("\"units\":12,\"limit\":14,"),
+        "{}",
+        svg.err
+    );
+    // one window: nothing is better
+    let one = "vehicle,draw,start,length,worth\n1,1,0,60,9\n";
+    let one = run_on(&["hall-sheet", "-"], one.as_bytes()).well().out;
+    let ran = run_on(&["charge-refine", "-", "--json"], &one).well();
+    let json = "{\"worth\":9,\"limit\":9,\"rounds\":0,\"windows\":1,\"chosen\":[0],\"prices\":[0,";
+    assert!(ran.err.starts_with(json), "{}", ran.err);
+    let ran = run_on(&["charge-refine", "-"], &one).well();
+    let answer = "worth 9 limit 9 rounds 0\nno choice earns more\n1 of 1 windows chosen: 0\n";
+    assert_eq!(ran.err, answer);
+}
+
 /// A run of each command. A word that begins with @ is a file of the folder; the
-/// last eight make nothing but their answer.
-const RUNS: [&str; 20] = [
+/// last nine make nothing but their answer.
+const RUNS: [&str; 22] = [
     "sheet @shift.csv",
     "hall-sheet @hall.csv",
     "draw --seed=7 --groomers=4 --slopes=9 --turns=20",
@@ -279,6 +335,7 @@ const RUNS: [&str; 20] = [
     "keep @shift.sheet",
     "restore @shift.kept",
     "charge @hall.sheet",
+    "charge-refine @hall.sheet --prices @prices",
     "picture @shift.sheet @shift.board",
     "picture @hall.sheet @hall.map",
     "show @shift.sheet",
@@ -288,6 +345,7 @@ const RUNS: [&str; 20] = [
     "list @shift.sheet",
     "assign @shift.sheet",
     "limit @shift.sheet --free",
+    "charge-limit @hall.sheet --free",
     "play @shift.sheet @shift.board",
 ];
 
@@ -301,7 +359,7 @@ fn every_command_has_json() {
     folder.put("shift.kept", bytes(KEPT));
     folder.put("single.sheet", bytes("47524D01010001 1F01010000003C0064"));
     for (place, words) in RUNS.iter().enumerate() {
-        let options = if place < 12 {
+        let options = if place < 13 {
             " --json -o @out"
         } else {
             " --json"

@@ -130,11 +130,12 @@ fn need(found: &BTreeMap<String, Function>, name: &str) -> usize {
 }
 
 /// Bytes of the arguments that the caller puts on the stack, since six go into
-/// registers: playing has eight; refining has seven, and a place for its answer,
-/// which is too long for registers.
+/// registers: playing has eight; refining has seven, and a place for its answer
+/// where that is too long for registers.
 fn arguments(name: &str) -> usize {
     match name {
         "slopeboard_play" | "slopeboard_refine" => 16,
+        "slopeboard_charge_refine" => 8,
         _ => 0,
     }
 }

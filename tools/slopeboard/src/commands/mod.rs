@@ -30,7 +30,7 @@ pub struct Command {
 }
 
 /// All commands, as the help lists them.
-pub const COMMANDS: [&Command; 17] = [
+pub const COMMANDS: [&Command; 19] = [
     &make::SHEET,
     &make::HALL_SHEET,
     &make::DRAW,
@@ -47,6 +47,8 @@ pub const COMMANDS: [&Command; 17] = [
     &make::KEEP,
     &make::RESTORE,
     &search::CHARGE,
+    &priced::CHARGE_LIMIT,
+    &priced::CHARGE_REFINE,
     &paint::PICTURE,
 ];
 

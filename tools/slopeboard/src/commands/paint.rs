@@ -1,7 +1,7 @@
 //! The command that makes pictures.
 
 use super::plan::{passes, planned};
-use super::priced::{limit_by, refined};
+use super::priced::{charge_limit_by, charge_refined, limit_by, refined};
 use super::{from, read_sheet, Command, FROM};
 use crate::args::{Args, Opt};
 use crate::failure::Failure;
@@ -38,7 +38,8 @@ under it, too, or with --rounds the one that 'refine' prints.
 
 Or takes a charging sheet and the choice map that 'charge' writes. The picture
 then has the units drawn in each minute against those that there are, and the
-windows.
+windows; with --prices or --rounds also the limit that 'charge-limit' or
+'charge-refine' prints.
 
 In place of a board there may be a choice map that 'best' or 'improve' writes. A
 choice map is taken as it is: whether its turns or windows go together is not
@@ -54,13 +55,14 @@ fn picture(args: &Args) -> Result<Outcome, Failure> {
     let first = files::read(args.file(0))?;
     let second = files::read(args.file(1))?;
     if first.bytes.starts_with(b"GRE") {
-        if args.has("--prices") || args.has("--rounds") {
-            return Err(args.wrong("--prices and --rounds are not for a hall"));
-        }
-        return hall_picture(&first, &second, from);
+        return hall_picture(args, &first, &second, from);
     }
     let sheet = read_sheet(&first)?;
-    let limit = limit(args, &first, &sheet)?;
+    let limit = limit(
+        args,
+        |file| limit_by(&first, &sheet, file),
+        |rounds| Ok(refined(&first, &sheet, rounds)?.0.limit),
+    )?;
     // a board is longer than the choice map of as many turns
     if second.bytes.len() == slopeboard::map_bytes(sheet.turns.len()) {
         return map_picture(&first, &sheet, &second, limit, from);
@@ -78,12 +80,16 @@ fn picture(args: &Args) -> Result<Outcome, Failure> {
     Ok(painted(svg, line, fields, &chosen))
 }
 
-/// The limit of the sheet, if it is asked for.
-fn limit(args: &Args, input: &Input, sheet: &Sheet) -> Result<Option<u32>, Failure> {
+/// The limit, if it is asked for: by a file of prices, or by rounds.
+fn limit(
+    args: &Args,
+    by_prices: impl Fn(&Input) -> Result<u32, Failure>,
+    by_rounds: impl Fn(u32) -> Result<u32, Failure>,
+) -> Result<Option<u32>, Failure> {
     match (args.value("--prices"), args.rounds()?) {
         (None, None) => Ok(None),
-        (Some(name), None) => limit_by(input, sheet, &files::read(name)?).map(Some),
-        (None, Some(rounds)) => Ok(Some(refined(input, sheet, rounds)?.0.limit)),
+        (Some(name), None) => by_prices(&files::read(name)?).map(Some),
+        (None, Some(rounds)) => by_rounds(rounds).map(Some),
         _ => Err(args.wrong("--prices or --rounds, not both")),
     }
 }
@@ -132,22 +138,39 @@ fn map_picture(
     Ok(painted(svg, line, fields, &chosen))
 }
 
-fn hall_picture(sheet: &Input, map: &Input, from: Option<u64>) -> Result<Outcome, Failure> {
+fn hall_picture(
+    args: &Args,
+    sheet: &Input,
+    map: &Input,
+    from: Option<u64>,
+) -> Result<Outcome, Failure> {
     let hall = hall::read(sheet)?;
-    let chosen = board::read_map(map, hall.windows.len())?;
+    let count = hall.windows.len();
+    let limit = limit(
+        args,
+        |file| charge_limit_by(sheet, file),
+        |rounds| Ok(charge_refined(sheet, count, rounds)?.0.limit),
+    )?;
+    let chosen = board::read_map(map, count)?;
     let (worth, peak) = picture::hall_sums(&hall, &chosen);
-    let fields = vec![
+    let mut fields = vec![
         ("worth", worth.into()),
         ("drawn", peak.into()),
         ("units", hall.units.into()),
     ];
-    let line = format!("{}\n", picture::hall_line(&hall, &chosen));
-    Ok(painted(
-        picture::hall(&hall, &chosen, from),
-        line,
-        fields,
-        &chosen,
-    ))
+    fields.extend(limit.map(|limit| ("limit", limit.into())));
+    let line = match limit {
+        Some(limit) => format!("{}, limit {limit}\n", picture::hall_line(&hall, &chosen)),
+        None => format!("{}\n", picture::hall_line(&hall, &chosen)),
+    };
+    let mut captions = vec![line.trim_end()];
+    if limit.is_some() {
+        captions.push(
+            "No choice of windows that is allowed is worth more than the limit. Whether this one is allowed is not checked.",
+        );
+    }
+    let svg = picture::hall(&hall, &chosen, &captions, from);
+    Ok(painted(svg, line, fields, &chosen))
 }
 
 /// A picture as the product; to the answer belongs what is chosen.

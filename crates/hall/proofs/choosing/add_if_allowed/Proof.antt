@@ -6,8 +6,8 @@ use Rattle.hall.proofs.choosing.add_if_allowed.Tie as tie
 row-at-requires : tie.Need-row-at-requires
 row-at-requires c κs = search needs
 
-fits-among-requires : tie.Need-fits-among-requires
-fits-among-requires c κs = search (needs, allowed-cases)
+is-allowed-requires : tie.Need-is-allowed-requires
+is-allowed-requires c κs = search (needs, allowed-cases)
 
 set-bit-requires : tie.Need-set-bit-requires
 set-bit-requires c κs = search needs
@@ -29,7 +29,7 @@ add-if-allowed-spec =
     tie.close
     (tie.spec
     row-at-requires
-    fits-among-requires
+    is-allowed-requires
     set-bit-requires
     use-row-requires
     same-length

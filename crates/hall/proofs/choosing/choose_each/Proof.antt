@@ -1,3 +1,4 @@
+-- Invariant: the map has what choosing from the list's last number down to number left makes, and the supply says what it uses. Measure: the numbers left.
 use Rattle.model.specs.Choice.{chooseEach}
 use Rattle.choicemap.specs.Choice.{choiceIn, Clean}
 use Rattle.chooser.proofs.Fitting.{turn-inside}
@@ -36,8 +37,8 @@ shared-slice-read-j c = search needs
 cast-j : tie.Need-cast-j Inv-loop μ-loop
 cast-j c = omega (arith, c .shared-slice-known2 .given (c .before .before .loop .left - 1))
 
-add-if-allowed-requires : tie.Need-add-if-allowed-requires Inv-loop μ-loop
-add-if-allowed-requires c κs = search (needs, turn-inside)
+add-of-kind-requires : tie.Need-add-of-kind-requires Inv-loop μ-loop
+add-of-kind-requires c κs = search (needs, turn-inside)
 
 loop-less : tie.Need-loop-less Inv-loop μ-loop
 loop-less c = search needs
@@ -62,7 +63,7 @@ choose-each-spec =
     mul-j
     shared-slice-read-j
     cast-j
-    add-if-allowed-requires
+    add-of-kind-requires
     loop-less
     loop-again
     same-length

@@ -1,0 +1,10 @@
+pub mod HallLimits
+pub mod LastCause
+pub mod LimitCauses
+pub mod Promised
+pub mod Chosen
+pub mod RefineCauses
+pub mod HallRounds
+pub mod Refined
+pub mod Fronts
+pub mod Worked

@@ -1,0 +1,163 @@
+-- What the rounds' entry promises, where it refuses nothing. Assumes nothing.
+use Prim.Native.Nat.{ℕ, _≤_, _<_}
+use mathlib.Core.Path.{_≡_, sym, ap, _∙_}
+use mathlib.Core.Logic.{_≢_}
+use mathlib.Core.Bool.{false}
+use mathlib.Core.List.{List}
+use native.Mathlib.Omega.{arith}
+use lib.Dec.{ltb}
+use lib.ListN.{length, drop}
+use lib.Seq.{take-at, drop-at}
+use borrow.Author.Tests.{le-ltb}
+use Rattle.refusal.specs.Number.{bufferTooSmall}
+use Rattle.refusal.specs.Cause.{_when_, firstOf}
+use Rattle.turns.specs.Turn.{shiftMinutes}
+use Rattle.sheet.specs.Read.{countsIn, turnCount, causesFor, atFront}
+use Rattle.choicemap.specs.Choice.{mapBytes, mapOf, choiceIn}
+use Rattle.choicemap.proofs.Clean.{map-length, map-choice}
+use Rattle.hallmodel.specs.Hall.{Hall, Allowed}
+use Rattle.hallmodel.specs.Plan.{hallWorth}
+use Rattle.hallmodel.specs.Promises.{worthOfWindows}
+use Rattle.price_spec.specs.Limit.{limitIs}
+use Rattle.hall.specs.Charge.{chargingSheet, hallOf, Charged, chargeCauses, chargeOf}
+use Rattle.hall.proofs.ChargeCauses.{charge-number, charge-answers}
+use Rattle.refine_spec.specs.Rounds.{Stage}
+use Rattle.hall_price_spec.specs.Hall.{hallRefined}
+use Rattle.hall_price_spec.specs.Limit.{sheetHallLimit, chargeLimitOf}
+use Rattle.hall_price_spec.specs.Refine.{ChargeRefinement, chargeRefineCauses, chargeRefinement, chargeRefineOf}
+use Rattle.hall_price_spec.specs.Promises.{refinedMap, refinedWindows, refinedMinutes, ChargeRefinePromised}
+use Rattle.hall_price_spec.proofs.LastCause.{clear-last}
+use Rattle.hall_price_spec.proofs.LimitCauses.{charge-limit-is}
+use Rattle.hall_price_spec.proofs.Promised.{window-count, vehicle-numbers}
+use Rattle.hall_price_spec.proofs.RefineCauses.{refine-clear, charge-refine-number, charge-refine-answers}
+use Rattle.hall_price_spec.proofs.HallRounds.{rounds-lists, rounds-limit, rounds-worth, rounds-choice, rounds-no-less, rounds-within, rounds-worth-within, rounds-further, rounds-made, rounds-end, rounds-not-before}
+
+-- what is lent behind the front stays
+front-rest : (text lent : List ℕ) (n : ℕ) → length text ≡ n → drop n (atFront text lent) ≡ drop n lent
+front-rest text lent n e = drop-at text (drop (length text) lent) n e ∙ ap (λ (k : ℕ). drop k lent) e
+
+-- the numbers returned are those of the last stage
+module _ (s : List ℕ) (rounds : ℕ) (map prices : List ℕ) (e : chargeRefineOf s rounds map prices .refusal ≡ 0) where
+  none-there : firstOf (chargeRefineCauses s (length map) (length prices)) ≡ 0
+  none-there = sym (charge-refine-number s rounds map prices) ∙ e
+
+  answer : chargeRefineOf s rounds map prices ≡ chargeRefinement (hallRefined (hallOf s) (countsIn s .slopes) rounds) map prices
+  answer = charge-refine-answers s rounds map prices none-there
+
+  worth-given : chargeRefineOf s rounds map prices .worth ≡ hallRefined (hallOf s) (countsIn s .slopes) rounds .worth
+  unfolding chargeRefinement
+  worth-given = ap (λ (x : ChargeRefinement). x .worth) answer
+
+  limit-given : chargeRefineOf s rounds map prices .limit ≡ hallRefined (hallOf s) (countsIn s .slopes) rounds .limit
+  unfolding chargeRefinement
+  limit-given = ap (λ (x : ChargeRefinement). x .limit) answer
+
+  rounds-given : chargeRefineOf s rounds map prices .rounds ≡ hallRefined (hallOf s) (countsIn s .slopes) rounds .rounds
+  unfolding chargeRefinement
+  rounds-given = ap (λ (x : ChargeRefinement). x .rounds) answer
+
+module _ (s : List ℕ) (rounds : ℕ) (map prices : List ℕ) (e : chargeRefineOf s rounds map prices .refusal ≡ 0) where
+  -- the sheet's hall, its vehicles, and the last stage
+  abbrev H : Hall
+  H = hallOf s
+
+  abbrev vehicles : ℕ
+  vehicles = countsIn s .slopes
+
+  abbrev after : Stage
+  after = hallRefined H vehicles rounds
+
+  clear : (firstOf (causesFor chargingSheet s) ≡ 0) × (mapBytes (turnCount s) ≤ length map) × (shiftMinutes ≤ length prices)
+  clear = refine-clear s (length map) (length prices) (none-there s rounds map prices e)
+
+  sound : firstOf (causesFor chargingSheet s) ≡ 0
+  sound = clear .0
+
+  -- the plan of the hall is not refused either
+  plan-worth : chargeOf s map .worth ≡ hallWorth H
+  unfolding chargeCauses
+  plan-worth =
+      let few : ltb (length map) (mapBytes (turnCount s)) ≡ false = le-ltb (length map) (mapBytes (turnCount s)) (clear .1) in
+      ap (λ (x : Charged). x .worth) (charge-answers s map (charge-number s map ∙ clear-last s (bufferTooSmall when ltb (length map) (mapBytes (turnCount s))) sound few))
+
+  -- ---- what is written
+
+  -- a bit for each window
+  bits : length (after .choice) ≡ turnCount s
+  bits = rounds-choice H vehicles rounds .1 ∙ window-count s sound
+
+  map-size : length (mapOf (after .choice)) ≡ mapBytes (turnCount s)
+  map-size = map-length (after .choice) ∙ ap mapBytes bits
+
+  map-front : refinedMap s rounds map prices ≡ mapOf (after .choice)
+  unfolding chargeRefinement
+  map-front = rw (answer s rounds map prices e) (take-at (mapOf (after .choice)) _ (mapBytes (turnCount s)) map-size)
+
+  windows-are : refinedWindows s rounds map prices ≡ after .choice
+  windows-are = ap (choiceIn (turnCount s)) map-front ∙ ap (λ (n : ℕ). choiceIn n (mapOf (after .choice))) (sym bits) ∙ map-choice (after .choice)
+
+  minutes-are : refinedMinutes s rounds map prices ≡ after .list
+  unfolding chargeRefinement
+  minutes-are = rw (answer s rounds map prices e) (take-at (after .list) _ shiftMinutes (rounds-lists H vehicles rounds .1 .minutes))
+
+  map-behind : drop (mapBytes (turnCount s)) (chargeRefineOf s rounds map prices .map) ≡ drop (mapBytes (turnCount s)) map
+  unfolding chargeRefinement
+  map-behind = rw (answer s rounds map prices e) (front-rest (mapOf (after .choice)) map (mapBytes (turnCount s)) map-size)
+
+  prices-behind : drop shiftMinutes (chargeRefineOf s rounds map prices .prices) ≡ drop shiftMinutes prices
+  unfolding chargeRefinement
+  prices-behind = rw (answer s rounds map prices e) (front-rest (after .list) prices shiftMinutes (rounds-lists H vehicles rounds .1 .minutes))
+
+  -- ---- the limit
+
+  limit-written : chargeLimitOf s (refinedMinutes s rounds map prices) ≡ limitIs (chargeRefineOf s rounds map prices .limit)
+  unfolding sheetHallLimit
+  limit-written =
+      rw (minutes-are, limit-given s rounds map prices e, rounds-limit H vehicles rounds) (charge-limit-is s (after .list) sound (rounds-lists H vehicles rounds .1 .minutes))
+
+  all-within : (R : List ℕ) → Allowed H R → worthOfWindows H R ≤ chargeRefineOf s rounds map prices .limit
+  all-within R a = rw (limit-given s rounds map prices e) (rounds-within H vehicles rounds (vehicle-numbers s sound) R a)
+
+  -- ---- another call that refuses nothing, of the same sheet
+
+  module _ (k : ℕ) (map′ prices′ : List ℕ) where
+    more-earned : rounds ≤ k → chargeRefineOf s k map′ prices′ .refusal ≡ 0 → chargeRefineOf s rounds map prices .worth ≤ chargeRefineOf s k map′ prices′ .worth
+    more-earned h o = omega (arith, rounds-further H vehicles rounds k h .0, worth-given s rounds map prices e, worth-given s k map′ prices′ o)
+
+    more-limited : rounds ≤ k → chargeRefineOf s k map′ prices′ .refusal ≡ 0 → chargeRefineOf s k map′ prices′ .limit ≤ chargeRefineOf s rounds map prices .limit
+    more-limited h o = omega (arith, rounds-further H vehicles rounds k h .1, limit-given s rounds map prices e, limit-given s k map′ prices′ o)
+
+    none-before : k < chargeRefineOf s rounds map prices .rounds → chargeRefineOf s k map′ prices′ .refusal ≡ 0 → chargeRefineOf s k map′ prices′ .limit ≢ chargeRefineOf s k map′ prices′ .worth
+    none-before h o q =
+        rounds-not-before H vehicles rounds k (omega (arith, rounds-given s rounds map prices e)) (sym (limit-given s k map′ prices′ o) ∙ (q ∙ worth-given s k map′ prices′ o))
+
+  same-given : (map′ prices′ : List ℕ) → chargeRefineOf s rounds map′ prices′ .refusal ≡ 0 →
+      (chargeRefineOf s rounds map′ prices′ .worth ≡ chargeRefineOf s rounds map prices .worth) × (chargeRefineOf s rounds map′ prices′ .limit ≡ chargeRefineOf s rounds map prices .limit)
+      × (chargeRefineOf s rounds map′ prices′ .rounds ≡ chargeRefineOf s rounds map prices .rounds)
+  same-given map′ prices′ o = (
+    worth-given s rounds map′ prices′ o ∙ sym (worth-given s rounds map prices e),
+    limit-given s rounds map′ prices′ o ∙ sym (limit-given s rounds map prices e),
+    rounds-given s rounds map′ prices′ o ∙ sym (rounds-given s rounds map prices e),
+  )
+
+  -- every answer that refuses nothing
+  pub charge-refine-promised : ChargeRefinePromised s rounds map prices
+  charge-refine-promised =
+      record {
+        allowed = rw windows-are (rounds-choice H vehicles rounds .0);
+        map-is = map-front ∙ ap mapOf (sym windows-are);
+        worth-is = rw (windows-are, worth-given s rounds map prices e) (sym (rounds-worth H vehicles rounds));
+        no-less = rw (plan-worth, worth-given s rounds map prices e) (rounds-no-less H vehicles rounds);
+        limit-is = limit-written;
+        within = all-within;
+        worth-within = rw (worth-given s rounds map prices e, limit-given s rounds map prices e) (rounds-worth-within H vehicles rounds (vehicle-numbers s sound));
+        best = λ q R a. rw (windows-are, ← rounds-worth H vehicles rounds, ← worth-given s rounds map prices e, ← q) (all-within R a);
+        more-worth = more-earned;
+        more-limit = more-limited;
+        places-apart = same-given;
+        made = rw (rounds-given s rounds map prices e) (rounds-made H vehicles rounds);
+        ended = rw (rounds-given s rounds map prices e, limit-given s rounds map prices e, worth-given s rounds map prices e) (rounds-end H vehicles rounds);
+        not-before = none-before;
+        map-rest = map-behind;
+        prices-rest = prices-behind;
+      }

@@ -1,0 +1,7 @@
+pub mod Prices
+pub mod Limit
+pub mod Hall
+pub mod Refine
+pub mod Answer
+pub mod Promises
+pub mod Cases

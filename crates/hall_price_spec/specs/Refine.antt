@@ -1,0 +1,55 @@
+-- The hall by rounds as an entry: any bytes as a charging sheet, any number of rounds, lent bytes for the choice map and lent numbers for the price list (request P-3). Assumes nothing.
+use Prim.Native.Nat.{ℕ, _<_}
+use mathlib.Core.Bool.{cond, _||_}
+use mathlib.Core.List.{List, [], _∷_, _++_}
+use lib.ListN.{length}
+use lib.Dec.{ltb, eqb}
+use Rattle.refusal.specs.Number.{bufferTooSmall}
+use Rattle.refusal.specs.Cause.{Cause, _when_, firstOf, FirstAmong}
+use Rattle.turns.specs.Turn.{shiftMinutes}
+use Rattle.sheet.specs.Read.{countsIn, turnCount, causesFor, atFront}
+use Rattle.sheet.specs.Accepted.{CauseFor, placeOf}
+use Rattle.choicemap.specs.Choice.{mapBytes, mapOf}
+use Rattle.hall.specs.Charge.{chargingSheet, hallOf}
+use Rattle.refine_spec.specs.Rounds.{Stage}
+use Rattle.hall_price_spec.specs.Hall.{hallRefined}
+
+-- after the sheet's causes: too few lent bytes for the map, or fewer lent numbers than minutes
+unfoldable pub chargeRefineCauses : List ℕ → ℕ → ℕ → List Cause
+chargeRefineCauses s bytes numbers = causesFor chargingSheet s ++ bufferTooSmall when (ltb bytes (mapBytes (turnCount s)) || ltb numbers shiftMinutes) ∷ []
+
+-- the refusal, 0 if none; else what the set is worth, the lowest limit and how many rounds were made; and what the lent bytes and the lent numbers hold then
+pub record ChargeRefinement : Type 0 where
+  pub refusal : ℕ
+  pub worth : ℕ
+  pub limit : ℕ
+  pub rounds : ℕ
+  pub map : List ℕ
+  pub prices : List ℕ
+
+-- what the rounds came to, written and returned
+unfoldable pub chargeRefinement : Stage → List ℕ → List ℕ → ChargeRefinement
+chargeRefinement x map prices =
+    record { refusal = 0; worth = x .worth; limit = x .limit; rounds = x .rounds; map = atFront (mapOf (x .choice)) map; prices = atFront (x .list) prices }
+
+-- a refusal, and all that is lent as before
+abbrev pub notChargeRefined : ℕ → List ℕ → List ℕ → ChargeRefinement
+notChargeRefined k map prices = record { refusal = k; worth = 0; limit = 0; rounds = 0; map = map; prices = prices }
+
+-- for a charging sheet, unless a cause is there
+unfoldable pub chargeRefineOf : List ℕ → ℕ → List ℕ → List ℕ → ChargeRefinement
+chargeRefineOf s rounds map prices =
+    let f = firstOf (chargeRefineCauses s (length map) (length prices)) in
+    cond (eqb f 0) (chargeRefinement (hallRefined (hallOf s) (countsIn s .slopes) rounds) map prices) (notChargeRefined f map prices)
+
+-- ---- as statements
+
+-- a cause to refuse is there: its number, and its place in the order
+pub data ChargeRefineCause (s : List ℕ) (bytes numbers : ℕ) : ℕ → ℕ → Type 0 where
+  of-sheet : {k r : ℕ} → CauseFor chargingSheet s k r → ChargeRefineCause s bytes numbers k r
+  few-bytes : bytes < mapBytes (turnCount s) → ChargeRefineCause s bytes numbers bufferTooSmall (placeOf (turnCount s) 1)
+  few-prices : numbers < shiftMinutes → ChargeRefineCause s bytes numbers bufferTooSmall (placeOf (turnCount s) 1)
+
+-- the first of them has number k
+abbrev pub FirstChargeRefineCause : List ℕ → ℕ → ℕ → ℕ → Type 0
+FirstChargeRefineCause s bytes numbers k = FirstAmong (ChargeRefineCause s bytes numbers) k

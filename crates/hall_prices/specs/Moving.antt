@@ -1,0 +1,46 @@
+-- How the functions hold a relaxed set and what it draws at each minute; for inner functions only (request P-3). Assumes nothing.
+use mathlib.Core.Path.{_≡_}
+use mathlib.Core.Bool.{Bool}
+use mathlib.Core.List.{List}
+use Prim.Native.Nat.{ℕ, zero, suc, _+_, _*_, _≤_, _<_}
+use lib.ListN.{length, getD}
+use Rattle.lists.specs.Lists.{tab}
+use Rattle.turns.specs.Turn.{shiftMinutes}
+use Rattle.sheet.specs.Kind.{mostTurns}
+use Rattle.choicemap.specs.Choice.{withTurn}
+use Rattle.hallmodel.specs.Hall.{mostUnits, Hall, drawnAt}
+use Rattle.hall_price_spec.specs.Prices.{minutePrice}
+use Rattle.hall_price_spec.specs.Hall.{movedMinute}
+
+-- the greatest change of a round: an eighth of the greatest worth
+abbrev pub mostMinuteChange : ℕ
+mostMinuteChange = 7500
+
+-- the most that windows draw at a minute: all of them, and all units each
+abbrev pub mostDrawn : ℕ
+mostDrawn = mostTurns * mostUnits
+
+-- a map with the window before a number set too, as before for 0
+unfoldable pub withBefore : ℕ → List ℕ → List ℕ
+withBefore zero map = map
+withBefore (suc t) map = withTurn map t
+
+-- all prices after a round, where so many units are there and a list has what is drawn at each minute
+unfoldable pub movedWith : ℕ → ℕ → List ℕ → List ℕ → List ℕ
+movedWith units change drawn prices = tab shiftMinutes (λ m. movedMinute change units (getD drawn m 0) (minutePrice prices m))
+
+-- ---- as statements
+
+-- at no minute more is drawn than windows can draw
+unfoldable pub FewDrawn : List ℕ → Type 0
+FewDrawn drawn = (m : ℕ) → m < shiftMinutes → getD drawn m 0 ≤ mostDrawn
+
+-- at each minute one window more can draw
+unfoldable pub RoomForMore : List ℕ → Type 0
+RoomForMore drawn = (m : ℕ) → m < shiftMinutes → getD drawn m 0 + mostUnits ≤ mostDrawn
+
+-- what a set draws at each minute
+pub record DrawnBy (H : Hall) (S : List Bool) (drawn : List ℕ) : Type 0 where
+  pub places : length drawn ≡ shiftMinutes
+  pub values : (m : ℕ) → m < shiftMinutes → getD drawn m 0 ≡ drawnAt H S m
+  pub few : FewDrawn drawn

@@ -1,0 +1,50 @@
+// The hall's limit at given prices.
+ghost use mathlib.Core.Path.{_≡_};
+ghost use Rattle.price_spec.specs.Limit.{limitRefused};
+ghost use Rattle.hall_price_spec.specs.Limit.{chargeLimitOf};
+use super::HallSize;
+use super::looking::VEHICLES;
+use super::looking::look;
+use super::sums::MINUTES;
+use price_spec::LimitAnswer;
+use problem::PLACES;
+use problem::Size;
+
+fn refused(k: u8) -> LimitAnswer
+    ensures { λ r. ⌜ r ≡ limitRefused k ⌝ }
+{
+    LimitAnswer {
+        refusal: k,
+        limit: 0,
+    }
+}
+
+// The limit of any bytes as a charging sheet and any numbers as a price list.
+pub fn charge_limit(s: &[u8], prices: &[u16]) -> LimitAnswer
+    ensures { λ r. ⌜ r ≡ chargeLimitOf (now (s .entry)) (now (prices .entry)) ⌝ }
+{
+    let mut cols = [0u16; PLACES];
+    let mut room = [0u16; PLACES];
+    let r = problem::load_as(hall::charging_sheet(), s, &mut cols, &mut room);
+    let fault = r.refusal;
+    if fault != 0 {
+        return refused(fault);
+    }
+    if prices.len() != MINUTES {
+        return refused(refusal::BAD_PRICES);
+    }
+    let h = HallSize {
+        units: r.groomers,
+        vehicles: r.slopes,
+        size: Size {
+            count: r.turns as usize,
+            gap: hall::HALL_GAP,
+        },
+    };
+    let mut most = [0u16; VEHICLES];
+    let mut taken = [0u16; VEHICLES];
+    LimitAnswer {
+        refusal: 0,
+        limit: look(h, &cols, prices, &mut most, &mut taken),
+    }
+}

@@ -1,0 +1,42 @@
+// The relaxed set as a choice map: the windows that the vehicles take.
+ghost use mathlib.Core.Path.{_≡_};
+ghost use mathlib.Core.Bool.{false};
+ghost use Prim.Native.Nat.{_*_, _≤_};
+ghost use lib.ListN.{length, replicate};
+ghost use Rattle.choicemap.specs.Choice.{choiceIn, Clean};
+ghost use Rattle.hall_price_spec.specs.Prices.{hallRelaxed};
+ghost use Rattle.hall_prices.specs.Held.{hallFor, HallPosed, TakenBy};
+ghost use Rattle.hall_prices.specs.Moving.{withBefore};
+use super::HallSize;
+use super::looking::VEHICLES;
+use problem::PLACES;
+
+// Sets the bit of the window before a number, of none before 0.
+fn put_before(number: u16, map: &mut [u8])
+    requires { ⌜ number ≤ 8 * length (now map) ⌝ }
+    ensures { λ _. ⌜ now (map .exit) ≡ withBefore number (now (map .entry)) ⌝ }
+{
+    if number != 0 {
+        choicemap::set_bit(map, (number - 1) as usize);
+    }
+}
+
+// Sets the bits of the windows that the vehicles take, where none is set before.
+pub fn put_relaxed(
+    h: HallSize,
+    cols: &[u16; PLACES],
+    prices: &[u16],
+    taken: &[u16; VEHICLES],
+    map: &mut [u8],
+)
+    requires { ⌜ HallPosed h (now cols) × TakenBy (hallFor h (now cols)) (now prices) (now taken) ⌝ }
+    requires { ⌜ Clean (h .size .count) (now map) × (choiceIn (h .size .count) (now map) ≡ replicate (h .size .count) false) ⌝ }
+    ensures { λ _. ⌜ Clean (h .size .count) (now (map .exit)) ⌝ }
+    ensures { λ _. ⌜ choiceIn (h .size .count) (now (map .exit)) ≡ hallRelaxed (hallFor h (now (cols .entry))) (now (prices .entry)) ⌝ }
+{
+    let mut v = 0;
+    while v < VEHICLES {
+        put_before(taken[v], &mut *map);
+        v += 1;
+    }
+}

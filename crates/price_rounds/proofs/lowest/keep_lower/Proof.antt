@@ -1,0 +1,24 @@
+use Prim.Native.Nat.{_≤_}
+use native.Mathlib.Omega.{arith}
+use Rattle.price_rounds.proofs.LowerCases.{lower-not, lower-is, list-stays, list-put}
+use borrow.Author.Needs.{needs}
+use Rattle.price_rounds.proofs.lowest.keep_lower.Statement.{statement}
+use Rattle.price_rounds.proofs.lowest.keep_lower.Tie as tie
+
+returns : tie.Need-returns
+returns c =
+    let start = c .before .before .before in
+    let h : start .args .limit ≤ start .args .seen = omega arith in
+    (lower-not _ _ h, list-stays _ _ _ _ h)
+
+copy-numbers-requires : tie.Need-copy-numbers-requires
+copy-numbers-requires c κs = search needs
+
+same-length : tie.Need-same-length
+same-length c = search needs
+
+returns-2 : tie.Need-returns-2
+returns-2 c = (search lower-is, search list-put)
+
+pub keep-lower-spec : {M : Type 1} → statement M
+keep-lower-spec = tie.close (tie.spec returns copy-numbers-requires same-length returns-2)
