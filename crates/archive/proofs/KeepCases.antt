@@ -9,21 +9,21 @@ use lib.Seq.{drop-length, length-take-le}
 use borrow.Author.Tests.{ltb-false}
 use Rattle.refusal.specs.Number.{truncated, badMap, bufferTooSmall, trailingBytes}
 use Rattle.refusal.specs.Cause.{_when_, firstOf}
-use Rattle.refusal.specs.Written.{Written}
+use Rattle.refusal.specs.Written.{Written, atFront}
 use Rattle.refusal.proofs.Order.{clear-cons, clear-append}
 use Rattle.refusal.proofs.Written.{kept-before, kept-small, wrote-enough}
 use Rattle.wire.specs.Number.{bytesAt, puts}
 use Rattle.wire.specs.Mark.{keptMark}
 use Rattle.wire.proofs.Puts.{puts-front, puts-append}
-use Rattle.turns.specs.declared.Turn.{Turn}
-use Rattle.turns.specs.declared.Counts.{Counts}
-use Rattle.turns.specs.Turn.{rowNumbers, rows, turnsOfTable, tableRows}
-use Rattle.turns.proofs.Rows.{rows-length, turns-rows}
+use Rattle.turn.specs.declared.Turn.{Turn}
+use Rattle.turn.specs.declared.Counts.{Counts}
+use Rattle.turn.specs.Turn.{rowNumbers, rows, turnsOfTable, tableRows}
+use Rattle.turn.proofs.Rows.{rows-length, turns-rows}
 use Rattle.sheet.specs.declared.answer.ReadAnswer.{ReadAnswer}
 use Rattle.sheet.specs.declared.record.Cursor.{Cursor}
 use Rattle.sheet.specs.Kind.{garage, mostTurns}
 use Rattle.sheet.specs.Record.{widthOf, badMapFor, mapAt, endAt, cursorAfter, firstCursor, recordBytes, recordCauses}
-use Rattle.sheet.specs.Read.{headerBytes, countsIn, turnCount, turnsOf, tableOf, headerCauses, recordsCauses, causesFor, sheetCauses, answerOf, atFront}
+use Rattle.sheet.specs.Read.{headerBytes, countsIn, turnCount, turnsOf, tableOf, headerCauses, recordsCauses, causesFor, sheetCauses, answerOf}
 use Rattle.sheet.proofs.SoundKinds.{garage-sound}
 use Rattle.sheet.proofs.Headers.{header-numbered, header-fine}
 use Rattle.sheet.proofs.Scans.{record-numbered}
@@ -31,12 +31,12 @@ use Rattle.sheet.proofs.Readings.{sheet-numbered}
 use Rattle.sheet.proofs.Tables.{turns-length}
 use Rattle.sheet.proofs.Whole.{whole-refusal, whole-accepted, whole-turns, whole-table}
 use Rattle.sheet.proofs.Prefix.{sheet-short}
-use Rattle.writer.specs.declared.WriteAnswer.{WriteAnswer}
-use Rattle.writer.specs.Answer.{written}
-use Rattle.columns.specs.Column.{widths, columnsOf}
-use Rattle.archive.specs.Kept.{formWith, columnsBody, mapsFrom, sheetMaps, keptOf}
-use Rattle.archive.specs.Archive.{keepCauses, keepOf}
-use Rattle.archive.proofs.Bodies.{columns-length}
+use Rattle.write_spec.specs.declared.WriteAnswer.{WriteAnswer}
+use Rattle.write_spec.specs.Answer.{written}
+use Rattle.archive_spec.specs.Column.{widths, columnsOf}
+use Rattle.archive_spec.specs.Kept.{formWith, columnsBody, mapsFrom, sheetMaps, keptOf}
+use Rattle.archive_spec.specs.Archive.{keepCauses, keepOf}
+use Rattle.archive_spec.proofs.Bodies.{columns-length}
 
 -- ---- the front
 

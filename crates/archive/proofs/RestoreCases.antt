@@ -17,10 +17,10 @@ use Rattle.refusal.proofs.Written.{kept-before, kept-small, wrote-enough}
 use Rattle.wire.specs.Number.{bytesAt, puts}
 use Rattle.wire.specs.Mark.{sheetMark, keptMark}
 use Rattle.wire.proofs.Puts.{puts-front, puts-append}
-use Rattle.turns.specs.declared.Turn.{Turn}
-use Rattle.turns.specs.declared.Counts.{Counts}
-use Rattle.turns.specs.Turn.{turnIn, turnsOfTable, Numbered}
-use Rattle.turns.proofs.Rows.{turns-step, table-turns-length}
+use Rattle.turn.specs.declared.Turn.{Turn}
+use Rattle.turn.specs.declared.Counts.{Counts}
+use Rattle.turn.specs.Turn.{turnIn, turnsOfTable, Numbered}
+use Rattle.turn.proofs.Rows.{turns-step, table-turns-length}
 use Rattle.sheet.specs.declared.kind.Kind.{Kind}
 use Rattle.sheet.specs.declared.kind.Maps.{Maps}
 use Rattle.sheet.specs.declared.header.Header.{Header}
@@ -32,15 +32,15 @@ use Rattle.sheet.specs.Layout.{recordOf}
 use Rattle.sheet.proofs.Headers.{header-numbered, header-few, header-fine}
 use Rattle.sheet.proofs.Readings.{header-found, header-refused}
 use Rattle.sheet.proofs.Fields.{width-most}
-use Rattle.writer.specs.declared.WriteAnswer.{WriteAnswer}
-use Rattle.writing.specs.Write.{turnsCauses}
-use Rattle.writer.specs.Answer.{written}
-use Rattle.writer.specs.Over.{Over}
-use Rattle.columns.specs.Column.{widths, columnsIn, turnsAcross}
-use Rattle.archive.specs.Kept.{formWith, recordsBody, archive, keptMaps, columnsAt, keptEnd, keptTurns, restoredOf}
-use Rattle.archive.specs.Archive.{mapsCauses, formCauses, keptCauses, restoreCauses, restoreOf}
-use Rattle.archive.proofs.Bodies.{maps-numbered, records-length}
-use Rattle.archive.proofs.Accepting.{archive-sound, form-numbered, kept-numbered, FineForm, form-fine, maps-count, turns-long}
+use Rattle.write_spec.specs.declared.WriteAnswer.{WriteAnswer}
+use Rattle.write_spec.specs.Write.{turnsCauses}
+use Rattle.write_spec.specs.Answer.{written}
+use Rattle.write.specs.Over.{Over}
+use Rattle.archive_spec.specs.Column.{widths, columnsIn, turnsAcross}
+use Rattle.archive_spec.specs.Kept.{formWith, recordsBody, archive, keptMaps, columnsAt, keptEnd, keptTurns, restoredOf}
+use Rattle.archive_spec.specs.Archive.{mapsCauses, formCauses, keptCauses, restoreCauses, restoreOf}
+use Rattle.archive_spec.proofs.Bodies.{maps-numbered, records-length}
+use Rattle.archive_spec.proofs.Accepting.{archive-sound, form-numbered, kept-numbered, FineForm, form-fine, maps-count, turns-long}
 
 -- ---- the kind and the maps' part
 

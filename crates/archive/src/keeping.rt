@@ -3,20 +3,20 @@ ghost use mathlib.Core.Path.{_≡_};
 ghost use Prim.Native.Nat.{_+_, _*_, _≤_};
 ghost use lib.ListN.{length};
 ghost use Rattle.wire.specs.Number.{puts};
-ghost use Rattle.turns.specs.Turn.{rowNumbers};
+ghost use Rattle.turn.specs.Turn.{rowNumbers};
 ghost use Rattle.sheet.specs.Read.{headerBytes};
-ghost use Rattle.writer.specs.Answer.{written};
-ghost use Rattle.columns.specs.Column.{widths};
-ghost use Rattle.archive.specs.Kept.{formSize, mapsFrom, keptTable, keptFirst};
-ghost use Rattle.archive.specs.Archive.{keepOf};
+ghost use Rattle.write_spec.specs.Answer.{written};
+ghost use Rattle.archive_spec.specs.Column.{widths};
+ghost use Rattle.archive_spec.specs.Kept.{formSize, mapsFrom, keptTable, keptFirst};
+ghost use Rattle.archive_spec.specs.Archive.{keepOf};
 use super::form::put_front;
 use super::form::refused;
 use sheet::HEADER_BYTES;
 use sheet::MOST_TURNS;
 use sheet::TABLE_PLACES;
 use sheet::width;
-use turns::ROW_NUMBERS;
-use writer::WriteAnswer;
+use turn::ROW_NUMBERS;
+use write_spec::WriteAnswer;
 
 // The maps of a sheet's records, as many as there are places.
 fn fill_maps(s: &[u8], maps: &mut [u8])
@@ -41,7 +41,7 @@ fn put_kept(s: &[u8], maps: &[u8], table: &[u16], out: &mut [u8])
     put_front(&mut *out, wire::GRC, s);
     wire::put_bytes(&mut *out, HEADER_BYTES, maps);
     let at = HEADER_BYTES + maps.len();
-    columns::put_columns(&mut *out, at, maps, table);
+    archive_columns::put_columns(&mut *out, at, maps, table);
 }
 
 // The same with the sheet's own maps, for which places are lent.
@@ -60,7 +60,7 @@ pub fn keep(sheet: &[u8], kept: &mut [u8]) -> WriteAnswer
     ensures { λ r. ⌜ written r (now (kept .exit)) ≡ keepOf (now (sheet .entry)) (now (kept .entry)) ⌝ }
 {
     let mut table = [0u16; TABLE_PLACES];
-    let read = reader::read_table(sheet, &mut table);
+    let read = sheet_read::read_table(sheet, &mut table);
     if read.refusal != 0 {
         return refused(read.refusal);
     }

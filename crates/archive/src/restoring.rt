@@ -6,17 +6,17 @@ ghost use Prim.Native.Nat.{_+_, _*_, _≤_};
 ghost use lib.ListN.{length};
 ghost use Rattle.refusal.specs.Cause.{firstOf};
 ghost use Rattle.wire.specs.Number.{puts};
-ghost use Rattle.turns.specs.Turn.{rowNumbers};
+ghost use Rattle.turn.specs.Turn.{rowNumbers};
 ghost use Rattle.sheet.specs.Kind.{mostTurns, tablePlaces};
 ghost use Rattle.sheet.specs.Record.{widthOf, recordBytes};
 ghost use Rattle.sheet.specs.Read.{headerBytes, countsIn, turnCount};
 ghost use Rattle.sheet.specs.Layout.{recordOf};
-ghost use Rattle.writing.specs.Write.{turnsCauses};
-ghost use Rattle.writer.specs.Answer.{written};
-ghost use Rattle.writer.specs.Over.{Over};
-ghost use Rattle.columns.specs.Column.{widths, firstTurns};
-ghost use Rattle.archive.specs.Kept.{formSize, archive, keptMaps, columnsAt, keptTurns, tableRecords, restoredFirst};
-ghost use Rattle.archive.specs.Archive.{mapsCauses, formCauses, keptCauses, restoreOf};
+ghost use Rattle.write_spec.specs.Write.{turnsCauses};
+ghost use Rattle.write_spec.specs.Answer.{written};
+ghost use Rattle.write.specs.Over.{Over};
+ghost use Rattle.archive_spec.specs.Column.{widths, firstTurns};
+ghost use Rattle.archive_spec.specs.Kept.{formSize, archive, keptMaps, columnsAt, keptTurns, tableRecords, restoredFirst};
+ghost use Rattle.archive_spec.specs.Archive.{mapsCauses, formCauses, keptCauses, restoreOf};
 use super::form::put_front;
 use super::form::refused;
 use sheet::HEADER_BYTES;
@@ -25,15 +25,15 @@ use sheet::Kind;
 use sheet::Maps;
 use sheet::TABLE_PLACES;
 use sheet::width;
-use turns::Counts;
-use turns::Turn;
-use writer::WriteAnswer;
+use turn::Counts;
+use turn::Turn;
+use write_spec::WriteAnswer;
 
 // The garage's sheet with the mark of a kept form.
 fn archive() -> Kind
     ensures { λ r. ⌜ r ≡ archive ⌝ }
 {
-    let garage = reader::garage();
+    let garage = sheet_read::garage();
     let most = garage.most;
     let maps = garage.maps;
     let refusals = garage.refusals;
@@ -120,9 +120,9 @@ fn judge_form(kind: Kind, k: &[u8], n: u16, limits: Counts, table: &mut [u16]) -
         return fault;
     }
     let from = HEADER_BYTES + n as usize;
-    columns::read_columns(k, from, maps_of(k, n), &mut *table);
+    archive_columns::read_columns(k, from, maps_of(k, n), &mut *table);
     let refusals = kind.refusals;
-    writer::judge_turns(table, n, limits, refusals)
+    write::judge_turns(table, n, limits, refusals)
 }
 
 // The first thing wrong with any bytes as a kept form, or 0; the turns then stand in the table.
@@ -132,7 +132,7 @@ fn judge_kept(k: &[u8], table: &mut [u16]) -> u8
     ensures { λ r. ⌜ (r ≡ 0 → firstTurns (turnCount (now (k .entry))) (now (table .exit)) ≡ keptTurns (now (k .entry))) ⌝ }
 {
     let kind = archive();
-    let h = reader::read_header(kind, k);
+    let h = sheet_read::read_header(kind, k);
     match h {
         Header::Refused(fault) => fault,
         Header::Found(limits, n) => judge_form(kind, k, n, limits, &mut *table),
@@ -146,9 +146,9 @@ fn put_record(out: &mut [u8], at: usize, m: u8, t: Turn, later: usize) -> usize
 {
     out[at] = m;
     if later < 2 {
-        return writer::put_fields(&mut *out, at + 1, m, t);
+        return write::put_fields(&mut *out, at + 1, m, t);
     }
-    writer::put_fields_over(&mut *out, at + 1, m, t)
+    write::put_fields_over(&mut *out, at + 1, m, t)
 }
 
 // The records of these maps and of the turns of a table, behind the header.
@@ -159,7 +159,7 @@ fn put_records(maps: &[u8], table: &[u16], out: &mut [u8])
     let mut at = HEADER_BYTES;
     let mut i = 0;
     while i < maps.len() {
-        let t = turns::turn_at(table, i);
+        let t = turn::turn_at(table, i);
         let m = maps[i];
         i += 1;
         at = put_record(&mut *out, at, m, t, maps.len() - i);

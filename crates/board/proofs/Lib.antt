@@ -1,2 +1,3 @@
 pub mod StepBytes
 pub mod Fronts
+pub mod WrittenSteps

@@ -7,7 +7,7 @@ use Rattle.wire.specs.Number.{bytesOf, valueAt}
 use Rattle.wire.specs.Mark.{boardMark}
 use Rattle.lists.specs.Lists.{tab}
 use Rattle.model.specs.Steps.{Step}
-use Rattle.choicemap.specs.Choice.{mapBytes, choiceIn, mapOf}
+use Rattle.choice_map.specs.Choice.{mapBytes, choiceIn, mapOf}
 
 -- the header: behind the three bytes of the mark the number of turns, two bytes
 abbrev pub turnsPlace : ℕ

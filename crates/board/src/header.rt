@@ -3,7 +3,7 @@ ghost use mathlib.Core.Path.{_≡_};
 ghost use Prim.Native.Nat.{_≤_};
 ghost use lib.ListN.{length};
 ghost use Rattle.board.specs.Board.{boardHeader, boardTurns, boardSteps, boardTally, boardWorth, stepsPlace, boardLength};
-use choicemap::map_bytes;
+use choice_map::map_bytes;
 
 // Behind the mark, each number behind the one before.
 pub const TURNS_PLACE: usize = 3;

@@ -5,7 +5,7 @@ ghost use Prim.Native.Nat.{_+_, _*_, _≤_, _<_};
 ghost use lib.ListN.{length, drop};
 ghost use Rattle.wire.specs.Number.{puts};
 ghost use Rattle.model.specs.Steps.{tally};
-ghost use Rattle.choicemap.specs.Choice.{mapBytes};
+ghost use Rattle.choice_map.specs.Choice.{mapBytes};
 ghost use Rattle.board.specs.Board.{boardHeader, stepSize, stepsPlace, boardLength, stepAt, stepsIn, stepBytes, countBytes, headBytes};
 use super::header::HEADER_BYTES;
 use super::header::STEP_COUNT_PLACE;

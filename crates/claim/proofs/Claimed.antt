@@ -26,14 +26,14 @@ use Rattle.sheet.specs.Kind.{garage}
 use Rattle.sheet.proofs.SoundKinds.{garage-sound}
 use Rattle.sheet.proofs.Accepting.{sheet-reads, accepted-iff, accepted-no-cause}
 use Rattle.board.specs.Board.{boardTally, boardWorth, boardChoice, writtenSteps}
-use Rattle.problem.specs.Problem.{sheetTurns}
-use Rattle.problem.proofs.Posed.{sheet-count, sheet-lengths}
-use Rattle.checking.specs.Check.{Passes, checkOf, checked}
-use Rattle.checking.proofs.Passing.{formed-board, parts-pass, passes-iff, passes-answer, passes-promises}
-use Rattle.checking.proofs.CheckCauses.{keeps-no-cause, passes-no-cause}
-use Rattle.planning.specs.Plan.{planCauses, plannedBoard, planOf}
-use Rattle.planning.proofs.PlanCauses.{plan-number, plan-accepted-iff}
-use Rattle.planning.proofs.Planned.{planned-back}
+use Rattle.instance_spec.specs.Problem.{sheetTurns}
+use Rattle.instance_spec.proofs.SheetTurns.{sheet-count, sheet-lengths}
+use Rattle.check_spec.specs.Check.{Passes, checkOf, checked}
+use Rattle.check_spec.proofs.Passing.{formed-board, parts-pass, passes-iff, passes-answer, passes-promises}
+use Rattle.check_spec.proofs.CheckCauses.{keeps-no-cause, passes-no-cause}
+use Rattle.plan_spec.specs.Plan.{planCauses, plannedBoard, planOf}
+use Rattle.plan_spec.proofs.PlanCauses.{plan-number, plan-accepted-iff}
+use Rattle.plan_spec.proofs.Planned.{planned-back}
 use Rattle.claim.specs.Claim.{ByMethod, Claim}
 
 -- ---- the planner's board of a sheet that is not refused

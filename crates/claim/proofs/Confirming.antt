@@ -7,11 +7,11 @@ use lib.ListN.{length, take, drop, length-append}
 use lib.Seq.{take-append-seam}
 use borrow.Author.Tests.{ne-eqb}
 use Rattle.refusal.specs.Written.{Written, wrote}
-use Rattle.checking.specs.declared.CheckAnswer.{CheckAnswer}
-use Rattle.checking.specs.Check.{checkOf}
-use Rattle.planner.specs.declared.PlanAnswer.{PlanAnswer}
-use Rattle.planning.specs.Plan.{plannedBoard, planOf}
-use Rattle.planner.specs.Answer.{planned}
+use Rattle.check_spec.specs.declared.CheckAnswer.{CheckAnswer}
+use Rattle.check_spec.specs.Check.{checkOf}
+use Rattle.plan_spec.specs.declared.PlanAnswer.{PlanAnswer}
+use Rattle.plan_spec.specs.Plan.{plannedBoard, planOf}
+use Rattle.plan_spec.specs.Answer.{planned}
 use Rattle.claim.specs.Confirm.{confirmed, confirmOf}
 use Rattle.claim.proofs.Claimed.{planned-answer, plan-accepted, plan-wrote}
 

@@ -9,12 +9,12 @@ use Rattle.refusal.proofs.Order.{clear-append}
 use Rattle.refusal.proofs.Written.{wrote-all}
 use Rattle.sheet.specs.Read.{sheetCauses}
 use Rattle.sheet.proofs.Readings.{sheet-numbered}
-use Rattle.problem.specs.Problem.{sheetTurns}
-use Rattle.checking.specs.Check.{checkOf}
-use Rattle.planning.specs.Plan.{plannedBoard, planOf}
-use Rattle.planning.proofs.Planned.{planned-back}
-use Rattle.listing.specs.List.{sumsFor, listingFor, sheetListing, listCauses, listOf}
-use Rattle.listing.proofs.Listed.{sheet-rounds, sheet-lines, list-number}
+use Rattle.instance_spec.specs.Problem.{sheetTurns}
+use Rattle.check_spec.specs.Check.{checkOf}
+use Rattle.plan_spec.specs.Plan.{plannedBoard, planOf}
+use Rattle.plan_spec.proofs.Planned.{planned-back}
+use Rattle.listing_spec.specs.List.{sumsFor, listingFor, sheetListing, listCauses, listOf}
+use Rattle.listing_spec.proofs.Listed.{sheet-rounds, sheet-lines, list-number}
 use Rattle.claim.specs.Listed.{sumsIn, textFor, ListPromised}
 use Rattle.claim.proofs.Claimed.{planned-passes, planned-answer, plan-front}
 

@@ -3,32 +3,32 @@ use mathlib.Core.Path.{refl}
 use Rattle.refusal.specs.Cause.{firstOf}
 use Rattle.refusal.specs.Written.{writtenUnless}
 use Rattle.wire.specs.Mark.{opensWith}
-use Rattle.turns.specs.Turn.{rows, turnsOfTable, outsideRange, pastShift, turnCauses}
+use Rattle.turn.specs.Turn.{rows, turnsOfTable, outsideRange, pastShift, turnCauses}
 use Rattle.sheet.specs.Kind.{garage}
 use Rattle.sheet.specs.Record.{widthOf, field, turnFrom, badMapFor, endAt, turnAt, cursorAfter, recordCauses, firstCursor}
 use Rattle.sheet.specs.Read.{countCauses, headerCauses, recordsCauses, turnsFrom, causesFor, sheetCauses, turnsOf, tableOf, readCausesFor, readFor, readOf}
 use Rattle.sheet.specs.Layout.{recordOf}
-use Rattle.sorting.specs.Sorting.{insertBy, sortBy}
-use Rattle.writing.specs.Order.{numbersAtMost, turnAtMost, sortedTurns}
-use Rattle.writing.specs.Write.{mapFor, recordsOf, sheetOf, turnsCauses, tableCauses, writeCauses, writeOf}
+use Rattle.lists.specs.Sorting.{insertBy, sortBy}
+use Rattle.write_spec.specs.Order.{numbersAtMost, turnAtMost, sortedTurns}
+use Rattle.write_spec.specs.Write.{mapFor, recordsOf, sheetOf, turnsCauses, tableCauses, writeCauses, writeOf}
 use Rattle.lists.specs.Lists.{every, tab}
 use Rattle.model.specs.Turns.{overlapping, overlap, bySlope, oneGroomer, byGroomer, oneDriver, byDriver, conflict}
-use Rattle.problem.specs.Problem.{problemOf, sheetTurns}
+use Rattle.instance_spec.specs.Problem.{problemOf, sheetTurns}
 use Rattle.model.specs.Steps.{isOpen, left, initial, touches, reduced, change, afterStep, afterSteps, tally}
 use Rattle.model.specs.Pick.{sooner, better, best, pick, nextStep, planBy, plan, steps}
 use Rattle.model.specs.Choice.{chosen, fits, choose, chooseEach, back, fill, goBack, choice}
 use Rattle.model.specs.Ceiling.{inGroups, holdAll, fewestGroups, stepCost, ceiling}
 use Rattle.model.specs.Rules.{independent, maximal, noEarlier, right, allRight, noneOpen, sums}
-use Rattle.choicemap.specs.Choice.{bitOf, chosenIn, choiceIn, clearPast, byteOf, mapOf, onesOf, onesIn}
-use Rattle.opening.specs.Chosen.{countOf, turnChosen}
+use Rattle.choice_map.specs.Choice.{bitOf, chosenIn, choiceIn, clearPast, byteOf, mapOf, onesOf, onesIn}
+use Rattle.board_open.specs.Chosen.{countOf, turnChosen}
 use Rattle.board.specs.Board.{boardMap, boardChoice, stepsIn, writtenSteps, stepBytes, boardOf}
-use Rattle.opening.specs.Open.{badSizes, malformed, openOf, stepsPart}
-use Rattle.checking.specs.Check.{choiceCauses, stepCauses, ruleCauses, sumCauses, boardCauses, checkCauses, checkOf}
-use Rattle.planning.specs.Plan.{boardFor, plannedBoard, planCauses, planOf}
+use Rattle.board_open.specs.Open.{badSizes, malformed, openOf, stepsPart}
+use Rattle.check_spec.specs.Check.{choiceCauses, stepCauses, ruleCauses, sumCauses, boardCauses, checkCauses, checkOf}
+use Rattle.plan_spec.specs.Plan.{boardFor, plannedBoard, planCauses, planOf}
 use Rattle.text.specs.Decimal.{decimalIn, decimal}
-use Rattle.rounds.specs.Round.{startsAt, startsBelow, roundFrom, roundOf}
-use Rattle.lines.specs.Text.{labelled, twoLabelled, headingOf, lineOf, linesOf, groomerText, groomersFrom, sumsLine, listingOf}
-use Rattle.listing.specs.List.{sumsFor, listingFor, sheetListing, listCauses, listOf}
+use Rattle.listing_spec.specs.Round.{startsAt, startsBelow, roundFrom, roundOf}
+use Rattle.listing_spec.specs.Text.{labelled, twoLabelled, headingOf, lineOf, linesOf, groomerText, groomersFrom, sumsLine, listingOf}
+use Rattle.listing_spec.specs.List.{sumsFor, listingFor, sheetListing, listCauses, listOf}
 use Rattle.claim.specs.Cases.{WorkedCases}
 use Rattle.claim.specs.Further.{FurtherCases}
 

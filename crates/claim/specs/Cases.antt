@@ -9,14 +9,14 @@ use Rattle.model.specs.Turns.{Turns}
 use Rattle.model.specs.Steps.{initial, afterStep}
 use Rattle.model.specs.Pick.{steps}
 use Rattle.model.specs.Choice.{goBack, choice}
-use Rattle.turns.specs.declared.Counts.{Counts}
+use Rattle.turn.specs.declared.Counts.{Counts}
 use Rattle.sheet.specs.Read.{readOf, outcome, readRefused}
-use Rattle.problem.specs.Problem.{sheetTurns}
-use Rattle.writing.specs.Write.{writeOf}
-use Rattle.opening.specs.Open.{openOf, stepsPart}
-use Rattle.checking.specs.Check.{checkOf, checked}
-use Rattle.planning.specs.Plan.{planOf}
-use Rattle.listing.specs.List.{listOf}
+use Rattle.instance_spec.specs.Problem.{sheetTurns}
+use Rattle.write_spec.specs.Write.{writeOf}
+use Rattle.board_open.specs.Open.{openOf, stepsPart}
+use Rattle.check_spec.specs.Check.{checkOf, checked}
+use Rattle.plan_spec.specs.Plan.{planOf}
+use Rattle.listing_spec.specs.List.{listOf}
 use Rattle.claim.specs.Shift.{shift, shiftTable, shiftWritten, shiftBoard, shiftSteps, shiftListing, header, emptyBoard, lateTurn, wrongWorth, oneAndThree}
 
 -- lent places hold 9 before

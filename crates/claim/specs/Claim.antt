@@ -15,9 +15,9 @@ use Rattle.model.specs.IntervalSelection.{Selects}
 use Rattle.sheet.specs.Read.{countsIn, turnCount, turnsOf}
 use Rattle.sheet.specs.Accepted.{Accepted, SheetCause}
 use Rattle.board.specs.Board.{boardTally, boardWorth, boardLength, boardChoice, writtenSteps}
-use Rattle.problem.specs.Problem.{sheetTurns}
-use Rattle.checking.specs.Check.{Passes, BoardKeeps, BoardCause, CheckCause, checkOf, checked}
-use Rattle.planning.specs.Plan.{plannedBoard, planOf}
+use Rattle.instance_spec.specs.Problem.{sheetTurns}
+use Rattle.check_spec.specs.Check.{Passes, BoardKeeps, BoardCause, CheckCause, checkOf, checked}
+use Rattle.plan_spec.specs.Plan.{plannedBoard, planOf}
 
 -- what is read of s, and so what every set of its turns is made of, is what the reading a in words has
 pub record ReadsAs (s : List ℕ) (a : Accepted s) : Type 0 where

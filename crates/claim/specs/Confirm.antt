@@ -8,11 +8,11 @@ use Rattle.model.specs.Steps.{tally}
 use Rattle.model.specs.Pick.{steps}
 use Rattle.model.specs.Choice.{chosen, choice}
 use Rattle.model.specs.Ceiling.{ceiling}
-use Rattle.checking.specs.declared.CheckAnswer.{CheckAnswer}
-use Rattle.problem.specs.Problem.{sheetTurns}
-use Rattle.checking.specs.Check.{checked}
-use Rattle.planning.specs.Plan.{planOf}
-use Rattle.planner.specs.Answer.{planned}
+use Rattle.check_spec.specs.declared.CheckAnswer.{CheckAnswer}
+use Rattle.instance_spec.specs.Problem.{sheetTurns}
+use Rattle.check_spec.specs.Check.{checked}
+use Rattle.plan_spec.specs.Plan.{planOf}
+use Rattle.plan_spec.specs.Answer.{planned}
 use Rattle.claim.specs.declared.Confirmed.{Confirmed}
 
 -- what planning and checking at once return, and what the lent bytes hold then

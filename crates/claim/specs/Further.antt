@@ -3,11 +3,11 @@ use mathlib.Core.Path.{_≡_}
 use mathlib.Core.List.{_++_}
 use mathlib.Core.Bool.{true, false}
 use Rattle.sheet.specs.Read.{readOf, outcome, readRefused}
-use Rattle.writing.specs.Write.{writeOf}
-use Rattle.opening.specs.Chosen.{counted, countOf, turnChosen}
-use Rattle.checking.specs.Check.{checkOf, checked}
-use Rattle.planning.specs.Plan.{planOf}
-use Rattle.listing.specs.List.{listOf}
+use Rattle.write_spec.specs.Write.{writeOf}
+use Rattle.board_open.specs.Chosen.{counted, countOf, turnChosen}
+use Rattle.check_spec.specs.Check.{checkOf, checked}
+use Rattle.plan_spec.specs.Plan.{planOf}
+use Rattle.listing_spec.specs.List.{listOf}
 use Rattle.claim.specs.Shift.{shift, shiftBoard, leavesRoom, touchingTurns, shiftBoardBy, stepsExchanged, turnTwoFirst, turnThreeFirst, drivenTurn, drivenTable, undrivenTurn, drivenShift, twoTurns, tiedTurns, tiedBoard, twoToFill, filledBoard, secondGroomer, secondListing}
 use Rattle.claim.specs.Cases.{lent}
 

@@ -6,15 +6,15 @@ use lib.ListN.{length}
 use Rattle.refusal.specs.Written.{wrote}
 use Rattle.lists.specs.Lists.{sum, below}
 use Rattle.sheet.specs.Read.{countsIn}
-use Rattle.choicemap.specs.Choice.{onesIn}
+use Rattle.choice_map.specs.Choice.{onesIn}
 use Rattle.board.specs.Board.{boardMap, boardChoice}
-use Rattle.problem.specs.Problem.{sheetTurns}
-use Rattle.checking.specs.declared.CheckAnswer.{CheckAnswer}
-use Rattle.checking.specs.Check.{Passes, checkOf}
-use Rattle.rounds.specs.Round.{roundOf, Round}
-use Rattle.lines.specs.declared.lines.Sums.{Sums}
-use Rattle.lines.specs.Text.{listingOf}
-use Rattle.listing.specs.List.{listOf}
+use Rattle.instance_spec.specs.Problem.{sheetTurns}
+use Rattle.check_spec.specs.declared.CheckAnswer.{CheckAnswer}
+use Rattle.check_spec.specs.Check.{Passes, checkOf}
+use Rattle.listing_spec.specs.Round.{roundOf, Round}
+use Rattle.listing_spec.specs.declared.Sums.{Sums}
+use Rattle.listing_spec.specs.Text.{listingOf}
+use Rattle.listing_spec.specs.List.{listOf}
 
 -- the sums of a last line, as an answer of the check has them
 abbrev pub sumsIn : CheckAnswer → Sums

@@ -1,8 +1,8 @@
 // Planning, then checking what was planned: the claim, said of the programs.
 ghost use mathlib.Core.Path.{_≡_};
 ghost use Rattle.claim.specs.Confirm.{confirmed, confirmOf};
-use checking::CheckAnswer;
-use planner::PlanAnswer;
+use check_spec::CheckAnswer;
+use plan_spec::PlanAnswer;
 
 pub struct Confirmed {
     pub plan: PlanAnswer,
@@ -14,7 +14,7 @@ pub struct Confirmed {
 pub fn plan_and_check(s: &[u8], out: &mut [u8]) -> Confirmed
     ensures { λ r. ⌜ confirmed r (now (out .exit)) ≡ confirmOf (now (s .entry)) (now (out .entry)) ⌝ }
 {
-    let plan = planner::plan(s, &mut *out);
+    let plan = plan::plan(s, &mut *out);
     let fault = plan.refusal;
     if fault != 0 {
         let none = CheckAnswer {
@@ -29,7 +29,7 @@ pub fn plan_and_check(s: &[u8], out: &mut [u8]) -> Confirmed
         };
     }
     let end = plan.bytes as usize;
-    let check = audit::check(s, &out[..end]);
+    let check = check_board::check(s, &out[..end]);
     Confirmed {
         plan: plan,
         check: check,

@@ -13,18 +13,18 @@ use Rattle.lists.proofs.Sums.{tab-length}
 use Rattle.refusal.specs.Written.{Written}
 use Rattle.sheet.specs.declared.answer.ReadAnswer.{ReadAnswer}
 use Rattle.sheet.specs.Read.{Outcome, outcome}
-use Rattle.writing.specs.Write.{countsOf, writeOf}
-use Rattle.trial.specs.Trial.{drawOf}
-use Rattle.opening.specs.Open.{openOf, stepsPart}
-use Rattle.checking.specs.declared.CheckAnswer.{CheckAnswer}
-use Rattle.checking.specs.Check.{checkOf}
-use Rattle.partition.specs.declared.PartitionAnswer.{PartitionAnswer}
-use Rattle.partition.specs.Partition.{Partition, partitioned, partitionOf}
-use Rattle.exact.specs.Exact.{Earned}
-use Rattle.improve.specs.Improve.{Improvement, improveOf}
-use Rattle.hall.specs.Charge.{Charged}
-use Rattle.improve.specs.declared.Improved.{Improved}
-use Rattle.improve.specs.Answer.{improved}
+use Rattle.write_spec.specs.Write.{countsOf, writeOf}
+use Rattle.trial_spec.specs.Trial.{drawOf}
+use Rattle.board_open.specs.Open.{openOf, stepsPart}
+use Rattle.check_spec.specs.declared.CheckAnswer.{CheckAnswer}
+use Rattle.check_spec.specs.Check.{checkOf}
+use Rattle.assign_spec.specs.declared.PartitionAnswer.{PartitionAnswer}
+use Rattle.assign_spec.specs.Partition.{Partition, partitioned, partitionOf}
+use Rattle.best_spec.specs.Exact.{Earned}
+use Rattle.search_spec.specs.Improve.{Improvement, improveOf}
+use Rattle.hall_spec.specs.Charge.{Charged}
+use Rattle.search_spec.specs.declared.Improved.{Improved}
+use Rattle.search_spec.specs.Answer.{improved}
 use Rattle.corpus.specs.declared.tools.Counts.{Counts}
 use Rattle.corpus.specs.declared.tools.Draw.{Draw}
 use Rattle.corpus.specs.declared.entries.Line.{Line}

@@ -8,19 +8,19 @@ use Rattle.wire.specs.Number.{valueAt}
 use Rattle.lists.specs.Lists.{tab}
 use Rattle.refusal.specs.Written.{Written}
 use Rattle.sheet.specs.Read.{Outcome}
-use Rattle.turns.specs.Turn.{countsOf}
-use Rattle.trial.specs.Trial.{drawOf}
-use Rattle.partition.specs.Partition.{Partition}
-use Rattle.exact.specs.Exact.{Earned}
-use Rattle.improve.specs.Improve.{Improvement}
-use Rattle.hall.specs.Charge.{Charged}
+use Rattle.turn.specs.Turn.{countsOf}
+use Rattle.trial_spec.specs.Trial.{drawOf}
+use Rattle.assign_spec.specs.Partition.{Partition}
+use Rattle.best_spec.specs.Exact.{Earned}
+use Rattle.search_spec.specs.Improve.{Improvement}
+use Rattle.hall_spec.specs.Charge.{Charged}
 use Rattle.corpus.specs.declared.tools.Counts.{Counts}
 use Rattle.corpus.specs.declared.tools.Draw.{Draw}
 use Rattle.corpus.specs.declared.entries.Line.{Line}
 use Rattle.corpus.specs.declared.entries.ReadLine.{ReadLine}
 use Rattle.corpus.specs.declared.entries.CheckLine.{CheckLine}
 use Rattle.corpus.specs.declared.entries.ImproveLine.{ImproveLine}
-use Rattle.checking.specs.declared.CheckAnswer.{CheckAnswer}
+use Rattle.check_spec.specs.declared.CheckAnswer.{CheckAnswer}
 
 -- the number in the k bytes from a place on, 0 where they are not all there
 unfoldable pub numberOr : List ℕ → ℕ → ℕ → ℕ

@@ -2,22 +2,22 @@
 ghost use mathlib.Core.Path.{_≡_};
 ghost use lib.ListN.{length};
 ghost use Rattle.sheet.specs.Read.{readOf};
-ghost use Rattle.writing.specs.Write.{countsOf, writeOf};
-ghost use Rattle.opening.specs.Open.{openOf, stepsPart};
-ghost use Rattle.opening.specs.Chosen.{countOf, turnChosen};
-ghost use Rattle.checking.specs.Check.{checkOf};
-ghost use Rattle.planning.specs.Plan.{planOf};
-ghost use Rattle.listing.specs.List.{listOf};
-ghost use Rattle.partition.specs.Partition.{partitionOf};
-ghost use Rattle.screen.specs.Screen.{readShortOf};
-ghost use Rattle.exact.specs.Exact.{exactOf};
-ghost use Rattle.improve.specs.Improve.{improveOf};
-ghost use Rattle.archive.specs.Archive.{keepOf, restoreOf};
-ghost use Rattle.hall.specs.Charge.{chargeOf};
+ghost use Rattle.write_spec.specs.Write.{countsOf, writeOf};
+ghost use Rattle.board_open.specs.Open.{openOf, stepsPart};
+ghost use Rattle.board_open.specs.Chosen.{countOf, turnChosen};
+ghost use Rattle.check_spec.specs.Check.{checkOf};
+ghost use Rattle.plan_spec.specs.Plan.{planOf};
+ghost use Rattle.listing_spec.specs.List.{listOf};
+ghost use Rattle.assign_spec.specs.Partition.{partitionOf};
+ghost use Rattle.sheet.specs.Screen.{readShortOf};
+ghost use Rattle.best_spec.specs.Exact.{exactOf};
+ghost use Rattle.search_spec.specs.Improve.{improveOf};
+ghost use Rattle.archive_spec.specs.Archive.{keepOf, restoreOf};
+ghost use Rattle.hall_spec.specs.Charge.{chargeOf};
 ghost use Rattle.corpus.specs.Line.{longHeld, countsHeld, drawHeld, drawnBy, unpacked, sumOf, writtenLine, readLine, partitionLine, earnedLine};
 ghost use Rattle.corpus.specs.Line.{checkLine, improvedLine, chargedLine};
 use super::tools;
-use opening::CountAnswer;
+use board_open::CountAnswer;
 
 // The values of a line behind its name: the refusal, what the entry returned, and a checksum or what
 // else ends the line.
@@ -59,7 +59,7 @@ pub fn read(sheet: &[u8], table: &mut [u16]) -> ReadLine
     ensures { λ r. ⌜ (r ≡ readLine (readOf (now (sheet .entry)) (now (table .entry))))
         × (now (table .exit) ≡ readOf (now (sheet .entry)) (now (table .entry)) .table) ⌝ }
 {
-    let answer = reader::read(sheet, &mut *table);
+    let answer = sheet_read::read(sheet, &mut *table);
     ReadLine {
         refusal: answer.refusal,
         groomers: answer.groomers,
@@ -74,7 +74,7 @@ pub fn short(sheet: &[u8], table: &mut [u16]) -> ReadLine
     ensures { λ r. ⌜ (r ≡ readLine (readShortOf (now (sheet .entry)) (now (table .entry))))
         × (now (table .exit) ≡ readShortOf (now (sheet .entry)) (now (table .entry)) .table) ⌝ }
 {
-    let answer = screen::read_short(sheet, &mut *table);
+    let answer = sheet_read_short::read_short(sheet, &mut *table);
     ReadLine {
         refusal: answer.refusal,
         groomers: answer.groomers,
@@ -94,7 +94,7 @@ pub fn write(counts: &[u8], turns: &[u8], table: &mut [u16], bytes: &mut [u8]) -
 {
     let c = tools::counts_in(counts);
     tools::unpack(turns, &mut *table);
-    let answer = writer::write(c.groomers, c.slopes, &*table, &mut *bytes);
+    let answer = write::write(c.groomers, c.slopes, &*table, &mut *bytes);
     Line {
         refusal: answer.refusal,
         value: answer.bytes as u64,
@@ -124,9 +124,9 @@ pub fn open(board: &[u8]) -> Line
       last = sumOf (stepsPart (now (board .entry)));
     } ⌝ }
 {
-    let steps = opening::steps(board);
+    let steps = board_open::steps(board);
     Line {
-        refusal: opening::open(board),
+        refusal: board_open::open(board),
         value: steps.len() as u64,
         last: tools::byte_sum(steps),
     }
@@ -136,21 +136,21 @@ pub fn open(board: &[u8]) -> Line
 pub fn count(board: &[u8]) -> CountAnswer
     ensures { λ r. ⌜ r ≡ countOf (now (board .entry)) ⌝ }
 {
-    opening::count(board)
+    board_open::count(board)
 }
 
 // Whether a board chooses a turn.
 pub fn chosen(board: &[u8], turn: u16) -> bool
     ensures { λ r. ⌜ r ≡ turnChosen (now (board .entry)) turn ⌝ }
 {
-    opening::chooses(board, turn as usize)
+    board_open::chooses(board, turn as usize)
 }
 
 // Checking a board against a sheet: nothing is lent, and the ceiling ends the line.
 pub fn check(sheet: &[u8], board: &[u8]) -> CheckLine
     ensures { λ r. ⌜ r ≡ checkLine (checkOf (now (sheet .entry)) (now (board .entry))) ⌝ }
 {
-    let answer = audit::check(sheet, board);
+    let answer = check_board::check(sheet, board);
     CheckLine {
         refusal: answer.refusal,
         tally: answer.tally,
@@ -164,7 +164,7 @@ pub fn plan(sheet: &[u8], board: &mut [u8]) -> Line
     ensures { λ r. ⌜ (r ≡ writtenLine (planOf (now (sheet .entry)) (now (board .entry))))
         × (now (board .exit) ≡ planOf (now (sheet .entry)) (now (board .entry)) .lent) ⌝ }
 {
-    let answer = planner::plan(sheet, &mut *board);
+    let answer = plan::plan(sheet, &mut *board);
     Line {
         refusal: answer.refusal,
         value: answer.bytes as u64,
@@ -190,7 +190,7 @@ pub fn assign(sheet: &[u8], places: &mut [u16]) -> Line
     ensures { λ r. ⌜ (r ≡ partitionLine (partitionOf (now (sheet .entry)) (now (places .entry))))
         × (now (places .exit) ≡ partitionOf (now (sheet .entry)) (now (places .entry)) .places) ⌝ }
 {
-    let answer = partition::assign(sheet, &mut *places);
+    let answer = assign::assign(sheet, &mut *places);
     Line {
         refusal: answer.refusal,
         value: answer.groomers as u64,
@@ -203,7 +203,7 @@ pub fn best(sheet: &[u8], map: &mut [u8]) -> Line
     ensures { λ r. ⌜ (r ≡ earnedLine (exactOf (now (sheet .entry)) (now (map .entry))))
         × (now (map .exit) ≡ exactOf (now (sheet .entry)) (now (map .entry)) .lent) ⌝ }
 {
-    let answer = exact::best(sheet, &mut *map);
+    let answer = best::best(sheet, &mut *map);
     Line {
         refusal: answer.refusal,
         value: answer.worth as u64,

@@ -6,9 +6,9 @@
 mod entries;
 mod tools;
 
+use board_open::CountAnswer;
 use libc::STDIN_FILENO;
 use libc::STDOUT_FILENO;
-use opening::CountAnswer;
 
 // Most bytes of a case's input, and most places of the two lent buffers.
 const MOST_INPUT: usize = 16384;

@@ -2,21 +2,21 @@
 use Prim.Native.Nat.{_%_}
 use mathlib.Core.Path.{refl, sym}
 use native.Mathlib.Numerals.{unary-clauses}
-use Rattle.turns.specs.Turn.{outsideRange}
-use Rattle.turns.proofs.Ranges.{inside-iff, within-iff}
+use Rattle.turn.specs.Turn.{outsideRange}
+use Rattle.turn.proofs.Ranges.{inside-iff, within-iff}
 use Rattle.sheet.specs.Kind.{garage, withTurns}
 use Rattle.sheet.specs.Record.{widthOf, field, turnFrom}
 use Rattle.sheet.proofs.Accepting.{read-accepted-iff}
-use Rattle.screen.specs.Screen.{liftDesk}
-use Rattle.archive.specs.Kept.{archive}
-use Rattle.problem.specs.Problem.{problemOf, sheetTurns}
-use Rattle.planning.proofs.PlanCauses.{plan-accepted-iff}
-use Rattle.trial.specs.Draw.{nextDraw, turnDrawn}
-use Rattle.trial.proofs.Draws.{ten-thousandth}
-use Rattle.trial.proofs.Drawings.{length-first, length-second, length-third, length-fourth}
-use Rattle.hallmodel.specs.Hall.{isWide, wideDraw}
-use Rattle.hallmodel.specs.Plan.{roundedUp, smallTakes}
-use Rattle.hall.specs.Charge.{chargingSheet}
+use Rattle.sheet.specs.Screen.{liftDesk}
+use Rattle.archive_spec.specs.Kept.{archive}
+use Rattle.instance_spec.specs.Problem.{problemOf, sheetTurns}
+use Rattle.plan_spec.proofs.PlanCauses.{plan-accepted-iff}
+use Rattle.trial_spec.specs.Draw.{nextDraw, turnDrawn}
+use Rattle.trial_spec.proofs.Draws.{ten-thousandth}
+use Rattle.trial_spec.proofs.Draws.{length-first, length-second, length-third, length-fourth}
+use Rattle.hall_spec.specs.Hall.{isWide, wideDraw}
+use Rattle.hall_spec.specs.Plan.{roundedUp, smallTakes}
+use Rattle.hall_spec.specs.Charge.{chargingSheet}
 use Rattle.figures.specs.Figures.{Figures}
 
 pub figures : Figures

@@ -10,31 +10,31 @@ use lib.IntN.{pos, negℤ}
 use Rattle.refusal.specs.Number.{truncated, badMagic, badCounts, tooManyTurns, badMap, badSlope, badGroomer, badTime, badWorth, trailingBytes, bufferTooSmall, malformedBoard, chosenConflict, notMaximal, wrongStep, turnLeftOpen, wrongSums, partialTurn, badDriver, tooManyForScreen, notSingleTurns, tooManyToSearch, badSeed, badDelays, badDraw, badPrices}
 use Rattle.wire.specs.Number.{valueAt, Bytes}
 use Rattle.wire.specs.Mark.{sheetMark, boardMark, keptMark, chargingMark}
-use Rattle.turns.specs.declared.Counts.{Counts}
-use Rattle.turns.specs.declared.Turn.{Turn}
-use Rattle.turns.specs.Turn.{shiftMinutes, mostWorth, mostDriver, rowNumbers, outsideRange, pastShift}
+use Rattle.turn.specs.declared.Counts.{Counts}
+use Rattle.turn.specs.declared.Turn.{Turn}
+use Rattle.turn.specs.Turn.{shiftMinutes, mostWorth, mostDriver, rowNumbers, outsideRange, pastShift}
 use Rattle.sheet.specs.Kind.{firstMap, fullMap, mostGroomers, mostSlopes, mostTurns, garage}
 use Rattle.sheet.specs.Record.{widthOf, turnFrom}
 use Rattle.sheet.specs.Read.{headerBytes, countsIn, turnCount, readOf}
 use Rattle.sheet.specs.Accepted.{Accepted}
-use Rattle.screen.specs.Screen.{screenTurns, liftDesk}
-use Rattle.archive.specs.Kept.{archive}
-use Rattle.choicemap.specs.Choice.{mapBytes}
+use Rattle.sheet.specs.Screen.{screenTurns, liftDesk}
+use Rattle.archive_spec.specs.Kept.{archive}
+use Rattle.choice_map.specs.Choice.{mapBytes}
 use Rattle.board.specs.Board.{turnsPlace, stepCountPlace, tallyPlace, worthPlace, boardHeader, stepSize, boardLength}
-use Rattle.problem.specs.Problem.{shiftGap, sheetTurns}
+use Rattle.instance_spec.specs.Problem.{shiftGap, sheetTurns}
 use Rattle.model.specs.Turns.{Turns, NoDrivers}
 use Rattle.model.specs.Feasible.{Feasible, worthOf, OneTurnASlope}
 use Rattle.model.specs.Promises.{Promises}
-use Rattle.ratio.specs.Bounds.{leastResidual}
-use Rattle.planning.specs.Plan.{planOf}
-use Rattle.improve.specs.Improve.{mostSearched}
-use Rattle.trial.specs.Draw.{mostDraw, nextDraw, drawNumber, turnDraws, turnDrawn}
-use Rattle.playing.specs.Day.{overMinutes, mostDelay}
-use Rattle.playing.specs.Standing.{noTurnInHand}
-use Rattle.hallmodel.specs.Hall.{mostUnits, mostVehicles, hallGap, Hall, draw, sameVehicle, shareMinute, isWide, Allowed}
-use Rattle.hallmodel.specs.Plan.{smallTakes, smallSteps, hallWorth}
-use Rattle.hallmodel.specs.Promises.{worthOfWindows, HallPromises}
-use Rattle.hall.specs.Charge.{chargingSheet}
+use Rattle.local_ratio.specs.Bounds.{leastResidual}
+use Rattle.plan_spec.specs.Plan.{planOf}
+use Rattle.search_spec.specs.Improve.{mostSearched}
+use Rattle.trial_spec.specs.Draw.{mostDraw, nextDraw, drawNumber, turnDraws, turnDrawn}
+use Rattle.play_spec.specs.Day.{overMinutes, mostDelay}
+use Rattle.play_spec.specs.Standing.{noTurnInHand}
+use Rattle.hall_spec.specs.Hall.{mostUnits, mostVehicles, hallGap, Hall, draw, sameVehicle, shareMinute, isWide, Allowed}
+use Rattle.hall_spec.specs.Plan.{smallTakes, smallSteps, hallWorth}
+use Rattle.hall_spec.specs.Promises.{worthOfWindows, HallPromises}
+use Rattle.hall_spec.specs.Charge.{chargingSheet}
 
 pub record Figures : Type 0 where
   -- ---- turns

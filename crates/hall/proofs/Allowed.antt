@@ -9,21 +9,21 @@ use Rattle.lists.proofs.Bools.{and-1}
 use Rattle.model.specs.Steps.{Step}
 use Rattle.model.specs.Choice.{choose, chooseEach}
 use Rattle.model.proofs.Choices.{choose-set, choose-not}
-use Rattle.choicemap.specs.Choice.{choiceIn, withTurn, Clean}
-use Rattle.choicemap.proofs.Clean.{choice-with, choice-length}
-use Rattle.problem.specs.declared.ways.Row.{Row}
-use Rattle.problem.specs.Ways.{turnRow}
-use Rattle.problem.specs.Columns.{rowIn, turnsBy}
-use Rattle.problem.proofs.Rows.{count-is, row-is}
-use Rattle.chooser.specs.Asked.{askedTurns}
-use Rattle.chooser.proofs.Numbers.{asked-room, asked-size, asked-numbers, asked-chosen, each-start, each-more, each-done}
-use Rattle.chooser.proofs.Fitting.{bit-inside, room-clean}
-use Rattle.hallmodel.specs.Hall.{Hall, windowCount, vehicleFree, supplyLasts, staysAllowed}
-use Rattle.hallmodel.specs.Plan.{fitsAmong, chooseAmong}
-use Rattle.charging.specs.declared.among.Among.{Among}
-use Rattle.charging.specs.Among.{hallBy, ofKind, kindRow}
-use Rattle.charging.specs.Bounds.{HallHeld}
-use Rattle.charging.proofs.OneKind.{kind-is}
+use Rattle.choice_map.specs.Choice.{choiceIn, withTurn, Clean}
+use Rattle.choice_map.proofs.Clean.{choice-with, choice-length}
+use Rattle.instance.specs.declared.ways.Row.{Row}
+use Rattle.instance.specs.Ways.{turnRow}
+use Rattle.instance.specs.Columns.{rowIn, turnsBy}
+use Rattle.instance.proofs.Rows.{count-is, row-is}
+use Rattle.selection.specs.Asked.{askedTurns}
+use Rattle.selection.proofs.Numbers.{asked-room, asked-size, asked-numbers, asked-chosen, each-start, each-more, each-done}
+use Rattle.selection.proofs.Fitting.{bit-inside, room-clean}
+use Rattle.hall_spec.specs.Hall.{Hall, windowCount, vehicleFree, supplyLasts, staysAllowed}
+use Rattle.hall_spec.specs.Plan.{fitsAmong, chooseAmong}
+use Rattle.hall_steps.specs.declared.among.Among.{Among}
+use Rattle.hall_steps.specs.Among.{hallBy, ofKind, kindRow}
+use Rattle.hall_steps.specs.Bounds.{HallHeld}
+use Rattle.hall_steps.proofs.OneKind.{kind-is}
 use Rattle.hall.specs.Supply.{allowedRow, RoomFor, WithWindow, Supplied}
 use Rattle.hall.proofs.Supplies.{row-in-hall, lasts-room, row-stays, supplied-put, supplied-none}
 

@@ -15,35 +15,35 @@ use Rattle.wire.specs.Number.{puts}
 use Rattle.wire.proofs.Puts.{puts-front, puts-length}
 use Rattle.sheet.specs.declared.kind.Kind.{Kind}
 use Rattle.sheet.specs.declared.answer.ReadAnswer.{ReadAnswer}
-use Rattle.sheet.specs.Kind.{mostTurns, three, Sound}
+use Rattle.sheet.specs.Kind.{mostTurns}
 use Rattle.sheet.specs.Read.{countsIn, turnCount, turnsOf, causesFor, answerFor}
 use Rattle.sheet.proofs.Readings.{causes-numbered}
-use Rattle.sheet.proofs.Unrefused.{legal-header}
 use Rattle.sheet.proofs.Whole.{whole-refusal-for, whole-accepted-for, whole-answer-for, whole-turns-for}
 use Rattle.model.specs.Choice.{chosen}
-use Rattle.choicemap.specs.Choice.{choiceIn, mapBytes, mapOf, Clean}
+use Rattle.choice_map.specs.Choice.{choiceIn, mapBytes, mapOf, Clean}
 use Rattle.board.specs.Board.{stepSize, stepsIn, stepBytes}
-use Rattle.choicemap.proofs.Clean.{clean-map, map-length}
-use Rattle.problem.specs.declared.columns.Size.{Size}
-use Rattle.problem.specs.Columns.{turnsBy}
-use Rattle.problem.specs.Problem.{problemOf}
-use Rattle.problem.specs.Load.{PosedFor}
-use Rattle.problem.proofs.Posed.{sheet-count-for, sheet-slopes-for, sheet-groomers-for}
-use Rattle.problem.proofs.Rows.{count-is}
-use Rattle.choices.specs.Below.{chosenBelow}
-use Rattle.choices.specs.Bounds.{StepsOf}
-use Rattle.hallmodel.specs.Hall.{hallGap, mostUnits, mostVehicles, Hall, windowCount}
-use Rattle.hallmodel.specs.Plan.{chooseAmong, wideChoice, smallChoice, worthIn, hallChoice, hallWorth}
-use Rattle.hallmodel.proofs.Allowing.{chosen-length}
-use Rattle.hallmodel.proofs.Halls.{greater-first, greater-second, plan-length}
-use Rattle.charging.specs.declared.among.Among.{Among}
-use Rattle.charging.specs.Among.{hallBy, ofKind, stepsBy}
-use Rattle.charging.specs.Bounds.{HallHeld}
-use Rattle.charging.proofs.Written.{written-few, written-read, written-inside}
-use Rattle.hall.specs.declared.ChargeAnswer.{ChargeAnswer}
+use Rattle.choice_map.proofs.Clean.{clean-map, map-length}
+use Rattle.instance.specs.declared.columns.Size.{Size}
+use Rattle.instance.specs.Columns.{turnsBy}
+use Rattle.instance_spec.specs.Problem.{problemOf}
+use Rattle.instance.specs.Load.{PosedFor}
+use Rattle.instance_spec.proofs.SheetTurns.{sheet-count-for}
+use Rattle.instance.proofs.Rows.{count-is}
+use Rattle.selection.specs.Below.{chosenBelow}
+use Rattle.selection.specs.Bounds.{StepsOf}
+use Rattle.hall_spec.specs.Hall.{hallGap, Hall, windowCount}
+use Rattle.hall_spec.specs.Plan.{chooseAmong, wideChoice, smallChoice, worthIn, hallChoice, hallWorth}
+use Rattle.hall_spec.proofs.Allowing.{chosen-length}
+use Rattle.hall_spec.proofs.Halls.{greater-first, greater-second, plan-length}
+use Rattle.hall_steps.specs.declared.among.Among.{Among}
+use Rattle.hall_steps.specs.Among.{hallBy, ofKind, stepsBy}
+use Rattle.hall_steps.specs.Bounds.{HallHeld}
+use Rattle.hall_steps.proofs.Written.{written-few, written-read, written-inside}
+use Rattle.hall_spec.specs.declared.ChargeAnswer.{ChargeAnswer}
 use Rattle.hall.specs.OneKind.{kindChoice, hallIn, HeldHall}
-use Rattle.hall.specs.Charge.{chargingSheet, hallOf, chargeCauses, hallFound, hallRefused, chargeIn, chargeOf}
-use Rattle.hall.specs.Answer.{charged, chargeRefused}
+use Rattle.hall_spec.specs.Charge.{chargingSheet, hallOf, chargeCauses, hallFound, hallRefused, chargeIn, chargeOf}
+use Rattle.hall_spec.specs.Answer.{charged, chargeRefused}
+use Rattle.hall_spec.proofs.ChargingSheets.{charging-sound, charging-given, units-of, vehicle-of, draw-of}
 
 -- ---- the plan of one kind
 
@@ -167,39 +167,6 @@ module _ (units : ℕ) (p : Size) (cols lent : List ℕ) {size : ℕ} (m : size 
   hall-done l h k = rw (le-ltb (length lent) (mapBytes (turnsBy p cols .count)) (omega (arith, m, ap mapBytes (count-is p cols))), h, k, plan-places)
 
 pub ruleset charge-in-cases = (hall-small, hall-room, hall-done)
-
--- ---- the sheet's kind
-
-pub charging-sound : Sound chargingSheet
-unfolding chargingSheet
-charging-sound =
-    record {
-      mark = three {a = 0x47} {b = 0x52} {c = 0x45} (omega arith) (omega arith) (omega arith);
-      groomers = omega arith;
-      slopes = omega arith;
-      turns = omega arith;
-      numbers = record { counts = omega arith; turns = omega arith; slope = omega arith; groomer = omega arith };
-    }
-
-pub charging-given : {K : Kind} → K ≡ chargingSheet → Sound K
-charging-given e = rw e charging-sound
-
--- ---- a sheet that is not refused
-
-module _ (s : List ℕ) (z : firstOf (causesFor chargingSheet s) ≡ 0) where
-  pub units-of : (1 ≤ countsIn s .groomers) × (countsIn s .groomers ≤ mostUnits)
-  unfolding chargingSheet
-  units-of = let h = legal-header chargingSheet charging-sound s z in (h .groomers-from, h .groomers-to)
-
-  pub vehicles-of : countsIn s .slopes ≤ mostVehicles
-  unfolding chargingSheet
-  vehicles-of = legal-header chargingSheet charging-sound s z .slopes-to
-
-  pub vehicle-of : (t : ℕ) → t < turnCount s → problemOf hallGap (turnsOf s) .slope t ≤ mostVehicles
-  vehicle-of t l = omega (arith, sheet-slopes-for chargingSheet charging-sound hallGap s z t l, vehicles-of)
-
-  pub draw-of : (t : ℕ) → t < turnCount s → (1 ≤ problemOf hallGap (turnsOf s) .groomer t) × (problemOf hallGap (turnsOf s) .groomer t ≤ countsIn s .groomers)
-  draw-of t l = sheet-groomers-for chargingSheet charging-sound hallGap s z t l
 
 -- ---- the answer
 

@@ -14,19 +14,19 @@ use mir.Val.{Fits}
 use borrow.Author.Tests.{eq-eqb, ne-eqb, le-leb, lt-leb, leb-true}
 use Rattle.lists.specs.Lists.{every}
 use Rattle.lists.proofs.Bools.{and-2, fails, every-of, every-at, every-fails}
-use Rattle.turns.specs.Turn.{shiftMinutes}
+use Rattle.turn.specs.Turn.{shiftMinutes}
 use Rattle.model.specs.Choice.{has, chosen}
 use Rattle.model.proofs.Choices.{none-chosen, chosen-put, chosen-put-most}
-use Rattle.choicemap.proofs.Clean.{zeros-at}
-use Rattle.problem.specs.declared.ways.Row.{Row}
-use Rattle.problem.specs.Ways.{turnRow}
-use Rattle.problem.specs.Columns.{rowIn}
-use Rattle.problem.proofs.Rows.{slope-at, groomer-at, start-at, end-at}
-use Rattle.hallmodel.specs.Hall.{Hall, windowCount, vehicle, draw, sameVehicle, chargesAt, drawAt, drawnAt, vehicleFree, supplyLasts, staysAllowed}
-use Rattle.hallmodel.proofs.Windows.{vehicle-is, is-vehicle, charges-in, in-charges, drawAt-charging, drawAt-not}
-use Rattle.hallmodel.proofs.Allowing.{free-vehicle}
-use Rattle.charging.specs.declared.among.Among.{Among}
-use Rattle.charging.specs.Bounds.{HallHeld}
+use Rattle.choice_map.proofs.Clean.{zeros-at}
+use Rattle.instance.specs.declared.ways.Row.{Row}
+use Rattle.instance.specs.Ways.{turnRow}
+use Rattle.instance.specs.Columns.{rowIn}
+use Rattle.instance.proofs.Rows.{slope-at, groomer-at, start-at, end-at}
+use Rattle.hall_spec.specs.Hall.{Hall, windowCount, vehicle, draw, sameVehicle, chargesAt, drawAt, drawnAt, vehicleFree, supplyLasts, staysAllowed}
+use Rattle.hall_spec.proofs.Windows.{vehicle-is, is-vehicle, charges-in, in-charges, drawAt-charging, drawAt-not}
+use Rattle.hall_spec.proofs.Allowing.{free-vehicle}
+use Rattle.hall_steps.specs.declared.among.Among.{Among}
+use Rattle.hall_steps.specs.Bounds.{HallHeld}
 use Rattle.hall.specs.Supply.{usedPlaces, lastsRow, allowedRow, RowInHall, RoomFor, Drawn, WithWindow, Supplied}
 
 -- ---- tests

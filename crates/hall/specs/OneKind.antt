@@ -2,13 +2,13 @@
 use Prim.Native.Nat.{ℕ}
 use mathlib.Core.Bool.{Bool, false}
 use mathlib.Core.List.{List}
-use Rattle.problem.specs.declared.columns.Size.{Size}
-use Rattle.problem.specs.Columns.{turnsBy}
-use Rattle.hallmodel.specs.Hall.{Hall}
-use Rattle.hallmodel.specs.Plan.{chooseAmong}
-use Rattle.charging.specs.declared.among.Among.{Among}
-use Rattle.charging.specs.Among.{hallBy, ofKind, stepsBy}
-use Rattle.charging.specs.Bounds.{HallHeld}
+use Rattle.instance.specs.declared.columns.Size.{Size}
+use Rattle.instance.specs.Columns.{turnsBy}
+use Rattle.hall_spec.specs.Hall.{Hall}
+use Rattle.hall_spec.specs.Plan.{chooseAmong}
+use Rattle.hall_steps.specs.declared.among.Among.{Among}
+use Rattle.hall_steps.specs.Among.{hallBy, ofKind, stepsBy}
+use Rattle.hall_steps.specs.Bounds.{HallHeld}
 
 -- the kind's plan
 unfoldable pub kindChoice : Among → List ℕ → List Bool

@@ -7,9 +7,9 @@ use mathlib.Core.List.{List}
 use lib.ListN.{length, getD}
 use lib.Dec.{leb, eqb}
 use Rattle.lists.specs.Lists.{every}
-use Rattle.turns.specs.Turn.{shiftMinutes}
-use Rattle.problem.specs.declared.ways.Row.{Row}
-use Rattle.hallmodel.specs.Hall.{mostUnits, mostVehicles, Hall, windowCount, vehicle, drawnAt, vehicleFree}
+use Rattle.turn.specs.Turn.{shiftMinutes}
+use Rattle.instance.specs.declared.ways.Row.{Row}
+use Rattle.hall_spec.specs.Hall.{mostUnits, mostVehicles, Hall, windowCount, vehicle, drawnAt, vehicleFree}
 
 -- the places: the minutes of a shift, then vehicles by their numbers from 0
 abbrev pub usedPlaces : ℕ

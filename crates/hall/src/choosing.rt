@@ -6,23 +6,23 @@ ghost use Prim.Native.Nat.{_*_, _≤_, _<_};
 ghost use lib.ListN.{length, replicate};
 ghost use Rattle.model.specs.Choice.{choose, chooseEach};
 ghost use Rattle.sheet.specs.Kind.{mostTurns};
-ghost use Rattle.choicemap.specs.Choice.{choiceIn, Clean};
+ghost use Rattle.choice_map.specs.Choice.{choiceIn, Clean};
 ghost use Rattle.board.specs.Board.{stepSize, stepsIn};
-ghost use Rattle.choices.specs.Bounds.{StepsOf};
-ghost use Rattle.chooser.specs.Asked.{NumbersOf};
-ghost use Rattle.hallmodel.specs.Hall.{staysAllowed};
-ghost use Rattle.hallmodel.specs.Plan.{fitsAmong, chooseAmong};
-ghost use Rattle.charging.specs.Among.{hallBy, ofKind};
-ghost use Rattle.charging.specs.Bounds.{HallHeld};
+ghost use Rattle.selection.specs.Bounds.{StepsOf};
+ghost use Rattle.selection.specs.Asked.{NumbersOf};
+ghost use Rattle.hall_spec.specs.Hall.{staysAllowed};
+ghost use Rattle.hall_spec.specs.Plan.{fitsAmong, chooseAmong};
+ghost use Rattle.hall_steps.specs.Among.{hallBy, ofKind};
+ghost use Rattle.hall_steps.specs.Bounds.{HallHeld};
 ghost use Rattle.hall.specs.Supply.{Supplied};
 use super::supply::USED;
 use super::supply::is_allowed;
 use super::supply::use_row;
-use charging::Among;
-use chooser::ASKED;
-use chooser::put_asked;
-use problem::PLACES;
-use problem::row_at;
+use hall_steps::Among;
+use instance::PLACES;
+use instance::row_at;
+use selection::ASKED;
+use selection::put_asked;
 
 // Chooses window j if the set stays allowed.
 fn add_if_allowed(a: Among, cols: &[u16; PLACES], map: &mut [u8], used: &mut [u8; USED], j: usize)
@@ -35,7 +35,7 @@ fn add_if_allowed(a: Among, cols: &[u16; PLACES], map: &mut [u8], used: &mut [u8
 {
     let row = row_at(cols, j);
     if is_allowed(a.units, &*used, row) {
-        choicemap::set_bit(&mut *map, j);
+        choice_map::set_bit(&mut *map, j);
         use_row(&mut *used, a.units, row);
     }
 }
@@ -49,7 +49,7 @@ fn add_of_kind(a: Among, cols: &[u16; PLACES], map: &mut [u8], used: &mut [u8; U
     ensures { λ _. ⌜ Clean (a .size .count) (now (map .exit)) ⌝ }
     ensures { λ _. ⌜ Supplied (hallBy a (now (cols .entry))) (choiceIn (a .size .count) (now (map .exit))) (now (used .exit)) ⌝ }
 {
-    if charging::is_of_kind(a, row_at(cols, j)) {
+    if hall_steps::is_of_kind(a, row_at(cols, j)) {
         add_if_allowed(a, cols, &mut *map, &mut *used, j);
     }
 }

@@ -3,28 +3,29 @@
 ghost use mathlib.Core.Path.{_≡_};
 ghost use mathlib.Core.Bool.{false};
 ghost use lib.ListN.{length, replicate};
-ghost use Rattle.choicemap.specs.Choice.{choiceIn, mapBytes, mapOf, Clean};
-ghost use Rattle.hallmodel.specs.Plan.{hallChoice, hallWorth, worthIn};
-ghost use Rattle.charging.specs.Among.{hallBy};
-ghost use Rattle.charging.specs.Bounds.{HallHeld};
+ghost use Rattle.choice_map.specs.Choice.{choiceIn, mapBytes, mapOf, Clean};
+ghost use Rattle.hall_spec.specs.Plan.{hallChoice, hallWorth, worthIn};
+ghost use Rattle.hall_steps.specs.Among.{hallBy};
+ghost use Rattle.hall_steps.specs.Bounds.{HallHeld};
 ghost use Rattle.hall.specs.OneKind.{kindChoice, hallIn, HeldHall};
-ghost use Rattle.hall.specs.Charge.{chargingSheet, chargeIn, chargeOf};
-ghost use Rattle.hall.specs.Answer.{charged, chargeRefused};
+ghost use Rattle.hall_spec.specs.Charge.{chargingSheet, chargeIn, chargeOf};
+ghost use Rattle.hall_spec.specs.Answer.{charged, chargeRefused};
 
 mod choosing;
 mod supply;
 
-use charging::Among;
 pub use choosing::choose_listed;
 use choosing::choose_windows;
-use problem::MOST_TURNS;
-use problem::PLACES;
-use problem::Size;
+use hall_spec::ChargeAnswer;
+use hall_steps::Among;
+use instance::MOST_TURNS;
+use instance::PLACES;
+use instance::Size;
 use sheet::Kind;
 use sheet::Maps;
 use sheet::Most;
 use supply::MOST_VEHICLES;
-use turns::Refusals;
+use turn::Refusals;
 
 // The most units that a hall has.
 const MOST_UNITS: u16 = 48;
@@ -36,13 +37,6 @@ pub const HALL_GAP: u16 = 0;
 const MAP_BYTES: usize = (MOST_TURNS + 7) / 8;
 
 const STEPS_BYTES: usize = board::STEP_SIZE * MOST_TURNS;
-
-// What the entry returns: a refusal, 0 if none, and the worth of the plan, 0 on a refusal.
-#[repr(C)]
-pub struct ChargeAnswer {
-    pub refusal: u8,
-    pub worth: u32,
-}
 
 // A charging sheet: its first count is the hall's units, its second the vehicles, and a window's second field
 // is its draw. No map has a driver.
@@ -76,9 +70,9 @@ fn plan_kind(a: Among, cols: &[u16; PLACES], map: &mut [u8]) -> u32
     ensures { λ _. ⌜ now (map .exit) ≡ mapOf (kindChoice a (now (cols .entry))) ⌝ }
 {
     let mut steps = [0u8; STEPS_BYTES];
-    let m = charging::plan_among(a, cols, &mut steps);
+    let m = hall_steps::plan_among(a, cols, &mut steps);
     choose_windows(a, cols, &steps, m, &mut *map);
-    choices::chosen_worth(a.size, cols, &*map)
+    selection::chosen_worth(a.size, cols, &*map)
 }
 
 // Plans both kinds, each into a map of its own, and copies one of them out: the wide windows' only if it earns
@@ -133,7 +127,7 @@ fn answer(units: u16, p: Size, cols: &[u16; PLACES], map: &mut [u8]) -> ChargeAn
     requires { ⌜ HeldHall units p (now cols) ⌝ }
     ensures { λ r. ⌜ charged r (now (map .exit)) ≡ chargeIn (hallIn units p (now (cols .entry))) (now (map .entry)) ⌝ }
 {
-    let size = choicemap::map_bytes(p.count as u16);
+    let size = choice_map::map_bytes(p.count as u16);
     if map.len() < size {
         return refused(refusal::BUFFER_TOO_SMALL);
     }
@@ -150,7 +144,7 @@ pub fn charge(s: &[u8], map: &mut [u8]) -> ChargeAnswer
 {
     let mut cols = [0u16; PLACES];
     let mut room = [0u16; PLACES];
-    let r = problem::load_as(charging_sheet(), s, &mut cols, &mut room);
+    let r = instance::load_as(charging_sheet(), s, &mut cols, &mut room);
     let fault = r.refusal;
     if fault != 0 {
         return refused(fault);

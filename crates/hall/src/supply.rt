@@ -3,9 +3,9 @@
 ghost use mathlib.Core.Path.{_≡_};
 ghost use lib.ListN.{length};
 ghost use Rattle.hall.specs.Supply.{usedPlaces, lastsRow, allowedRow, RowInHall, RoomFor, Drawn, WithWindow};
-use problem::Row;
+use instance::Row;
 
-const MINUTES: usize = turns::SHIFT_MINUTES as usize;
+const MINUTES: usize = turn::SHIFT_MINUTES as usize;
 
 // Vehicles have numbers from 1 on; place 0 is not used.
 pub const MOST_VEHICLES: u16 = 60;

@@ -7,11 +7,11 @@ use lib.ListN.{length, set, replicate, length-set, length-replicate}
 use Rattle.model.specs.Choice.{has, members, chooseEach, back, fill}
 use Rattle.model.proofs.Choices.{each-kept}
 use Rattle.model.proofs.Members.{chosen-members}
-use Rattle.optimum.specs.Groomers.{keep}
-use Rattle.hallmodel.specs.Hall.{Hall, windowCount, isWide, staysAllowed, AllowedChoice}
-use Rattle.hallmodel.specs.Plan.{worthIn}
-use Rattle.hallmodel.specs.Promises.{worthOfWindows}
-use Rattle.hallmodel.proofs.Allowing.{Admissible, admissible-allowed, allowed-admissible, put-admissible, chosen-allowed}
+use Rattle.best_spec.specs.Groomers.{keep}
+use Rattle.hall_spec.specs.Hall.{Hall, windowCount, isWide, staysAllowed, AllowedChoice}
+use Rattle.hall_spec.specs.Plan.{worthIn}
+use Rattle.hall_spec.specs.Promises.{worthOfWindows}
+use Rattle.hall_spec.proofs.Allowing.{Admissible, admissible-allowed, allowed-admissible, put-admissible, chosen-allowed}
 use Rattle.refine_spec.specs.Selection.{byWorth, choiceFrom}
 
 module _ (H : Hall) where

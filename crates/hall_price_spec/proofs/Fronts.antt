@@ -9,12 +9,12 @@ use lib.ListN.{length, getD, replicate, replicate-append-replicate, length-repli
 use Rattle.lists.specs.Lists.{sum, below, tab}
 use Rattle.lists.proofs.Bools.{fails}
 use Rattle.lists.proofs.Sums.{sum-zero, sum-same, all-below, tab-length, tab-same}
-use Rattle.turns.specs.Turn.{shiftMinutes}
+use Rattle.turn.specs.Turn.{shiftMinutes}
 use Rattle.model.specs.Choice.{has, chosen}
-use Rattle.optimum.specs.Table.{Best, isAmong}
-use Rattle.hallmodel.specs.Hall.{Hall, windowCount, vehicle, chargesAt, drawAt, drawnAt, staysAllowed}
-use Rattle.hallmodel.specs.Plan.{worthIn, hallChoice}
-use Rattle.hallmodel.proofs.Windows.{charges-in, drawAt-not}
+use Rattle.best_spec.specs.Table.{Best, isAmong}
+use Rattle.hall_spec.specs.Hall.{Hall, windowCount, vehicle, chargesAt, drawAt, drawnAt, staysAllowed}
+use Rattle.hall_spec.specs.Plan.{worthIn, hallChoice}
+use Rattle.hall_spec.proofs.Windows.{charges-in, drawAt-not}
 use Rattle.refine_spec.specs.Rounds.{Rule, Stage, startFrom, lowerLimit, betterChoice, looked, moving, refined, greatestOf, firstChange}
 use Rattle.refine_spec.specs.Selection.{choiceFrom}
 use Rattle.refine_spec.proofs.Rounds.{looked-prices}

@@ -14,14 +14,14 @@ use Rattle.lists.proofs.Bools.{not-both, fails, or-1, up-to}
 use Rattle.lists.proofs.Sums.{sum-mono, sum-same, sum-zero, all-of, all-map, tab-at}
 use Rattle.model.specs.Choice.{has}
 use Rattle.model.proofs.Groups.{Apart, apart-from, Clique, one-of}
-use Rattle.optimum.specs.Table.{Best, noTurns, greater, isAmong}
-use Rattle.optimum.proofs.Members.{among-cons}
-use Rattle.turns.specs.Turn.{shiftMinutes}
+use Rattle.best_spec.specs.Table.{Best, noTurns, greater, isAmong}
+use Rattle.best_spec.proofs.Members.{among-cons}
+use Rattle.turn.specs.Turn.{shiftMinutes}
 use Rattle.price_spec.specs.Promises.{AllFree}
 use Rattle.price_spec.proofs.Duality.{weak-duality, paid-costs, paid-one}
-use Rattle.hallmodel.specs.Hall.{Hall, windowCount, vehicle, draw, sameVehicle, chargesAt, drawAt, Allowed}
-use Rattle.hallmodel.specs.Promises.{worthOfWindows}
-use Rattle.hallmodel.proofs.Windows.{vehicle-is, is-vehicle}
+use Rattle.hall_spec.specs.Hall.{Hall, windowCount, vehicle, draw, sameVehicle, chargesAt, drawAt, Allowed}
+use Rattle.hall_spec.specs.Promises.{worthOfWindows}
+use Rattle.hall_spec.proofs.Windows.{vehicle-is, is-vehicle}
 use Rattle.hall_price_spec.specs.Prices.{priceParts, minutePrice, minutesCost, windowPays, windowCounts, alone, richestOf, vehicleBest, supplyCost, hallLimit, hallRelaxed, MostOfVehicle, TakenWindow}
 
 -- ---- sums

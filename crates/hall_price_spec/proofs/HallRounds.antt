@@ -11,11 +11,11 @@ use lib.ListN.{length, getD, replicate, length-replicate, getD-replicate, List·
 use borrow.Author.Tests.{lt-ltb, le-ltb}
 use Rattle.lists.specs.Lists.{tab}
 use Rattle.lists.proofs.Sums.{tab-length, tab-at}
-use Rattle.turns.specs.Turn.{shiftMinutes}
-use Rattle.hallmodel.specs.Hall.{Hall, windowCount, vehicle, drawnAt, Allowed, AllowedChoice}
-use Rattle.hallmodel.specs.Plan.{roundedUp, worthIn, hallChoice, hallWorth}
-use Rattle.hallmodel.specs.Promises.{worthOfWindows}
-use Rattle.hallmodel.proofs.Halls.{plan-allowed, plan-length}
+use Rattle.turn.specs.Turn.{shiftMinutes}
+use Rattle.hall_spec.specs.Hall.{Hall, windowCount, vehicle, drawnAt, Allowed, AllowedChoice}
+use Rattle.hall_spec.specs.Plan.{roundedUp, worthIn, hallChoice, hallWorth}
+use Rattle.hall_spec.specs.Promises.{worthOfWindows}
+use Rattle.hall_spec.proofs.Halls.{plan-allowed, plan-length}
 use Rattle.refine_spec.specs.Rounds.{Rule, Stage, startFrom}
 use Rattle.refine_spec.proofs.Rounds.{listed-limit, chosen-worth, choice-kept, lists-kept, worth-grows, more-rounds, rounds-most, rounds-ended, not-met-before}
 use Rattle.hall_price_spec.specs.Prices.{minutePrice, hallLimit, hallRelaxed}

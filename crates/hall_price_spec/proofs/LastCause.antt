@@ -14,8 +14,8 @@ use Rattle.sheet.specs.Accepted.{placeOf, CauseFor}
 use Rattle.sheet.proofs.Readings.{causes-numbered}
 use Rattle.sheet.proofs.Causes.{cause-there-for, there-cause-for}
 use Rattle.sheet.proofs.ReadCauses.{sheet-places}
-use Rattle.hall.specs.Charge.{chargingSheet}
-use Rattle.hall.proofs.Charges.{charging-sound}
+use Rattle.hall_spec.specs.Charge.{chargingSheet}
+use Rattle.hall_spec.proofs.ChargingSheets.{charging-sound}
 
 module _ (s : List ℕ) (c : Cause) where
   -- the sheet's causes, and this one

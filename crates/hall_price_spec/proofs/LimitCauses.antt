@@ -11,14 +11,14 @@ use borrow.Author.Tests.{eqb-true, eqb-false, eq-eqb, ne-eqb, not-true, not-fals
 use Rattle.refusal.specs.Number.{badPrices}
 use Rattle.refusal.specs.Cause.{Cause, _when_, There, firstOf}
 use Rattle.wire.specs.Number.{Bytes}
-use Rattle.turns.specs.Turn.{shiftMinutes}
+use Rattle.turn.specs.Turn.{shiftMinutes}
 use Rattle.sheet.specs.Read.{turnCount, causesFor}
 use Rattle.sheet.specs.Accepted.{placeOf, CauseFor}
 use Rattle.sheet.proofs.Accepting.{accepted-iff-for}
-use Rattle.sheet.proofs.Causes.{first-same}
+use Rattle.refusal.proofs.Order.{first-same}
 use Rattle.price_spec.specs.Limit.{limitIs, limitRefused}
-use Rattle.hall.specs.Charge.{chargingSheet, AcceptedCharging}
-use Rattle.hall.proofs.Charges.{charging-sound}
+use Rattle.hall_spec.specs.Charge.{chargingSheet, AcceptedCharging}
+use Rattle.hall_spec.proofs.ChargingSheets.{charging-sound}
 use Rattle.hall_price_spec.specs.Limit.{chargeLimitCauses, sheetHallLimit, chargeLimitOf, ChargeLimitCause, of-sheet, other-length, FirstChargeLimitCause}
 use Rattle.hall_price_spec.proofs.LastCause.{there-last, sheet-there, last-there, last-clear, clear-last}
 

@@ -6,11 +6,11 @@ use native.Mathlib.Omega.{arith}
 use Rattle.refusal.specs.Cause.{firstOf}
 use Rattle.lists.specs.Lists.{sum, below}
 use Rattle.sheet.specs.Read.{countsIn, turnCount, causesFor}
-use Rattle.problem.proofs.Posed.{sheet-count-for, sheet-slopes-for}
-use Rattle.hallmodel.specs.Hall.{hallGap, windowCount, vehicle}
+use Rattle.instance_spec.proofs.SheetTurns.{sheet-count-for, sheet-slopes-for}
+use Rattle.hall_spec.specs.Hall.{hallGap, windowCount, vehicle}
 use Rattle.price_spec.specs.declared.LimitAnswer.{LimitAnswer}
-use Rattle.hall.specs.Charge.{chargingSheet, hallOf}
-use Rattle.hall.proofs.Charges.{charging-sound}
+use Rattle.hall_spec.specs.Charge.{chargingSheet, hallOf}
+use Rattle.hall_spec.proofs.ChargingSheets.{charging-sound}
 use Rattle.hall_price_spec.specs.Prices.{richestOf, hallLimit}
 use Rattle.hall_price_spec.specs.Limit.{sheetHallLimit, chargeLimitOf}
 use Rattle.hall_price_spec.specs.Promises.{ChargeLimitPromised}

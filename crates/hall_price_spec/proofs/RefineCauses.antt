@@ -12,14 +12,14 @@ use Rattle.lists.proofs.Bools.{or-cases, or-1, or-2, or-false-1, or-false-2}
 use Rattle.refusal.specs.Number.{bufferTooSmall}
 use Rattle.refusal.specs.Cause.{Cause, _when_, There, firstOf}
 use Rattle.wire.specs.Number.{Bytes}
-use Rattle.turns.specs.Turn.{shiftMinutes}
+use Rattle.turn.specs.Turn.{shiftMinutes}
 use Rattle.sheet.specs.Read.{countsIn, turnCount, causesFor}
 use Rattle.sheet.specs.Accepted.{placeOf, CauseFor}
 use Rattle.sheet.proofs.Accepting.{accepted-iff-for}
-use Rattle.sheet.proofs.Causes.{first-same}
-use Rattle.choicemap.specs.Choice.{mapBytes}
-use Rattle.hall.specs.Charge.{chargingSheet, hallOf, AcceptedCharging}
-use Rattle.hall.proofs.Charges.{charging-sound}
+use Rattle.refusal.proofs.Order.{first-same}
+use Rattle.choice_map.specs.Choice.{mapBytes}
+use Rattle.hall_spec.specs.Charge.{chargingSheet, hallOf, AcceptedCharging}
+use Rattle.hall_spec.proofs.ChargingSheets.{charging-sound}
 use Rattle.hall_price_spec.specs.Hall.{hallRefined}
 use Rattle.hall_price_spec.specs.Refine.{ChargeRefinement, chargeRefineCauses, chargeRefinement, notChargeRefined, chargeRefineOf, ChargeRefineCause, of-sheet, few-bytes, few-prices, FirstChargeRefineCause}
 use Rattle.hall_price_spec.proofs.LastCause.{there-last, sheet-there, last-there, last-clear, clear-last}

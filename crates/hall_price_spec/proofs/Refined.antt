@@ -11,16 +11,17 @@ use lib.Seq.{take-at, drop-at}
 use borrow.Author.Tests.{le-ltb}
 use Rattle.refusal.specs.Number.{bufferTooSmall}
 use Rattle.refusal.specs.Cause.{_when_, firstOf}
-use Rattle.turns.specs.Turn.{shiftMinutes}
-use Rattle.sheet.specs.Read.{countsIn, turnCount, causesFor, atFront}
-use Rattle.choicemap.specs.Choice.{mapBytes, mapOf, choiceIn}
-use Rattle.choicemap.proofs.Clean.{map-length, map-choice}
-use Rattle.hallmodel.specs.Hall.{Hall, Allowed}
-use Rattle.hallmodel.specs.Plan.{hallWorth}
-use Rattle.hallmodel.specs.Promises.{worthOfWindows}
+use Rattle.turn.specs.Turn.{shiftMinutes}
+use Rattle.sheet.specs.Read.{countsIn, turnCount, causesFor}
+use Rattle.refusal.specs.Written.{atFront}
+use Rattle.choice_map.specs.Choice.{mapBytes, mapOf, choiceIn}
+use Rattle.choice_map.proofs.Clean.{map-length, map-choice}
+use Rattle.hall_spec.specs.Hall.{Hall, Allowed}
+use Rattle.hall_spec.specs.Plan.{hallWorth}
+use Rattle.hall_spec.specs.Promises.{worthOfWindows}
 use Rattle.price_spec.specs.Limit.{limitIs}
-use Rattle.hall.specs.Charge.{chargingSheet, hallOf, Charged, chargeCauses, chargeOf}
-use Rattle.hall.proofs.ChargeCauses.{charge-number, charge-answers}
+use Rattle.hall_spec.specs.Charge.{chargingSheet, hallOf, Charged, chargeCauses, chargeOf}
+use Rattle.hall_spec.proofs.ChargeCauses.{charge-number, charge-answers}
 use Rattle.refine_spec.specs.Rounds.{Stage}
 use Rattle.hall_price_spec.specs.Hall.{hallRefined}
 use Rattle.hall_price_spec.specs.Limit.{sheetHallLimit, chargeLimitOf}

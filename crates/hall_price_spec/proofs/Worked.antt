@@ -9,26 +9,26 @@ use lib.ListN.{length, replicate}
 use borrow.Author.Tests.{leb-true}
 use Rattle.refusal.specs.Cause.{firstOf}
 use Rattle.wire.specs.Mark.{opensWith}
-use Rattle.turns.specs.Turn.{shiftMinutes, outsideRange, pastShift, turnCauses}
+use Rattle.turn.specs.Turn.{shiftMinutes, outsideRange, pastShift, turnCauses}
 use Rattle.sheet.specs.Record.{widthOf, field, turnFrom, badMapFor, endAt, turnAt, cursorAfter, recordCauses, firstCursor}
 use Rattle.sheet.specs.Read.{countsIn, countCauses, headerCauses, recordsCauses, turnsFrom, causesFor, turnsOf}
-use Rattle.choicemap.specs.Choice.{byteOf, mapOf}
-use Rattle.problem.specs.Problem.{problemOf}
+use Rattle.choice_map.specs.Choice.{byteOf, mapOf}
+use Rattle.instance_spec.specs.Problem.{problemOf}
 use Rattle.lists.specs.Lists.{every, tab}
 use Rattle.lists.proofs.Bools.{every-at}
-use Rattle.sorting.specs.Sorting.{insertBy, sortBy}
+use Rattle.lists.specs.Sorting.{insertBy, sortBy}
 use Rattle.model.specs.Turns.{overlapping, overlap, bySlope, oneGroomer, byGroomer, oneDriver, byDriver, conflict}
 use Rattle.model.specs.Steps.{isOpen, left, initial, reduced, lessened, change, afterStep, afterStepBy}
 use Rattle.model.specs.Pick.{sooner, better, best, pick, nextStep, planBy, plan, steps}
 use Rattle.model.specs.Choice.{chosen, choose, chooseEach, back, fill}
-use Rattle.optimum.specs.Table.{greater, isAmong}
-use Rattle.optimum.specs.Groomers.{keep}
-use Rattle.hallmodel.specs.Hall.{Hall, windowCount, sameVehicle, shareMinute, chargesAt, drawAt, wideDraw, isWide, isSmall, drawnAt, vehicleFree, supplyLasts, staysAllowed}
-use Rattle.hallmodel.specs.Plan.{turnsAmong, wideSteps, roundedUp, smallTakes, smallSteps, fitsAmong, chooseAmong, wideChoice, smallChoice, worthIn, greaterOf, hallChoice}
-use Rattle.hallmodel.specs.Cases.{hallWith, oneUnit, twelveUnits}
+use Rattle.best_spec.specs.Table.{greater, isAmong}
+use Rattle.best_spec.specs.Groomers.{keep}
+use Rattle.hall_spec.specs.Hall.{Hall, windowCount, sameVehicle, shareMinute, chargesAt, drawAt, wideDraw, isWide, isSmall, drawnAt, vehicleFree, supplyLasts, staysAllowed}
+use Rattle.hall_spec.specs.Plan.{turnsAmong, wideSteps, roundedUp, smallTakes, smallSteps, fitsAmong, chooseAmong, wideChoice, smallChoice, worthIn, greaterOf, hallChoice}
+use Rattle.hall_spec.specs.Cases.{hallWith, oneUnit, twelveUnits}
 use Rattle.refine_spec.specs.Rounds.{Stage, startFrom, lowerLimit, betterChoice, looked, nextChange, moving, refined, greatestOf, firstChange}
 use Rattle.refine_spec.specs.Selection.{poorerFirst, byWorth, choiceFrom}
-use Rattle.hall.specs.Charge.{chargingSheet, hallOf}
+use Rattle.hall_spec.specs.Charge.{chargingSheet, hallOf}
 use Rattle.hall_price_spec.specs.Prices.{minutePrice, minutesCost, windowPays, windowCounts, richestOf, vehicleBest, supplyCost, hallLimit, hallRelaxed}
 use Rattle.hall_price_spec.specs.Limit.{chargeLimitCauses, sheetHallLimit, chargeLimitOf}
 use Rattle.hall_price_spec.specs.Hall.{movedMinute, hallRefined}

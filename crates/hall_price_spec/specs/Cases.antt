@@ -4,12 +4,12 @@ use mathlib.Core.Bool.{true, false}
 use mathlib.Core.List.{List, [], _∷_, _++_}
 use Prim.Native.Nat.{ℕ}
 use lib.ListN.{replicate, take}
-use Rattle.turns.specs.Turn.{shiftMinutes}
-use Rattle.hallmodel.specs.Hall.{Hall}
-use Rattle.hallmodel.specs.Cases.{window, hallWith, oneUnit, twelveUnits}
+use Rattle.turn.specs.Turn.{shiftMinutes}
+use Rattle.hall_spec.specs.Hall.{Hall}
+use Rattle.hall_spec.specs.Cases.{window, hallWith, oneUnit, twelveUnits}
 use Rattle.refine_spec.specs.Rounds.{Stage}
 use Rattle.price_spec.specs.Limit.{limitIs, limitRefused}
-use Rattle.hall.specs.Cases.{oneUnitSheet}
+use Rattle.hall_spec.specs.ChargeCases.{oneUnitSheet}
 use Rattle.hall_price_spec.specs.Prices.{hallLimit, hallRelaxed}
 use Rattle.hall_price_spec.specs.Limit.{chargeLimitOf}
 use Rattle.hall_price_spec.specs.Hall.{movedMinute, hallRefined}

@@ -5,9 +5,9 @@ use Prim.Native.Nat.{ℕ, _+_, _-_, _*_, _/_, min}
 use lib.Dec.{ltb}
 use lib.ListN.{replicate}
 use Rattle.lists.specs.Lists.{tab, below}
-use Rattle.turns.specs.Turn.{shiftMinutes}
-use Rattle.hallmodel.specs.Hall.{Hall, windowCount, drawnAt, staysAllowed}
-use Rattle.hallmodel.specs.Plan.{roundedUp, worthIn, hallChoice}
+use Rattle.turn.specs.Turn.{shiftMinutes}
+use Rattle.hall_spec.specs.Hall.{Hall, windowCount, drawnAt, staysAllowed}
+use Rattle.hall_spec.specs.Plan.{roundedUp, worthIn, hallChoice}
 use Rattle.refine_spec.specs.Rounds.{Rule, Stage, startFrom, refined, greatestOf, firstChange}
 use Rattle.refine_spec.specs.Selection.{choiceFrom}
 use Rattle.hall_price_spec.specs.Prices.{minutePrice, hallLimit, hallRelaxed}

@@ -7,12 +7,12 @@ use lib.ListN.{length}
 use lib.Dec.{eqb}
 use Rattle.refusal.specs.Number.{badPrices}
 use Rattle.refusal.specs.Cause.{Cause, _when_, firstOf, FirstAmong}
-use Rattle.turns.specs.Turn.{shiftMinutes}
+use Rattle.turn.specs.Turn.{shiftMinutes}
 use Rattle.sheet.specs.Read.{countsIn, turnCount, causesFor}
 use Rattle.sheet.specs.Accepted.{CauseFor, placeOf}
 use Rattle.price_spec.specs.declared.LimitAnswer.{LimitAnswer}
 use Rattle.price_spec.specs.Limit.{limitIs, limitRefused}
-use Rattle.hall.specs.Charge.{chargingSheet, hallOf}
+use Rattle.hall_spec.specs.Charge.{chargingSheet, hallOf}
 use Rattle.hall_price_spec.specs.Prices.{hallLimit}
 
 -- after the sheet's causes: a list that has not one number for each minute

@@ -7,9 +7,9 @@ use Prim.Native.Nat.{ℕ, zero, suc, _+_, _-_, _*_, _/_, _≤_, _<_}
 use lib.Dec.{eqb}
 use lib.ListN.{getD}
 use Rattle.lists.specs.Lists.{sum, tab, below}
-use Rattle.turns.specs.Turn.{shiftMinutes}
-use Rattle.optimum.specs.Table.{Best, noTurns, greater, isAmong}
-use Rattle.hallmodel.specs.Hall.{Hall, windowCount, vehicle, draw, chargesAt}
+use Rattle.turn.specs.Turn.{shiftMinutes}
+use Rattle.best_spec.specs.Table.{Best, noTurns, greater, isAmong}
+use Rattle.hall_spec.specs.Hall.{Hall, windowCount, vehicle, draw, chargesAt}
 
 -- prices are in parts of worth: so many parts are a worth of 1
 abbrev pub priceParts : ℕ

@@ -6,15 +6,15 @@ use mathlib.Core.List.{List}
 use Prim.Native.Nat.{ℕ, _+_, _≤_, _<_}
 use lib.ListN.{take, drop}
 use Rattle.lists.specs.Lists.{sum, below}
-use Rattle.turns.specs.Turn.{shiftMinutes}
+use Rattle.turn.specs.Turn.{shiftMinutes}
 use Rattle.sheet.specs.Read.{countsIn, turnCount}
-use Rattle.choicemap.specs.Choice.{mapBytes, mapOf, choiceIn}
-use Rattle.hallmodel.specs.Hall.{Allowed, AllowedChoice}
-use Rattle.hallmodel.specs.Plan.{worthIn}
-use Rattle.hallmodel.specs.Promises.{worthOfWindows}
+use Rattle.choice_map.specs.Choice.{mapBytes, mapOf, choiceIn}
+use Rattle.hall_spec.specs.Hall.{Allowed, AllowedChoice}
+use Rattle.hall_spec.specs.Plan.{worthIn}
+use Rattle.hall_spec.specs.Promises.{worthOfWindows}
 use Rattle.price_spec.specs.Limit.{limitIs}
 use Rattle.price_spec.specs.Promises.{AllFree}
-use Rattle.hall.specs.Charge.{hallOf, chargeOf}
+use Rattle.hall_spec.specs.Charge.{hallOf, chargeOf}
 use Rattle.hall_price_spec.specs.Prices.{richestOf, vehicleBest, supplyCost, MostOfVehicle}
 use Rattle.hall_price_spec.specs.Limit.{chargeLimitOf}
 use Rattle.hall_price_spec.specs.Refine.{chargeRefineOf}

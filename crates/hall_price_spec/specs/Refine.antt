@@ -6,11 +6,12 @@ use lib.ListN.{length}
 use lib.Dec.{ltb, eqb}
 use Rattle.refusal.specs.Number.{bufferTooSmall}
 use Rattle.refusal.specs.Cause.{Cause, _when_, firstOf, FirstAmong}
-use Rattle.turns.specs.Turn.{shiftMinutes}
-use Rattle.sheet.specs.Read.{countsIn, turnCount, causesFor, atFront}
+use Rattle.turn.specs.Turn.{shiftMinutes}
+use Rattle.sheet.specs.Read.{countsIn, turnCount, causesFor}
+use Rattle.refusal.specs.Written.{atFront}
 use Rattle.sheet.specs.Accepted.{CauseFor, placeOf}
-use Rattle.choicemap.specs.Choice.{mapBytes, mapOf}
-use Rattle.hall.specs.Charge.{chargingSheet, hallOf}
+use Rattle.choice_map.specs.Choice.{mapBytes, mapOf}
+use Rattle.hall_spec.specs.Charge.{chargingSheet, hallOf}
 use Rattle.refine_spec.specs.Rounds.{Stage}
 use Rattle.hall_price_spec.specs.Hall.{hallRefined}
 

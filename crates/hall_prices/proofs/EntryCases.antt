@@ -10,16 +10,17 @@ use borrow.Author.Tests.{eq-eqb, ne-eqb}
 use Rattle.refusal.specs.Number.{badPrices}
 use Rattle.refusal.specs.Cause.{Cause, _when_, firstOf}
 use Rattle.refusal.proofs.Order.{first-stops, first-goes}
-use Rattle.turns.specs.Turn.{shiftMinutes}
+use Rattle.turn.specs.Turn.{shiftMinutes}
 use Rattle.sheet.specs.declared.kind.Kind.{Kind}
 use Rattle.sheet.specs.declared.answer.ReadAnswer.{ReadAnswer}
 use Rattle.sheet.specs.Read.{countsIn, causesFor, answerFor}
 use Rattle.sheet.proofs.Readings.{causes-numbered}
 use Rattle.sheet.proofs.Whole.{whole-refusal-for, whole-answer-for}
-use Rattle.problem.specs.Load.{PosedFor}
-use Rattle.hallmodel.specs.Hall.{hallGap}
-use Rattle.hall.specs.Charge.{chargingSheet, hallOf}
-use Rattle.hall.proofs.Charges.{charging-sound, charging-given, vehicles-of, accepted, charge-held, hall-is}
+use Rattle.instance.specs.Load.{PosedFor}
+use Rattle.hall_spec.specs.Hall.{hallGap}
+use Rattle.hall_spec.specs.Charge.{chargingSheet, hallOf}
+use Rattle.hall_spec.proofs.ChargingSheets.{charging-sound, charging-given, vehicles-of}
+use Rattle.hall.proofs.Charges.{accepted, charge-held, hall-is}
 use Rattle.price_spec.specs.declared.LimitAnswer.{LimitAnswer}
 use Rattle.price_spec.specs.Limit.{limitIs, limitRefused}
 use Rattle.hall_price_spec.specs.Prices.{hallLimit}

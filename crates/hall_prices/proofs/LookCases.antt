@@ -16,15 +16,15 @@ use lib.Seq.{getD-set-same, getD-set-other}
 use borrow.Author.Tests.{eq-eqb, ne-eqb, lt-ltb, le-ltb, lt-leb, le-leb}
 use Rattle.lists.specs.Lists.{sum, below}
 use Rattle.lists.proofs.Sums.{sum-same}
-use Rattle.turns.specs.Turn.{shiftMinutes, mostWorth}
-use Rattle.optimum.specs.Table.{Best, noTurns, greater}
+use Rattle.turn.specs.Turn.{shiftMinutes, mostWorth}
+use Rattle.best_spec.specs.Table.{Best, noTurns, greater}
 use Rattle.sheet.specs.Kind.{mostTurns}
-use Rattle.choicemap.proofs.Clean.{zeros-at}
-use Rattle.problem.specs.declared.ways.Row.{Row}
-use Rattle.problem.specs.Columns.{rowIn}
-use Rattle.problem.proofs.Rows.{count-is, slope-at, groomer-at, start-at, end-at, worth-at}
-use Rattle.hallmodel.specs.Hall.{mostUnits, mostVehicles, Hall, vehicle, draw, chargesAt}
-use Rattle.hallmodel.proofs.Windows.{in-charges}
+use Rattle.choice_map.proofs.Clean.{zeros-at}
+use Rattle.instance.specs.declared.ways.Row.{Row}
+use Rattle.instance.specs.Columns.{rowIn}
+use Rattle.instance.proofs.Rows.{count-is, slope-at, groomer-at, start-at, end-at, worth-at}
+use Rattle.hall_spec.specs.Hall.{mostUnits, mostVehicles, Hall, vehicle, draw, chargesAt}
+use Rattle.hall_spec.proofs.Windows.{in-charges}
 use Rattle.hall_price_spec.specs.Prices.{priceParts, minutePrice, minutesCost, windowPays, windowCounts, alone, richestOf, vehicleBest, supplyCost, hallLimit}
 use Rattle.hall_prices.specs.declared.HallSize.{HallSize}
 use Rattle.hall_prices.specs.Held.{mostPrice, vehiclePlaces, hallFor, pricesBelow, rowCounts, countAt, bestsSum, windowBefore, HallPosed, Summed, WindowRow, Counted, Bests, TakenBy}

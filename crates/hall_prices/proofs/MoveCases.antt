@@ -15,17 +15,17 @@ use borrow.Author.Tests.{lt-ltb, le-ltb}
 use Rattle.lists.specs.Lists.{sum, below, tab}
 use Rattle.lists.proofs.Bools.{fails}
 use Rattle.lists.proofs.Sums.{sum-zero, sum-same, sum-split, all-below, tab-length, tab-at, tab-same}
-use Rattle.turns.specs.Turn.{shiftMinutes}
+use Rattle.turn.specs.Turn.{shiftMinutes}
 use Rattle.model.specs.Choice.{has, chosen}
-use Rattle.choicemap.specs.Choice.{chosenIn, choiceIn, nextChosen, Clean}
-use Rattle.choicemap.proofs.Clean.{choice-has, clean-bits, clear-bits}
-use Rattle.choicemap.proofs.NextChosen.{next-from, next-clear, next-chosen}
-use Rattle.problem.specs.declared.ways.Row.{Row}
-use Rattle.problem.specs.Columns.{rowIn}
-use Rattle.problem.proofs.Rows.{count-is, groomer-at, start-at, end-at}
-use Rattle.hallmodel.specs.Hall.{mostUnits, Hall, chargesAt, drawAt, drawnAt}
-use Rattle.hallmodel.specs.Plan.{roundedUp}
-use Rattle.hallmodel.proofs.Windows.{charges-in, in-charges, drawAt-charging, drawAt-not}
+use Rattle.choice_map.specs.Choice.{chosenIn, choiceIn, nextChosen, Clean}
+use Rattle.choice_map.proofs.Clean.{choice-has, clean-bits, clear-bits}
+use Rattle.choice_map.proofs.NextChosen.{next-from, next-clear, next-chosen}
+use Rattle.instance.specs.declared.ways.Row.{Row}
+use Rattle.instance.specs.Columns.{rowIn}
+use Rattle.instance.proofs.Rows.{count-is, groomer-at, start-at, end-at}
+use Rattle.hall_spec.specs.Hall.{mostUnits, Hall, chargesAt, drawAt, drawnAt}
+use Rattle.hall_spec.specs.Plan.{roundedUp}
+use Rattle.hall_spec.proofs.Windows.{charges-in, in-charges, drawAt-charging, drawAt-not}
 use Rattle.hall.specs.Supply.{Drawn}
 use Rattle.hall.proofs.Supplies.{draw-start, draw-done}
 use Rattle.hall_price_spec.specs.Prices.{minutePrice}

@@ -12,21 +12,22 @@ use Rattle.lists.proofs.Bools.{or-1, or-2}
 use Rattle.refusal.specs.Number.{bufferTooSmall}
 use Rattle.refusal.specs.Cause.{Cause, _when_, firstOf}
 use Rattle.refusal.proofs.Order.{first-stops, first-goes}
-use Rattle.turns.specs.Turn.{shiftMinutes}
+use Rattle.turn.specs.Turn.{shiftMinutes}
 use Rattle.sheet.specs.declared.kind.Kind.{Kind}
 use Rattle.sheet.specs.declared.answer.ReadAnswer.{ReadAnswer}
 use Rattle.sheet.specs.Read.{turnCount, causesFor, answerFor}
 use Rattle.sheet.proofs.Readings.{causes-numbered}
 use Rattle.sheet.proofs.Whole.{whole-refusal-for}
-use Rattle.choicemap.specs.Choice.{mapBytes, choiceIn, mapOf, Clean}
-use Rattle.choicemap.proofs.Clean.{clean-map, map-choice, map-clean}
-use Rattle.problem.specs.Load.{PosedFor}
-use Rattle.problem.proofs.Rows.{count-is}
-use Rattle.hallmodel.specs.Hall.{hallGap}
-use Rattle.hallmodel.specs.Plan.{hallChoice, hallWorth, worthIn}
-use Rattle.hallmodel.proofs.Halls.{plan-length}
-use Rattle.hall.specs.Charge.{chargingSheet}
-use Rattle.hall.proofs.Charges.{charging-sound, charging-given, accepted, count}
+use Rattle.choice_map.specs.Choice.{mapBytes, choiceIn, mapOf, Clean}
+use Rattle.choice_map.proofs.Clean.{clean-map, map-choice, map-clean}
+use Rattle.instance.specs.Load.{PosedFor}
+use Rattle.instance.proofs.Rows.{count-is}
+use Rattle.hall_spec.specs.Hall.{hallGap}
+use Rattle.hall_spec.specs.Plan.{hallChoice, hallWorth, worthIn}
+use Rattle.hall_spec.proofs.Halls.{plan-length}
+use Rattle.hall_spec.specs.Charge.{chargingSheet}
+use Rattle.hall_spec.proofs.ChargingSheets.{charging-sound, charging-given}
+use Rattle.hall.proofs.Charges.{accepted, count}
 use Rattle.refine_spec.specs.Rounds.{Stage}
 use Rattle.price_rounds.specs.declared.lowest.Reached.{Reached}
 use Rattle.price_rounds.specs.Held.{Reaches}

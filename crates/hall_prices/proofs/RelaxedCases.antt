@@ -16,12 +16,12 @@ use Rattle.lists.proofs.Bools.{fails}
 use Rattle.lists.proofs.Sums.{all-map, tab-same}
 use Rattle.model.specs.Choice.{has}
 use Rattle.model.proofs.Choices.{none-chosen}
-use Rattle.optimum.specs.Table.{Best, noTurns, greater, isAmong}
-use Rattle.optimum.proofs.Members.{among-all}
-use Rattle.choicemap.specs.Choice.{chosenIn, choiceIn, withTurn, Clean}
-use Rattle.choicemap.proofs.Clean.{choice-has, choice-length, choice-with, clean-bits, clean-with}
-use Rattle.problem.proofs.Rows.{count-is}
-use Rattle.hallmodel.specs.Hall.{Hall, windowCount, vehicle}
+use Rattle.best_spec.specs.Table.{Best, noTurns, greater, isAmong}
+use Rattle.best_spec.proofs.Members.{among-all}
+use Rattle.choice_map.specs.Choice.{chosenIn, choiceIn, withTurn, Clean}
+use Rattle.choice_map.proofs.Clean.{choice-has, choice-length, choice-with, clean-bits, clean-with}
+use Rattle.instance.proofs.Rows.{count-is}
+use Rattle.hall_spec.specs.Hall.{Hall, windowCount, vehicle}
 use Rattle.hall_price_spec.specs.Prices.{alone, windowCounts, richestOf, vehicleBest, hallRelaxed}
 use Rattle.hall_prices.specs.declared.HallSize.{HallSize}
 use Rattle.hall_prices.specs.Held.{vehiclePlaces, hallFor, windowBefore, HallPosed, TakenBy}

@@ -10,18 +10,18 @@ use lib.ListN.{length, getD, replicate, length-replicate}
 use borrow.Author.Tests.{lt-ltb, le-ltb}
 use Rattle.lists.specs.Lists.{sum, below}
 use Rattle.lists.proofs.Sums.{sum-zero, all-of, tab-length}
-use Rattle.turns.specs.Turn.{shiftMinutes, mostWorth}
+use Rattle.turn.specs.Turn.{shiftMinutes, mostWorth}
 use Rattle.wire.specs.Number.{puts}
 use Rattle.sheet.specs.Kind.{mostTurns}
 use Rattle.model.specs.Choice.{chosen}
-use Rattle.choicemap.specs.Choice.{mapBytes, choiceIn, Clean}
-use Rattle.choicemap.proofs.Clean.{zeros-at}
-use Rattle.problem.specs.Columns.{turnsBy, Held}
-use Rattle.problem.proofs.Rows.{count-is}
-use Rattle.choices.specs.Below.{chosenBelow}
-use Rattle.hallmodel.specs.Hall.{windowCount, vehicle}
-use Rattle.hallmodel.specs.Plan.{worthIn}
-use Rattle.charging.specs.Bounds.{HallHeld}
+use Rattle.choice_map.specs.Choice.{mapBytes, choiceIn, Clean}
+use Rattle.choice_map.proofs.Clean.{zeros-at}
+use Rattle.instance.specs.Columns.{turnsBy, Held}
+use Rattle.instance.proofs.Rows.{count-is}
+use Rattle.selection.specs.Below.{chosenBelow}
+use Rattle.hall_spec.specs.Hall.{windowCount, vehicle}
+use Rattle.hall_spec.specs.Plan.{worthIn}
+use Rattle.hall_steps.specs.Bounds.{HallHeld}
 use Rattle.refine_spec.specs.Rounds.{Rule, Stage, lowerLimit, betterChoice, looked, nextChange, moving, refined, greatestOf, firstChange}
 use Rattle.refine_spec.specs.Shift.{greatestWorth}
 use Rattle.refine_spec.proofs.Loop.{loop-stops, loop-left, loop-goes, first-same}

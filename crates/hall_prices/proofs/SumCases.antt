@@ -10,9 +10,9 @@ use mir.Syntax.{w32}
 use mir.Val.{Fits}
 use lib.ListN.{length, getD, set, length-set}
 use lib.Seq.{getD-set-same, getD-set-other}
-use Rattle.turns.specs.Turn.{shiftMinutes, mostWorth}
-use Rattle.problem.specs.declared.ways.Row.{Row}
-use Rattle.hallmodel.specs.Hall.{mostUnits}
+use Rattle.turn.specs.Turn.{shiftMinutes, mostWorth}
+use Rattle.instance.specs.declared.ways.Row.{Row}
+use Rattle.hall_spec.specs.Hall.{mostUnits}
 use Rattle.hall_price_spec.specs.Prices.{minutePrice}
 use Rattle.hall_prices.specs.Held.{mostPrice, sumPlaces, pricesBelow, rowCost, rowCounts, SummedTo, Summed, WindowRow}
 

@@ -4,10 +4,10 @@ use mathlib.Core.List.{List, [], _∷_}
 use Prim.Native.Nat.{ℕ, zero, suc, _+_, _-_, _*_, _/_, _≤_, _<_}
 use lib.ListN.{length, getD}
 use Rattle.lists.specs.Lists.{sum, below}
-use Rattle.turns.specs.Turn.{shiftMinutes, mostWorth}
+use Rattle.turn.specs.Turn.{shiftMinutes, mostWorth}
 use Rattle.sheet.specs.Kind.{mostTurns}
-use Rattle.problem.specs.declared.ways.Row.{Row}
-use Rattle.hallmodel.specs.Hall.{mostUnits, mostVehicles, Hall}
+use Rattle.instance.specs.declared.ways.Row.{Row}
+use Rattle.hall_spec.specs.Hall.{mostUnits, mostVehicles, Hall}
 use Rattle.hall.specs.OneKind.{hallIn, HeldHall}
 use Rattle.hall_price_spec.specs.Prices.{priceParts, minutePrice, windowCounts, richestOf, vehicleBest}
 use Rattle.hall_prices.specs.declared.HallSize.{HallSize}

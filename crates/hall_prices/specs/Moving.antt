@@ -5,10 +5,10 @@ use mathlib.Core.List.{List}
 use Prim.Native.Nat.{ℕ, zero, suc, _+_, _*_, _≤_, _<_}
 use lib.ListN.{length, getD}
 use Rattle.lists.specs.Lists.{tab}
-use Rattle.turns.specs.Turn.{shiftMinutes}
+use Rattle.turn.specs.Turn.{shiftMinutes}
 use Rattle.sheet.specs.Kind.{mostTurns}
-use Rattle.choicemap.specs.Choice.{withTurn}
-use Rattle.hallmodel.specs.Hall.{mostUnits, Hall, drawnAt}
+use Rattle.choice_map.specs.Choice.{withTurn}
+use Rattle.hall_spec.specs.Hall.{mostUnits, Hall, drawnAt}
 use Rattle.hall_price_spec.specs.Prices.{minutePrice}
 use Rattle.hall_price_spec.specs.Hall.{movedMinute}
 

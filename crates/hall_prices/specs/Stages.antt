@@ -6,10 +6,10 @@ use Prim.Native.Nat.{ℕ, _-_, _≤_}
 use lib.Dec.{ltb}
 use lib.ListN.{length, replicate}
 use Rattle.lists.specs.Lists.{below}
-use Rattle.turns.specs.Turn.{shiftMinutes}
-use Rattle.choicemap.specs.Choice.{choiceIn, Clean}
-use Rattle.hallmodel.specs.Hall.{Hall, windowCount, staysAllowed}
-use Rattle.hallmodel.specs.Plan.{worthIn}
+use Rattle.turn.specs.Turn.{shiftMinutes}
+use Rattle.choice_map.specs.Choice.{choiceIn, Clean}
+use Rattle.hall_spec.specs.Hall.{Hall, windowCount, staysAllowed}
+use Rattle.hall_spec.specs.Plan.{worthIn}
 use Rattle.refine_spec.specs.Rounds.{Stage, startFrom, refined, greatestOf, firstChange}
 use Rattle.refine_spec.specs.Selection.{choiceFrom}
 use Rattle.price_rounds.specs.Held.{stageOf}

@@ -7,8 +7,8 @@ mod relaxed;
 mod rounds;
 mod sums;
 
+use instance::Size;
 pub use limit::charge_limit;
-use problem::Size;
 pub use refine::charge_refine;
 
 // The units of a hall's supply, its vehicles, and how many windows it has.

@@ -6,9 +6,9 @@ use super::HallSize;
 use super::looking::VEHICLES;
 use super::looking::look;
 use super::sums::MINUTES;
+use instance::PLACES;
+use instance::Size;
 use price_spec::LimitAnswer;
-use problem::PLACES;
-use problem::Size;
 
 fn refused(k: u8) -> LimitAnswer
     ensures { λ r. ⌜ r ≡ limitRefused k ⌝ }
@@ -25,7 +25,7 @@ pub fn charge_limit(s: &[u8], prices: &[u16]) -> LimitAnswer
 {
     let mut cols = [0u16; PLACES];
     let mut room = [0u16; PLACES];
-    let r = problem::load_as(hall::charging_sheet(), s, &mut cols, &mut room);
+    let r = instance::load_as(hall::charging_sheet(), s, &mut cols, &mut room);
     let fault = r.refusal;
     if fault != 0 {
         return refused(fault);

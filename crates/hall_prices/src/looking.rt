@@ -2,9 +2,9 @@
 ghost use mathlib.Core.Path.{_≡_};
 ghost use Prim.Native.Nat.{_+_, _*_, _/_, _≤_, _<_};
 ghost use lib.ListN.{length, replicate};
-ghost use Rattle.turns.specs.Turn.{shiftMinutes};
+ghost use Rattle.turn.specs.Turn.{shiftMinutes};
 ghost use Rattle.sheet.specs.Kind.{mostTurns};
-ghost use Rattle.hallmodel.specs.Hall.{mostUnits, mostVehicles};
+ghost use Rattle.hall_spec.specs.Hall.{mostUnits, mostVehicles};
 ghost use Rattle.hall_price_spec.specs.Prices.{priceParts, supplyCost, hallLimit};
 ghost use Rattle.hall_prices.specs.Held.{mostPrice, vehiclePlaces, hallFor, bestsSum, HallPosed, Summed, Counted, Bests, TakenBy};
 use super::HallSize;
@@ -14,9 +14,9 @@ use super::sums::SUMS;
 use super::sums::counts_for;
 use super::sums::put_sums;
 use super::sums::wide;
-use problem::MOST_TURNS;
-use problem::PLACES;
-use problem::row_at;
+use instance::MOST_TURNS;
+use instance::PLACES;
+use instance::row_at;
 
 // A place for each number of a vehicle; place 0 is not used.
 pub const VEHICLES: usize = 61;

@@ -2,9 +2,9 @@
 ghost use mathlib.Core.Path.{_≡_};
 ghost use Prim.Native.Nat.{_≤_, _<_};
 ghost use lib.ListN.{length, getD, set, replicate};
-ghost use Rattle.turns.specs.Turn.{shiftMinutes};
-ghost use Rattle.choicemap.specs.Choice.{choiceIn, Clean};
-ghost use Rattle.hallmodel.specs.Hall.{mostUnits};
+ghost use Rattle.turn.specs.Turn.{shiftMinutes};
+ghost use Rattle.choice_map.specs.Choice.{choiceIn, Clean};
+ghost use Rattle.hall_spec.specs.Hall.{mostUnits};
 ghost use Rattle.hall.specs.Supply.{Drawn};
 ghost use Rattle.hall_price_spec.specs.Hall.{movedMinute, movedMinutes};
 ghost use Rattle.hall_prices.specs.Held.{hallFor, HallPosed, WindowRow};
@@ -12,9 +12,9 @@ ghost use Rattle.hall_prices.specs.Moving.{mostMinuteChange, mostDrawn, 
 use super::HallSize;
 use super::sums::MINUTES;
 use super::sums::wide;
-use problem::PLACES;
-use problem::Row;
-use problem::row_at;
+use instance::PLACES;
+use instance::Row;
+use instance::row_at;
 
 const HIGHEST_MINUTE_PRICE: u32 = 65535;
 
@@ -99,10 +99,10 @@ fn put_drawn(h: HallSize, cols: &[u16; PLACES], relaxed: &[u8], drawn: &mut [u16
     requires { ⌜ HallPosed h (now cols) × Clean (h .size .count) (now relaxed) × (now drawn ≡ replicate shiftMinutes 0) ⌝ }
     ensures { λ _. ⌜ DrawnBy (hallFor h (now (cols .entry))) (choiceIn (h .size .count) (now (relaxed .entry))) (now (drawn .exit)) ⌝ }
 {
-    let mut t = choicemap::next_chosen(relaxed, 0);
+    let mut t = choice_map::next_chosen(relaxed, 0);
     while t < h.size.count {
         draw_window(&mut *drawn, row_at(cols, t));
-        t = choicemap::next_chosen(relaxed, t + 1);
+        t = choice_map::next_chosen(relaxed, t + 1);
     }
 }
 

@@ -2,8 +2,8 @@
 ghost use mathlib.Core.Path.{_≡_};
 ghost use Prim.Native.Nat.{_≤_};
 ghost use lib.ListN.{length};
-ghost use Rattle.turns.specs.Turn.{shiftMinutes};
-ghost use Rattle.choicemap.specs.Choice.{mapBytes};
+ghost use Rattle.turn.specs.Turn.{shiftMinutes};
+ghost use Rattle.choice_map.specs.Choice.{mapBytes};
 ghost use Rattle.price_rounds.specs.Held.{Reaches};
 ghost use Rattle.hall_price_spec.specs.Hall.{hallRefined};
 ghost use Rattle.hall_price_spec.specs.Refine.{chargeRefinement, chargeRefineOf};
@@ -14,9 +14,9 @@ use super::rounds::HallTask;
 use super::rounds::make_rounds;
 use super::sums::MINUTES;
 use hall_price_spec::ChargeRefineAnswer;
+use instance::PLACES;
+use instance::Size;
 use price_rounds::Reached;
-use problem::PLACES;
-use problem::Size;
 
 // Plans the hall into a map, and makes the rounds from that choice.
 fn plan_rounds(
@@ -50,7 +50,7 @@ fn refine_hall(
     ensures { λ r. ⌜ chargeRefinedBy r (now (map .exit)) (now (prices .exit))
         ≡ chargeRefinement (hallRefined (hallFor h (now (cols .entry))) (h .vehicles) rounds) (now (map .entry)) (now (prices .entry)) ⌝ }
 {
-    let size = choicemap::map_bytes(h.size.count as u16);
+    let size = choice_map::map_bytes(h.size.count as u16);
     let r = plan_rounds(h, rounds, cols, &mut map[..size], &mut prices[..MINUTES]);
     ChargeRefineAnswer {
         refusal: 0,
@@ -84,12 +84,12 @@ pub fn charge_refine(
 {
     let mut cols = [0u16; PLACES];
     let mut room = [0u16; PLACES];
-    let r = problem::load_as(hall::charging_sheet(), s, &mut cols, &mut room);
+    let r = instance::load_as(hall::charging_sheet(), s, &mut cols, &mut room);
     let fault = r.refusal;
     if fault != 0 {
         return refused(fault);
     }
-    if map.len() < choicemap::map_bytes(r.turns) {
+    if map.len() < choice_map::map_bytes(r.turns) {
         return refused(refusal::BUFFER_TOO_SMALL);
     }
     if prices.len() < MINUTES {

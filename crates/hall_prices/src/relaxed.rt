@@ -3,13 +3,13 @@ ghost use mathlib.Core.Path.{_≡_};
 ghost use mathlib.Core.Bool.{false};
 ghost use Prim.Native.Nat.{_*_, _≤_};
 ghost use lib.ListN.{length, replicate};
-ghost use Rattle.choicemap.specs.Choice.{choiceIn, Clean};
+ghost use Rattle.choice_map.specs.Choice.{choiceIn, Clean};
 ghost use Rattle.hall_price_spec.specs.Prices.{hallRelaxed};
 ghost use Rattle.hall_prices.specs.Held.{hallFor, HallPosed, TakenBy};
 ghost use Rattle.hall_prices.specs.Moving.{withBefore};
 use super::HallSize;
 use super::looking::VEHICLES;
-use problem::PLACES;
+use instance::PLACES;
 
 // Sets the bit of the window before a number, of none before 0.
 fn put_before(number: u16, map: &mut [u8])
@@ -17,7 +17,7 @@ fn put_before(number: u16, map: &mut [u8])
     ensures { λ _. ⌜ now (map .exit) ≡ withBefore number (now (map .entry)) ⌝ }
 {
     if number != 0 {
-        choicemap::set_bit(map, (number - 1) as usize);
+        choice_map::set_bit(map, (number - 1) as usize);
     }
 }
 

@@ -4,8 +4,8 @@ ghost use mathlib.Core.Path.{_≡_};
 ghost use mathlib.Core.Bool.{false};
 ghost use Prim.Native.Nat.{_≤_};
 ghost use lib.ListN.{length, replicate};
-ghost use Rattle.turns.specs.Turn.{shiftMinutes};
-ghost use Rattle.choicemap.specs.Choice.{choiceIn, Clean};
+ghost use Rattle.turn.specs.Turn.{shiftMinutes};
+ghost use Rattle.choice_map.specs.Choice.{choiceIn, Clean};
 ghost use Rattle.lists.specs.Lists.{below};
 ghost use Rattle.refine_spec.specs.Rounds.{greatestOf, firstChange};
 ghost use Rattle.refine_spec.specs.Selection.{byWorth};
@@ -20,14 +20,14 @@ use super::looking::look;
 use super::moving::move_minutes;
 use super::relaxed::put_relaxed;
 use super::sums::MINUTES;
-use charging::Among;
+use hall_steps::Among;
+use instance::MOST_TURNS;
+use instance::PLACES;
 use price_rounds::Reached;
 use price_rounds::ended;
 use price_rounds::is_over;
 use price_rounds::keep_lower;
 use price_rounds::next_change;
-use problem::MOST_TURNS;
-use problem::PLACES;
 
 // A bit for each window that a sheet can have.
 const MAP_BYTES: usize = (MOST_TURNS + 7) / 8;
@@ -63,7 +63,7 @@ fn choose_from(h: HallSize, cols: &[u16; PLACES], ranks: &[u16], relaxed: &[u8],
     ensures { λ _. ⌜ choiceIn (h .size .count) (now (map .exit)) ≡ windowsMade (hallFor h (now (cols .entry))) (choiceIn (h .size .count) (now (relaxed .entry))) ⌝ }
     ensures { λ _. ⌜ Clean (h .size .count) (now (map .exit)) ⌝ }
 {
-    let mut numbers = [0u16; chooser::ASKED];
+    let mut numbers = [0u16; selection::ASKED];
     let count = price_rounds::put_list(ranks, relaxed, &mut numbers);
     let p = h.size;
     let all = Among {
@@ -91,10 +91,10 @@ fn keep_better(
     ensures { λ _. ⌜ Clean (h .size .count) (now (best .exit)) ⌝ }
 {
     let mut space = [0u8; MAP_BYTES];
-    let size = choicemap::map_bytes(h.size.count as u16);
+    let size = choice_map::map_bytes(h.size.count as u16);
     let map = &mut space[..size];
     choose_from(h, cols, ranks, relaxed, &mut *map);
-    let found = choices::chosen_worth(h.size, cols, &*map);
+    let found = selection::chosen_worth(h.size, cols, &*map);
     if found <= worth {
         return worth;
     }

@@ -2,12 +2,12 @@
 ghost use mathlib.Core.Path.{_≡_};
 ghost use Prim.Native.Nat.{_*_, _-_, _≤_, _<_};
 ghost use lib.ListN.{length};
-ghost use Rattle.turns.specs.Turn.{shiftMinutes, mostWorth};
+ghost use Rattle.turn.specs.Turn.{shiftMinutes, mostWorth};
 ghost use Rattle.hall_price_spec.specs.Prices.{minutePrice};
 ghost use Rattle.hall_prices.specs.Held.{mostPrice, sumPlaces, rowCost, rowCounts, Summed, WindowRow};
-use problem::Row;
+use instance::Row;
 
-pub const MINUTES: usize = turns::SHIFT_MINUTES as usize;
+pub const MINUTES: usize = turn::SHIFT_MINUTES as usize;
 
 // The sum of the prices before each minute, and of all.
 pub const SUMS: usize = MINUTES + 1;

@@ -1,5 +1,1 @@
-pub mod Improve
-pub mod Answer
-pub mod Sheet
 pub mod Start
-pub mod Cases

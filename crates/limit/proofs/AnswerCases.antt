@@ -10,7 +10,7 @@ use borrow.Author.Tests.{eq-eqb, ne-eqb}
 use Rattle.refusal.specs.Number.{badPrices}
 use Rattle.refusal.specs.Cause.{Cause, _when_, firstOf}
 use Rattle.refusal.proofs.Order.{first-stops, first-goes}
-use Rattle.turns.specs.Turn.{mostDriver}
+use Rattle.turn.specs.Turn.{mostDriver}
 use Rattle.sheet.specs.declared.answer.ReadAnswer.{ReadAnswer}
 use Rattle.sheet.specs.Kind.{garage}
 use Rattle.sheet.specs.Read.{countsIn, turnCount, sheetCauses, answerOf}
@@ -18,13 +18,13 @@ use Rattle.sheet.proofs.SoundKinds.{garage-sound}
 use Rattle.sheet.proofs.Readings.{sheet-numbered}
 use Rattle.sheet.proofs.Unrefused.{few-slopes, few-groomers}
 use Rattle.sheet.proofs.Whole.{whole-refusal, whole-accepted, whole-answer, whole-turns}
-use Rattle.problem.specs.declared.columns.Size.{Size}
-use Rattle.problem.specs.Columns.{turnsBy, Held}
-use Rattle.problem.specs.Problem.{problemOf, shiftGap, sheetTurns}
-use Rattle.problem.specs.Load.{shiftSize, Posed}
-use Rattle.problem.proofs.Posed.{sheet-range-for, sheet-count, sheet-slopes, sheet-groomers}
-use Rattle.optimum.specs.Table.{bestWorth}
-use Rattle.besttable.specs.Held.{Ranged}
+use Rattle.instance.specs.declared.columns.Size.{Size}
+use Rattle.instance.specs.Columns.{turnsBy, Held}
+use Rattle.instance_spec.specs.Problem.{problemOf, shiftGap, sheetTurns}
+use Rattle.instance.specs.Load.{shiftSize, Posed}
+use Rattle.instance_spec.proofs.SheetTurns.{sheet-range-for, sheet-count, sheet-slopes, sheet-groomers}
+use Rattle.best_spec.specs.Table.{bestWorth}
+use Rattle.best_table.specs.Held.{Ranged}
 use Rattle.price_spec.specs.declared.LimitAnswer.{LimitAnswer}
 use Rattle.price_spec.specs.Prices.{priceSum, limitBy}
 use Rattle.price_spec.specs.Limit.{priceCount, limitCauses, sheetLimit, limitIs, limitRefused, limitOf}

@@ -2,16 +2,16 @@
 ghost use mathlib.Core.Path.{_≡_};
 ghost use Prim.Native.Nat.{_+_};
 ghost use lib.ListN.{length};
-ghost use Rattle.problem.specs.Columns.{Held};
-ghost use Rattle.optimum.specs.Table.{bestWorth};
-ghost use Rattle.besttable.specs.Held.{Ranged};
+ghost use Rattle.instance.specs.Columns.{Held};
+ghost use Rattle.best_spec.specs.Table.{bestWorth};
+ghost use Rattle.best_table.specs.Held.{Ranged};
 ghost use Rattle.price_spec.specs.Prices.{priceSum};
 ghost use Rattle.price_spec.specs.Limit.{limitRefused, limitOf};
 ghost use Rattle.prices.specs.Held.{countedTurns, turnsIn, orderPlaces, Driven, Priced};
+use instance::PLACES;
 use price_spec::LimitAnswer;
 use prices::Extent;
 use prices::ORDERS;
-use problem::PLACES;
 
 // The limit of a problem, with places for the orders.
 fn limit_with(
@@ -45,7 +45,7 @@ pub fn limit(s: &[u8], prices: &[u16]) -> LimitAnswer
 {
     let mut cols = [0u16; PLACES];
     let mut room = [0u16; PLACES];
-    let r = problem::load_with(s, &mut cols, &mut room);
+    let r = instance::load_with(s, &mut cols, &mut room);
     let fault = r.refusal;
     if fault != 0 {
         return refused(fault);
@@ -56,7 +56,7 @@ pub fn limit(s: &[u8], prices: &[u16]) -> LimitAnswer
         return refused(refusal::BAD_PRICES);
     }
     let e = Extent {
-        size: problem::shift_size(r.turns),
+        size: instance::shift_size(r.turns),
         slopes: slopes,
     };
     let mut orders = [0u16; ORDERS];

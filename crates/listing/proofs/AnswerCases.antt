@@ -25,27 +25,27 @@ use Rattle.sheet.specs.Kind.{mostTurns}
 use Rattle.sheet.specs.Read.{countsIn, sheetCauses, answerOf}
 use Rattle.sheet.proofs.Readings.{sheet-numbered}
 use Rattle.sheet.proofs.Whole.{whole-refusal, whole-accepted, whole-answer, whole-turns}
-use Rattle.choicemap.specs.Choice.{choiceIn, Clean}
+use Rattle.choice_map.specs.Choice.{choiceIn, Clean}
 use Rattle.board.specs.Board.{boardHeader, boardTurns, boardTally, boardWorth, boardMap, boardChoice, boardLength}
-use Rattle.opening.specs.Open.{malformed}
-use Rattle.opening.proofs.Openings.{formed-header}
-use Rattle.opening.proofs.OpenCauses.{formed-clean}
-use Rattle.problem.specs.declared.columns.Size.{Size}
-use Rattle.problem.specs.Columns.{turnsBy, Held}
-use Rattle.problem.specs.Problem.{sheetTurns}
-use Rattle.problem.specs.Load.{shiftSize, Posed}
-use Rattle.problem.proofs.Rows.{count-is, lengths-are}
-use Rattle.planning.specs.Plan.{boardFor}
-use Rattle.planning.proofs.Boards.{planned-bytes, board-most, ReadsBack, board-back}
-use Rattle.lines.specs.declared.lines.Sums.{Sums}
-use Rattle.lines.specs.Text.{listingOf}
+use Rattle.board_open.specs.Open.{malformed}
+use Rattle.board_open.proofs.Openings.{formed-header}
+use Rattle.board_open.proofs.OpenCauses.{formed-clean}
+use Rattle.instance.specs.declared.columns.Size.{Size}
+use Rattle.instance.specs.Columns.{turnsBy, Held}
+use Rattle.instance_spec.specs.Problem.{sheetTurns}
+use Rattle.instance.specs.Load.{shiftSize, Posed}
+use Rattle.instance.proofs.Rows.{count-is, lengths-are}
+use Rattle.plan_spec.specs.Plan.{boardFor}
+use Rattle.plan_spec.proofs.Boards.{planned-bytes, board-most, ReadsBack, board-back}
+use Rattle.listing_spec.specs.declared.Sums.{Sums}
+use Rattle.listing_spec.specs.Text.{listingOf}
 use Rattle.listing.specs.Ready.{Ready}
-use Rattle.listing.specs.Limits.{listingBytes}
-use Rattle.listing.specs.declared.ListAnswer.{ListAnswer}
-use Rattle.listing.specs.List.{sumsFor, listingFor, sheetListing, listCauses, listOf}
-use Rattle.listing.specs.Answer.{listed, listRefused, textAnswer}
-use Rattle.rounds.proofs.Rounds.{apart-starts}
-use Rattle.listing.proofs.Bytes.{listing-bytes}
+use Rattle.listing_spec.specs.Limits.{listingBytes}
+use Rattle.listing_spec.specs.declared.ListAnswer.{ListAnswer}
+use Rattle.listing_spec.specs.List.{sumsFor, listingFor, sheetListing, listCauses, listOf}
+use Rattle.listing_spec.specs.Answer.{listed, listRefused, textAnswer}
+use Rattle.listing_spec.proofs.Rounds.{apart-starts}
+use Rattle.listing_spec.proofs.Bytes.{listing-bytes}
 
 -- ---- a text into lent bytes
 

@@ -14,17 +14,17 @@ use Rattle.lists.specs.Lists.{tab}
 use Rattle.model.specs.Turns.{Turns}
 use Rattle.model.specs.Choice.{has}
 use Rattle.lists.proofs.Sums.{tab-length, tab-at, tab-same}
-use Rattle.choicemap.specs.Choice.{choiceIn}
-use Rattle.choicemap.proofs.Clean.{zeros-at, zeros-clean}
-use Rattle.lines.specs.declared.lines.Sums.{Sums}
-use Rattle.rounds.specs.Round.{startsAt, startsBelow, roundFrom, roundOf, shiftMinutes, StartsApart}
-use Rattle.lines.specs.Text.{lineOf, linesOf, headingOf, groomerText, groomersFrom, sumsLine, listingOf}
+use Rattle.choice_map.specs.Choice.{choiceIn}
+use Rattle.choice_map.proofs.Clean.{zeros-at, zeros-clean}
+use Rattle.listing_spec.specs.declared.Sums.{Sums}
+use Rattle.listing_spec.specs.Round.{startsAt, startsBelow, roundFrom, roundOf, shiftMinutes, StartsApart}
+use Rattle.listing_spec.specs.Text.{lineOf, linesOf, headingOf, groomerText, groomersFrom, sumsLine, listingOf}
 use Rattle.listing.specs.Notes.{noteOf, notesOf, noteText, notesText, NotesBelow, Marked}
-use Rattle.problem.specs.declared.columns.Size.{Size}
-use Rattle.problem.specs.Columns.{turnsBy}
-use Rattle.problem.proofs.Rows.{count-is}
+use Rattle.instance.specs.declared.columns.Size.{Size}
+use Rattle.instance.specs.Columns.{turnsBy}
+use Rattle.instance.proofs.Rows.{count-is}
 use Rattle.listing.specs.Ready.{Ready}
-use Rattle.lines.proofs.Pieces.{first-fits, second-fits, both-place, both-put, piece-fits, rest-place, rest-put}
+use Rattle.listing_lines.proofs.Pieces.{first-fits, second-fits, both-place, both-put, piece-fits, rest-place, rest-put}
 use Rattle.listing.proofs.NoteCases.{false-not-true}
 
 plus-none : (k : ℕ) → k ≡ 0 + k

@@ -8,30 +8,24 @@ ghost use lib.ListN.{length};
 ghost use Rattle.wire.specs.Number.{puts};
 ghost use Rattle.model.specs.Pick.{steps};
 ghost use Rattle.model.specs.Ceiling.{ceiling};
-ghost use Rattle.problem.specs.Columns.{columnPlaces, turnsBy, Held};
-ghost use Rattle.choicemap.specs.Choice.{choiceIn};
-ghost use Rattle.planning.specs.Plan.{boardFor};
-ghost use Rattle.lines.specs.Text.{listingOf, refusedLine};
+ghost use Rattle.instance.specs.Columns.{columnPlaces, turnsBy, Held};
+ghost use Rattle.choice_map.specs.Choice.{choiceIn};
+ghost use Rattle.plan_spec.specs.Plan.{boardFor};
+ghost use Rattle.listing_spec.specs.Text.{listingOf, refusedLine};
 ghost use Rattle.listing.specs.Ready.{Ready};
-ghost use Rattle.listing.specs.Limits.{listingBytes};
-ghost use Rattle.listing.specs.List.{listingFor, listOf};
-ghost use Rattle.listing.specs.Answer.{listed, listRefused, textAnswer};
-use lines::Sums;
-use lines::put_refused;
+ghost use Rattle.listing_spec.specs.Limits.{listingBytes};
+ghost use Rattle.listing_spec.specs.List.{listingFor, listOf};
+ghost use Rattle.listing_spec.specs.Answer.{listed, listRefused, textAnswer};
+use instance::PLACES;
+use instance::Size;
+use listing_lines::put_refused;
+use listing_spec::ListAnswer;
+use listing_spec::Sums;
 use parts::put_listing;
-use planner::BoardMade;
-use problem::PLACES;
-use problem::Size;
+use plan::BoardMade;
 
 // Places for every listing.
 const LISTING_BYTES: usize = 3823;
-
-// What the listing returns: a refusal, 0 if none, and the bytes written, 0 on a refusal.
-#[repr(C)]
-pub struct ListAnswer {
-    pub refusal: u8,
-    pub bytes: u32,
-}
 
 fn refused(k: u8) -> ListAnswer
     ensures { λ r. ⌜ r ≡ listRefused k ⌝ }
@@ -87,7 +81,7 @@ fn list_board(
         tally: board::tally(b),
         ceiling: made.ceiling,
     };
-    list_map(p, cols, groomers, opening::map(b), sums, &mut *out)
+    list_map(p, cols, groomers, board_open::map(b), sums, &mut *out)
 }
 
 // The listing of a problem: its board is planned into a place of its own, with room for what planning
@@ -102,8 +96,8 @@ fn list_problem(
     requires { ⌜ Held p (now cols) × (length (listingFor groomers (turnsBy p (now cols))) ≤ listingBytes) × (length (now room) ≡ columnPlaces) ⌝ }
     ensures { λ r. ⌜ listed r (now (out .exit)) ≡ textAnswer (listingFor groomers (turnsBy p (now (cols .entry)))) (now (out .entry)) ⌝ }
 {
-    let mut space = [0u8; planner::BOARD_BYTES];
-    let made = planner::write_board(p, cols, &mut space, &mut *room);
+    let mut space = [0u8; plan::BOARD_BYTES];
+    let made = plan::write_board(p, cols, &mut space, &mut *room);
     let bytes = made.bytes as usize;
     list_board(p, cols, groomers, &space[..bytes], made, &mut *out)
 }
@@ -114,13 +108,13 @@ pub fn list(s: &[u8], out: &mut [u8]) -> ListAnswer
 {
     let mut cols = [0u16; PLACES];
     let mut room = [0u16; PLACES];
-    let r = problem::load_with(s, &mut cols, &mut room);
+    let r = instance::load_with(s, &mut cols, &mut room);
     let fault = r.refusal;
     if fault != 0 {
         return refused(fault);
     }
     list_problem(
-        problem::shift_size(r.turns),
+        instance::shift_size(r.turns),
         &cols,
         r.groomers,
         &mut *out,

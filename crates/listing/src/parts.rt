@@ -4,20 +4,20 @@ ghost use Prim.Native.Nat.{_+_, _≤_, _<_};
 ghost use lib.ListN.{length};
 ghost use Rattle.wire.specs.Number.{puts};
 ghost use Rattle.text.specs.Place.{lastPlace};
-ghost use Rattle.problem.specs.Columns.{turnsBy};
-ghost use Rattle.choicemap.specs.Choice.{choiceIn};
+ghost use Rattle.instance.specs.Columns.{turnsBy};
+ghost use Rattle.choice_map.specs.Choice.{choiceIn};
 ghost use Rattle.listing.specs.Ready.{Ready};
-ghost use Rattle.lines.specs.Text.{groomerText, groomersFrom, listingOf};
+ghost use Rattle.listing_spec.specs.Text.{groomerText, groomersFrom, listingOf};
 use super::notes::note_round;
 use super::notes::put_notes;
-use lines::Sums;
-use lines::put_heading;
-use lines::put_sums;
-use problem::PLACES;
-use problem::Size;
+use instance::PLACES;
+use instance::Size;
+use listing_lines::put_heading;
+use listing_lines::put_sums;
+use listing_spec::Sums;
 
 // A note for each minute of the shift; a bit for each in a map of them.
-const NOTES: usize = turns::SHIFT_MINUTES as usize;
+const NOTES: usize = turn::SHIFT_MINUTES as usize;
 
 // A groomer's heading and its round.
 fn put_groomer(

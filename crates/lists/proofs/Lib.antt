@@ -1,2 +1,4 @@
 pub mod Bools
 pub mod Sums
+pub mod Sorted
+pub mod Order

@@ -1,1 +1,4 @@
 pub mod Lists
+pub mod Sorting
+pub mod Order
+pub mod Counting

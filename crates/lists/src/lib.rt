@@ -1,1 +1,1 @@
-// Words on lists, tests and sums that the other crates' definitions use, and their laws; no code.
+// Words on lists, tests, sums and orders that the other crates' definitions use, and their laws; no code.

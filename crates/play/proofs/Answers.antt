@@ -7,13 +7,13 @@ use native.Mathlib.Omega.{arith}
 use native.Mathlib.Decide.{ℕ-discrete}
 use lib.Dec.{eqb}
 use lib.ListN.{length, drop}
-use borrow.Author.Tests.{eq-eqb, ne-eqb, eqb-true, lt-ltb, le-ltb}
+use borrow.Author.Tests.{eq-eqb, ne-eqb, eqb-true}
 use Rattle.lists.specs.Lists.{tab}
 use Rattle.lists.proofs.Bools.{and-1, and-2}
 use Rattle.refusal.specs.Number.{bufferTooSmall, badDelays}
 use Rattle.refusal.specs.Cause.{Cause, firstOf}
 use Rattle.refusal.proofs.Order.{first-stops, first-goes}
-use Rattle.turns.specs.Turn.{shiftMinutes}
+use Rattle.turn.specs.Turn.{shiftMinutes}
 use Rattle.sheet.specs.Kind.{mostGroomers}
 use Rattle.sheet.specs.declared.answer.ReadAnswer.{ReadAnswer}
 use Rattle.sheet.specs.Read.{countsIn, turnCount, sheetCauses, answerOf}
@@ -21,29 +21,31 @@ use Rattle.sheet.proofs.Readings.{sheet-numbered}
 use Rattle.sheet.proofs.Unrefused.{few-groomers}
 use Rattle.sheet.proofs.Whole.{whole-refusal, whole-accepted, whole-answer, whole-turns}
 use Rattle.model.specs.Turns.{Turns}
-use Rattle.choicemap.specs.Choice.{mapBytes, choiceIn}
+use Rattle.choice_map.specs.Choice.{mapBytes, choiceIn}
 use Rattle.board.specs.Board.{boardTurns, boardMap, boardChoice}
-use Rattle.opening.specs.Open.{malformed}
-use Rattle.problem.specs.declared.columns.Size.{Size}
-use Rattle.problem.specs.Columns.{turnsBy, Held}
-use Rattle.problem.specs.Problem.{sheetTurns}
-use Rattle.problem.specs.Load.{shiftSize, Posed}
-use Rattle.problem.proofs.Rows.{count-is}
+use Rattle.board_open.specs.Open.{malformed}
+use Rattle.instance.specs.declared.columns.Size.{Size}
+use Rattle.instance.specs.Columns.{turnsBy, Held}
+use Rattle.instance_spec.specs.Problem.{sheetTurns}
+use Rattle.instance.specs.Load.{shiftSize, Posed}
+use Rattle.instance.proofs.Rows.{count-is}
 use Rattle.replay.specs.declared.replay.Judgement.{Judgement}
-use Rattle.checking.specs.Check.{boardCauses, checkCauses}
+use Rattle.check_spec.specs.Check.{boardCauses, checkCauses}
 use Rattle.replay.specs.Judged.{judged}
 use Rattle.replay.proofs.Faults.{judged-number}
-use Rattle.checking.proofs.Passing.{board-clear, board-numbered, check-numbered}
-use Rattle.playing.specs.Day.{delayIn, delaysFit, dayOf}
-use Rattle.day.specs.Table.{dayTablePlaces, DelaysFit, Days}
-use Rattle.day.proofs.Rows.{fit-delays}
-use Rattle.playing.specs.declared.Standing.{Standing}
-use Rattle.play.specs.declared.PlayAnswer.{PlayAnswer}
+use Rattle.check_spec.proofs.Passing.{board-clear, board-numbered}
+use Rattle.play_spec.specs.Day.{delayIn, delaysFit, dayOf}
+use Rattle.play_spec.specs.DayTable.{dayTablePlaces, DelaysFit, Days}
+use Rattle.play_spec.proofs.Delays.{fit-delays}
+use Rattle.play_spec.specs.declared.Standing.{Standing}
+use Rattle.play_spec.specs.declared.PlayAnswer.{PlayAnswer}
 use Rattle.play.specs.declared.Prepared.{Prepared}
-use Rattle.playing.specs.Standing.{standingAfter}
-use Rattle.play.specs.Play.{servesFor, lentCauses, playCauses, dayAt, standingsOf, played, playRefused, playOf}
-use Rattle.play.specs.Minutes.{minutesFrom, PreparedBy, PreparedFor}
-use Rattle.play.proofs.Standings.{minutes-say, none-moved}
+use Rattle.play_spec.specs.Standing.{standingAfter}
+use Rattle.play_spec.specs.Play.{servesFor, lentCauses, playCauses, dayAt, standingsOf, played, playRefused, playOf}
+use Rattle.play_spec.specs.Minutes.{minutesFrom}
+use Rattle.play.specs.Prepared.{PreparedBy, PreparedFor}
+use Rattle.play_spec.proofs.ListedStandings.{minutes-say, none-moved}
+use Rattle.play_spec.proofs.LentCauses.{by-delays, by-places, by-none}
 
 -- ---- the delays' test
 
@@ -62,27 +64,6 @@ pub ruleset serves-cases = (serves-other, serves-same)
 append-assoc : (xs ys zs : List Cause) → (xs ++ ys) ++ zs ≡ xs ++ (ys ++ zs)
 append-assoc [] ys zs = refl
 append-assoc (x ∷ xs) ys zs = ap (λ (ws : List Cause). x ∷ ws) (append-assoc xs ys zs)
-
-pub check-stops : (s b delays : List ℕ) (places k : ℕ) → firstOf (checkCauses s b) ≡ k → (k ≡ 0 → ⊥) → firstOf (playCauses s b delays places) ≡ k
-unfolding playCauses
-check-stops s b delays places k e z = first-stops (checkCauses s b) _ k e z
-
-pub check-passed : (s b delays : List ℕ) (places : ℕ) → firstOf (checkCauses s b) ≡ 0 → firstOf (playCauses s b delays places) ≡ firstOf (lentCauses (countsIn s .groomers) (turnCount s) delays places)
-unfolding playCauses
-check-passed s b delays places e = first-goes (checkCauses s b) _ (check-numbered s b) e
-
-module _ (groomers n : ℕ) (delays : List ℕ) (places : ℕ) where
-  pub by-delays : servesFor n delays ≡ false → firstOf (lentCauses groomers n delays places) ≡ badDelays
-  unfolding lentCauses firstOf
-  by-delays d = rw d
-
-  pub by-places : servesFor n delays ≡ true → places < groomers → firstOf (lentCauses groomers n delays places) ≡ bufferTooSmall
-  unfolding lentCauses firstOf
-  by-places d l = rw (d, lt-ltb places groomers l)
-
-  pub by-none : servesFor n delays ≡ true → groomers ≤ places → firstOf (lentCauses groomers n delays places) ≡ 0
-  unfolding lentCauses firstOf
-  by-none d l = rw (d, le-ltb places groomers l)
 
 -- ---- what is prepared
 

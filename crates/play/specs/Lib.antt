@@ -1,4 +1,1 @@
-pub mod Play
-pub mod Minutes
-pub mod Promises
-pub mod Cases
+pub mod Prepared

@@ -5,29 +5,24 @@ ghost use mathlib.Core.Bool.{false};
 ghost use mathlib.Core.List.{_++_};
 ghost use Prim.Native.Nat.{_+_, _≤_, _<_};
 ghost use lib.ListN.{length};
-ghost use Rattle.turns.specs.Turn.{shiftMinutes};
+ghost use Rattle.turn.specs.Turn.{shiftMinutes};
 ghost use Rattle.sheet.specs.Kind.{mostGroomers};
-ghost use Rattle.problem.specs.Columns.{turnsBy, Held};
+ghost use Rattle.instance.specs.Columns.{turnsBy, Held};
 ghost use Rattle.board.specs.Board.{boardTurns, boardChoice};
-ghost use Rattle.opening.specs.Open.{malformed};
-ghost use Rattle.checking.specs.Check.{boardCauses};
-ghost use Rattle.day.specs.Table.{dayTablePlaces};
-ghost use Rattle.playing.specs.Standing.{freshOf};
-ghost use Rattle.play.specs.Play.{servesFor, lentCauses, played, playOf};
-ghost use Rattle.play.specs.Minutes.{begunOf, stepOf, minuteOf, minutesFrom, MinuteReady, AllReady, PreparedBy, PreparedFor};
-use day::DAY_TABLE_PLACES;
-use day::MINUTES;
-use day::OVER_MINUTES;
-use playing::Standing;
-use problem::PLACES;
-use problem::Size;
-
-// What comes back: a refusal, 0 if none, and how many groomers the sheet has, 0 on a refusal.
-#[repr(C)]
-pub struct PlayAnswer {
-    pub refusal: u8,
-    pub groomers: u16,
-}
+ghost use Rattle.board_open.specs.Open.{malformed};
+ghost use Rattle.check_spec.specs.Check.{boardCauses};
+ghost use Rattle.play_spec.specs.DayTable.{dayTablePlaces};
+ghost use Rattle.play_spec.specs.Standing.{freshOf};
+ghost use Rattle.play_spec.specs.Play.{servesFor, lentCauses, played, playOf};
+ghost use Rattle.play_spec.specs.Minutes.{begunOf, stepOf, minuteOf, minutesFrom, MinuteReady, AllReady};
+ghost use Rattle.play.specs.Prepared.{PreparedBy, PreparedFor};
+use instance::PLACES;
+use instance::Size;
+use play_days::DAY_TABLE_PLACES;
+use play_days::MINUTES;
+use play_days::OVER_MINUTES;
+use play_spec::PlayAnswer;
+use play_spec::Standing;
 
 // What is worked out before the first minute: the answer, how many standings are moved, and the days of
 // all groomers.
@@ -70,7 +65,7 @@ pub fn step(s: Standing, table: &[u16], g: usize, m: u16) -> Standing
     ensures { λ r. ⌜ r ≡ stepOf s (now (table .entry)) g m ⌝ }
 {
     let b = begun(s, m);
-    let k = day::stint_in(table, g, (b.driving / OVER_MINUTES) as usize);
+    let k = play_days::stint_in(table, g, (b.driving / OVER_MINUTES) as usize);
     if m < k.begin {
         return Standing {
             working: b.working,
@@ -135,7 +130,7 @@ fn delays_serve(delays: &[u16], n: usize) -> bool
     ensures { λ r. ⌜ r ≡ servesFor n (now (delays .entry)) ⌝ }
 {
     if delays.len() == n {
-        return day::delays_fit(delays);
+        return play_days::delays_fit(delays);
     }
     false
 }
@@ -157,12 +152,12 @@ fn prepare_days(
         if places < groomers as usize {
             return refused(refusal::BUFFER_TOO_SMALL);
         }
-        let map = opening::map(board);
+        let map = board_open::map(board);
         return Prepared {
             refusal: 0,
             groomers: groomers,
             moved: groomers as usize,
-            table: day::days_of(p, cols, map, delays),
+            table: play_days::days_of(p, cols, map, delays),
         };
     }
     refused(refusal::BAD_DELAYS)
@@ -183,7 +178,7 @@ fn prepare_board(
         (boardChoice (now (board .entry))) (now (delays .entry)) places r ⌝ }
 {
     let mut room = [0u16; PLACES];
-    let judgement = audit::board_fault(board, p, cols, &mut room);
+    let judgement = check_board::board_fault(board, p, cols, &mut room);
     if judgement.fault != 0 {
         return refused(judgement.fault);
     }
@@ -195,11 +190,11 @@ fn checked<'a>(sheet: &'a [u8], board: &'a [u8], delays: &'a [u16], places: usiz
     ensures { λ r. ⌜ PreparedFor (now (sheet .entry)) (now (board .entry)) (now (delays .entry)) places r ⌝ }
 {
     let mut cols = [0u16; PLACES];
-    let head = problem::load(sheet, &mut cols);
+    let head = instance::load(sheet, &mut cols);
     if head.refusal != 0 {
         return refused(head.refusal);
     }
-    let p = problem::shift_size(head.turns);
+    let p = instance::shift_size(head.turns);
     prepare_board(p, &cols, head.groomers, board, delays, places)
 }
 

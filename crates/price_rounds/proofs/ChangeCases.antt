@@ -5,12 +5,12 @@ use mathlib.Core.List.{List}
 use native.Mathlib.Omega.{arith}
 use native.Mathlib.Numerals.{add-one}
 use Rattle.lists.specs.Lists.{below}
-use Rattle.turns.specs.Turn.{mostWorth}
+use Rattle.turn.specs.Turn.{mostWorth}
 use Rattle.sheet.specs.Kind.{mostTurns}
-use Rattle.problem.specs.declared.ways.Row.{Row}
-use Rattle.problem.specs.declared.columns.Size.{Size}
-use Rattle.problem.specs.Columns.{rowIn, turnsBy, Held}
-use Rattle.problem.proofs.Rows.{worth-at}
+use Rattle.instance.specs.declared.ways.Row.{Row}
+use Rattle.instance.specs.declared.columns.Size.{Size}
+use Rattle.instance.specs.Columns.{rowIn, turnsBy, Held}
+use Rattle.instance.proofs.Rows.{worth-at}
 use Rattle.refine_spec.specs.Rounds.{nextChange, greatestOf}
 use Rattle.refine_spec.specs.Shift.{greatestWorth}
 use Rattle.price_rounds.specs.Held.{mostChange}

@@ -4,8 +4,8 @@ use mathlib.Core.Bool.{Bool}
 use mathlib.Core.List.{List, _++_}
 use Prim.Native.Nat.{ℕ}
 use Rattle.model.specs.Choice.{has}
-use Rattle.optimum.specs.Groomers.{keep}
-use Rattle.choicemap.specs.Choice.{choiceIn, Clean}
+use Rattle.best_spec.specs.Groomers.{keep}
+use Rattle.choice_map.specs.Choice.{choiceIn, Clean}
 use Rattle.refine_spec.specs.Rounds.{Stage}
 use Rattle.price_rounds.specs.declared.lowest.Reached.{Reached}
 

@@ -1,14 +1,14 @@
 // The change of a round.
 ghost use mathlib.Core.Path.{_≡_};
 ghost use Prim.Native.Nat.{max, _≤_};
-ghost use Rattle.turns.specs.Turn.{mostWorth};
-ghost use Rattle.problem.specs.Columns.{turnsBy, Held};
+ghost use Rattle.turn.specs.Turn.{mostWorth};
+ghost use Rattle.instance.specs.Columns.{turnsBy, Held};
 ghost use Rattle.refine_spec.specs.Rounds.{nextChange};
 ghost use Rattle.refine_spec.specs.Shift.{greatestWorth};
 ghost use Rattle.price_rounds.specs.Held.{mostChange};
-use problem::PLACES;
-use problem::Size;
-use problem::row_at;
+use instance::PLACES;
+use instance::Size;
+use instance::row_at;
 
 fn wide(x: u16) -> u32
     ensures { λ r. ⌜ r ≡ x ⌝ }

@@ -7,8 +7,8 @@ use lib.Dec.{eqb}
 use lib.ListN.{replicate}
 use Rattle.lists.specs.Lists.{sum, below}
 use Rattle.model.specs.Turns.{Turns, oneGroomer}
-use Rattle.optimum.specs.Table.{Best, laterFirst, turnOrder, inTheWay, blocked, bestTable, bestOf, bestWorth, marked, bestChoice}
-use Rattle.optimum.specs.Groomers.{keep, ownTurns, groomerWorth, groomersWorth}
+use Rattle.best_spec.specs.Table.{Best, laterFirst, turnOrder, inTheWay, blocked, bestTable, bestOf, bestWorth, marked, bestChoice}
+use Rattle.best_spec.specs.Groomers.{keep, ownTurns, groomerWorth, groomersWorth}
 
 -- turns with other worths
 abbrev pub withWorths : Turns → (ℕ → ℕ) → Turns

@@ -11,7 +11,7 @@ use borrow.Author.Tests.{eqb-true, eq-eqb, ne-eqb, not-true, not-false}
 use Rattle.lists.proofs.Bools.{not-both}
 use Rattle.refusal.specs.Number.{badPrices}
 use Rattle.refusal.specs.Cause.{Cause, _when_, There, firstOf}
-use Rattle.refusal.proofs.Order.{first-goes, clear-append, clear-cons}
+use Rattle.refusal.proofs.Order.{first-goes, clear-append, clear-cons, first-same}
 use Rattle.refusal.proofs.Places.{at-there, there-at, there-left, there-right, there-split}
 use Rattle.wire.specs.Number.{Bytes}
 use Rattle.sheet.specs.Kind.{garage}
@@ -20,7 +20,7 @@ use Rattle.sheet.specs.Accepted.{placeOf, SheetCause, Accepted}
 use Rattle.sheet.proofs.SoundKinds.{garage-sound}
 use Rattle.sheet.proofs.Readings.{sheet-numbered}
 use Rattle.sheet.proofs.Accepting.{accepted-iff}
-use Rattle.sheet.proofs.Causes.{first-same, cause-there, there-cause-for}
+use Rattle.sheet.proofs.Causes.{cause-there, there-cause-for}
 use Rattle.sheet.proofs.ReadCauses.{sheet-places}
 use Rattle.price_spec.specs.Limit.{priceCount, limitCauses, sheetLimit, limitIs, limitRefused, limitOf, LimitCause, of-sheet, other-length, FirstLimitCause}
 

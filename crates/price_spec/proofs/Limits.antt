@@ -17,10 +17,10 @@ use Rattle.model.proofs.Groups.{Clique, one-of}
 use Rattle.model.proofs.Bound.{apart-set}
 use Rattle.model.proofs.Minutes.{overlap-minute, minute-overlap}
 use Rattle.model.proofs.Conflicts
-use Rattle.optimum.specs.Table.{bestWorth}
-use Rattle.optimum.specs.Groomers.{groomerWorth, groomersWorth, OwnSet}
-use Rattle.optimum.proofs.Optimal.{best-greatest}
-use Rattle.optimum.proofs.Own.{groomer-most, groomers-sum}
+use Rattle.best_spec.specs.Table.{bestWorth}
+use Rattle.best_spec.specs.Groomers.{groomerWorth, groomersWorth, OwnSet}
+use Rattle.best_spec.proofs.Optimal.{best-greatest}
+use Rattle.best_spec.proofs.Own.{groomer-most, groomers-sum}
 use Rattle.price_spec.specs.Prices.{slopePrice, turnPrice, paysTurn, paidBy, countsFor, pricedTurns, priceSum, limitBy, Pays, GroomerSet, MostCounted}
 use Rattle.price_spec.proofs.Duality.{weak-duality, paid-costs, paid-one}
 use Rattle.price_spec.proofs.Bare.{withWorths, bare, bare-best, bare-groomers}

@@ -5,10 +5,10 @@ use mathlib.Core.List.{List}
 use native.Mathlib.Omega.{arith}
 use Rattle.refusal.specs.Cause.{firstOf}
 use Rattle.sheet.specs.Read.{countsIn, sheetCauses}
-use Rattle.problem.specs.Problem.{sheetTurns}
-use Rattle.problem.proofs.Posed.{sheet-count, sheet-lengths, sheet-slopes, sheet-groomers}
-use Rattle.optimum.specs.Groomers.{groomersWorth}
-use Rattle.exact.proofs.Sheets.{best-promised}
+use Rattle.instance_spec.specs.Problem.{sheetTurns}
+use Rattle.instance_spec.proofs.SheetTurns.{sheet-count, sheet-lengths, sheet-slopes, sheet-groomers}
+use Rattle.best_spec.specs.Groomers.{groomersWorth}
+use Rattle.best_spec.proofs.Promised.{best-promised}
 use Rattle.price_spec.specs.declared.LimitAnswer.{LimitAnswer}
 use Rattle.price_spec.specs.Prices.{limitBy}
 use Rattle.price_spec.specs.Limit.{sheetLimit, limitOf}

@@ -2,15 +2,15 @@
 use mathlib.Core.Path.{refl}
 use Rattle.refusal.specs.Cause.{firstOf}
 use Rattle.wire.specs.Mark.{opensWith}
-use Rattle.turns.specs.Turn.{outsideRange, pastShift, turnCauses}
+use Rattle.turn.specs.Turn.{outsideRange, pastShift, turnCauses}
 use Rattle.sheet.specs.Kind.{garage}
 use Rattle.sheet.specs.Record.{widthOf, field, turnFrom, badMapFor, endAt, turnAt, cursorAfter, recordCauses, firstCursor}
 use Rattle.sheet.specs.Read.{countCauses, headerCauses, recordsCauses, turnsFrom, causesFor, sheetCauses, turnsOf}
-use Rattle.sorting.specs.Sorting.{insertBy, sortBy}
+use Rattle.lists.specs.Sorting.{insertBy, sortBy}
 use Rattle.model.specs.Turns.{overlapping, overlap, oneGroomer, oneDriver, byDriver}
-use Rattle.problem.specs.Problem.{problemOf, sheetTurns}
-use Rattle.optimum.specs.Table.{laterFirst, turnOrder, greater, inTheWay, blocked, bestTable, bestOf}
-use Rattle.optimum.specs.Groomers.{keep, ownTurns, groomerWorth, groomersWorth}
+use Rattle.instance_spec.specs.Problem.{problemOf, sheetTurns}
+use Rattle.best_spec.specs.Table.{laterFirst, turnOrder, greater, inTheWay, blocked, bestTable, bestOf}
+use Rattle.best_spec.specs.Groomers.{keep, ownTurns, groomerWorth, groomersWorth}
 use Rattle.price_spec.specs.Prices.{slopePrice, turnPrice, paysTurn, paidBy, countsFor, pricedTurns, priceSum, limitBy}
 use Rattle.price_spec.specs.Limit.{limitCauses, sheetLimit, limitOf}
 use Rattle.price_spec.specs.Cases.{LimitCases}

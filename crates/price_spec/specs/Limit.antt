@@ -9,7 +9,7 @@ use Rattle.refusal.specs.Number.{badPrices}
 use Rattle.refusal.specs.Cause.{Cause, _when_, firstOf, FirstAmong}
 use Rattle.sheet.specs.Read.{countsIn, turnCount, sheetCauses}
 use Rattle.sheet.specs.Accepted.{SheetCause, placeOf}
-use Rattle.problem.specs.Problem.{sheetTurns}
+use Rattle.instance_spec.specs.Problem.{sheetTurns}
 use Rattle.price_spec.specs.declared.LimitAnswer.{LimitAnswer}
 use Rattle.price_spec.specs.Prices.{limitBy}
 

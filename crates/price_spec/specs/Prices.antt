@@ -9,7 +9,7 @@ use lib.ListN.{getD}
 use Rattle.lists.specs.Lists.{sum, below, All}
 use Rattle.model.specs.Turns.{Turns, byDriver, Holds, OneDriver}
 use Rattle.model.specs.Feasible.{Distinct}
-use Rattle.optimum.specs.Groomers.{groomersWorth}
+use Rattle.best_spec.specs.Groomers.{groomersWorth}
 
 -- the price of slope s: slopes are numbered from 1, and their prices come first
 unfoldable pub slopePrice : List ℕ → ℕ → ℕ

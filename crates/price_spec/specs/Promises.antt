@@ -6,9 +6,9 @@ use lib.ListN.{getD}
 use Rattle.lists.specs.Lists.{sum, below}
 use Rattle.model.specs.Feasible.{Feasible, worthOf}
 use Rattle.sheet.specs.Read.{countsIn}
-use Rattle.problem.specs.Problem.{sheetTurns}
-use Rattle.optimum.specs.Groomers.{groomerWorth, groomersWorth}
-use Rattle.exact.specs.Exact.{exactOf}
+use Rattle.instance_spec.specs.Problem.{sheetTurns}
+use Rattle.best_spec.specs.Groomers.{groomerWorth, groomersWorth}
+use Rattle.best_spec.specs.Exact.{exactOf}
 use Rattle.price_spec.specs.Prices.{pricedTurns, priceSum, MostCounted}
 use Rattle.price_spec.specs.Limit.{limitOf}
 

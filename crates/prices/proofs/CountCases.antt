@@ -17,10 +17,10 @@ use Rattle.lists.proofs.Sums.{sum-same, sum-split, sum-zero, all-below}
 use Rattle.sheet.specs.Kind.{mostTurns}
 use Rattle.model.specs.Turns.{Turns, byDriver}
 use Rattle.model.proofs.Conflicts
-use Rattle.problem.specs.declared.ways.Row.{Row}
-use Rattle.problem.specs.Columns.{rowIn}
-use Rattle.problem.proofs.Rows.{count-is, slope-at, worth-at}
-use Rattle.optimum.specs.Table.{turnOrder}
+use Rattle.instance.specs.declared.ways.Row.{Row}
+use Rattle.instance.specs.Columns.{rowIn}
+use Rattle.instance.proofs.Rows.{count-is, slope-at, worth-at}
+use Rattle.best_spec.specs.Table.{turnOrder}
 use Rattle.price_spec.specs.Prices.{slopePrice, turnPrice, paysTurn, paidBy, countsFor}
 use Rattle.prices.specs.declared.Extent.{Extent}
 use Rattle.prices.specs.Held.{byDrivers, turnsIn, placePrice, placesSum, paidFrom, paidTo, mostPrice, SumsTo, CountsTo, PaidRun, Ordered, Priced}

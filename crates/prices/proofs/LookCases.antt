@@ -9,10 +9,10 @@ use mir.Val.{Fits}
 use lib.ListN.{drop, getD, replicate}
 use Rattle.sheet.specs.Kind.{mostTurns, mostSlopes}
 use Rattle.model.specs.Turns.{Turns, oneGroomer}
-use Rattle.problem.specs.Columns.{turnsBy}
-use Rattle.optimum.specs.Table.{laterFirst, turnOrder, inTheWay, blocked, bestWorth, marked, bestChoice}
-use Rattle.besttable.specs.Held.{placeBefore, wayFrom, InTurnOrder, Befores, Counts, Chained, Filled, Readable, Skips}
-use Rattle.besttable.proofs.BestCases.{turns-chained, filled-entries, filled-skips, turns-readable, way-best, first-entry}
+use Rattle.instance.specs.Columns.{turnsBy}
+use Rattle.best_spec.specs.Table.{laterFirst, turnOrder, inTheWay, blocked, bestWorth, marked, bestChoice}
+use Rattle.best_table.specs.Held.{placeBefore, wayFrom, InTurnOrder, Befores, Counts, Chained, Filled, Readable, Skips}
+use Rattle.best_table.proofs.BestCases.{turns-chained, filled-entries, filled-skips, turns-readable, way-best, first-entry}
 use Rattle.price_spec.specs.Prices.{priceSum}
 use Rattle.prices.specs.declared.Extent.{Extent}
 use Rattle.prices.specs.Held.{countedTurns, turnsIn, mostPrice, CountsTo, Ordered, Priced}

@@ -15,12 +15,12 @@ use Rattle.lists.proofs.Bools.{and-1, and-2, and-of, not-both}
 use Rattle.lists.proofs.Sums.{sum-point}
 use Rattle.model.specs.Turns.{Turns, PositiveLengths, byDriver, oneGroomer}
 use Rattle.model.proofs.Conflicts
-use Rattle.optimum.specs.Table.{turnOrder, inTheWay, blocked}
-use Rattle.optimum.proofs.Ordering.{Leads, by-groomer, by-end, by-number, Before, Ordered, empty, first, ordered-at, order-ordered, order-sum}
-use Rattle.optimum.proofs.Tables.{leads-groomer, way-stops}
-use Rattle.besttable.specs.Held.{placeBefore}
-use Rattle.besttable.proofs.OrderCases.{order-length, order-within}
-use Rattle.besttable.proofs.BestCases.{before-within}
+use Rattle.best_spec.specs.Table.{turnOrder, inTheWay, blocked}
+use Rattle.best_spec.proofs.Ordering.{Leads, by-groomer, by-end, by-number, Before, Ordered, empty, first, ordered-at, order-ordered, order-sum}
+use Rattle.best_spec.proofs.Tables.{leads-groomer, way-stops}
+use Rattle.best_table.specs.Held.{placeBefore}
+use Rattle.best_table.proofs.OrderCases.{order-length, order-within}
+use Rattle.best_table.proofs.BestCases.{before-within}
 use Rattle.price_spec.specs.Prices.{paysTurn}
 use Rattle.prices.specs.Held.{byDrivers, OneRun, RunStart, PaysAs, PlaceRun}
 

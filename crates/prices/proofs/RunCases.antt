@@ -12,14 +12,14 @@ use borrow.Author.Tests.{eqb-true, eq-eqb, ltb-true}
 use Rattle.lists.proofs.Bools.{and-1, and-2, and-of, not-both}
 use Rattle.sheet.specs.Kind.{mostTurns}
 use Rattle.model.specs.Turns.{Turns}
-use Rattle.problem.specs.declared.ways.Row.{Row}
-use Rattle.problem.specs.declared.columns.Size.{Size}
-use Rattle.problem.specs.Ways.{turnRow}
-use Rattle.problem.specs.Columns.{columnPlaces, rowIn, within, turnsBy, Held}
-use Rattle.problem.proofs.Rows.{count-is, lengths-are}
-use Rattle.optimum.specs.Table.{turnOrder}
-use Rattle.besttable.specs.Held.{placedRow, placeBefore, Numbered, InTurnOrder, Befores}
-use Rattle.besttable.proofs.OrderCases.{placed-is, placed-most, order-within}
+use Rattle.instance.specs.declared.ways.Row.{Row}
+use Rattle.instance.specs.declared.columns.Size.{Size}
+use Rattle.instance.specs.Ways.{turnRow}
+use Rattle.instance.specs.Columns.{columnPlaces, rowIn, within, turnsBy, Held}
+use Rattle.instance.proofs.Rows.{count-is, lengths-are}
+use Rattle.best_spec.specs.Table.{turnOrder}
+use Rattle.best_table.specs.Held.{placedRow, placeBefore, Numbered, InTurnOrder, Befores}
+use Rattle.best_table.proofs.OrderCases.{placed-is, placed-most, order-within}
 use Rattle.prices.specs.declared.Extent.{Extent}
 use Rattle.prices.specs.Held.{byDrivers, turnsIn, withRun, paidFrom, paidTo, orderPlaces, Driven, DriversPut, OneRun, RunStart, RunBefore, PlaceRun, RunsTo, PaidRun, Ordered}
 use Rattle.prices.proofs.PaidRuns.{order-place, order-apart, run-first, run-again, run-new, run-none, run-is, pays-as}

@@ -15,14 +15,14 @@ use Rattle.lists.specs.Lists.{sum, below}
 use Rattle.lists.proofs.Sums.{sum-same, sum-split}
 use Rattle.sheet.specs.Kind.{mostTurns, mostSlopes}
 use Rattle.model.specs.Turns.{Turns}
-use Rattle.problem.specs.declared.ways.Row.{Row}
-use Rattle.problem.specs.Ways.{turnRow}
-use Rattle.problem.specs.Columns.{rowIn, turnsBy}
-use Rattle.problem.proofs.Rows.{row-is, count-is}
-use Rattle.optimum.specs.Table.{turnOrder}
-use Rattle.optimum.proofs.Ordering.{order-sum}
-use Rattle.besttable.specs.Held.{entryPlaces}
-use Rattle.besttable.proofs.OrderCases.{order-length, order-within}
+use Rattle.instance.specs.declared.ways.Row.{Row}
+use Rattle.instance.specs.Ways.{turnRow}
+use Rattle.instance.specs.Columns.{rowIn, turnsBy}
+use Rattle.instance.proofs.Rows.{row-is, count-is}
+use Rattle.best_spec.specs.Table.{turnOrder}
+use Rattle.best_spec.proofs.Ordering.{order-sum}
+use Rattle.best_table.specs.Held.{entryPlaces}
+use Rattle.best_table.proofs.OrderCases.{order-length, order-within}
 use Rattle.price_spec.specs.Prices.{slopePrice, turnPrice, priceSum}
 use Rattle.prices.specs.declared.Extent.{Extent}
 use Rattle.prices.specs.Held.{byDrivers, turnsIn, placePrice, placesSum, slopesSum, mostPrice, SumsTo, SummedTo, Ordered, Priced}

@@ -7,13 +7,13 @@ use Prim.Native.Nat.{ℕ, _+_, _-_, _*_, _≤_, _<_}
 use lib.Dec.{ltb}
 use lib.ListN.{length, getD, set}
 use Rattle.lists.specs.Lists.{sum, below}
-use Rattle.turns.specs.Turn.{mostDriver}
+use Rattle.turn.specs.Turn.{mostDriver}
 use Rattle.model.specs.Turns.{Turns}
-use Rattle.optimum.specs.Table.{turnOrder}
+use Rattle.best_spec.specs.Table.{turnOrder}
 use Rattle.sheet.specs.Kind.{mostTurns, mostSlopes}
-use Rattle.problem.specs.declared.columns.Size.{Size}
-use Rattle.problem.specs.Columns.{columnPlaces, turnsBy}
-use Rattle.besttable.specs.Held.{placeBefore, entryPlaces}
+use Rattle.instance.specs.declared.columns.Size.{Size}
+use Rattle.instance.specs.Columns.{columnPlaces, turnsBy}
+use Rattle.best_table.specs.Held.{placeBefore, entryPlaces}
 use Rattle.price_spec.specs.Prices.{slopePrice, turnPrice, paysTurn, countsFor}
 use Rattle.prices.specs.declared.Extent.{Extent}
 

@@ -12,10 +12,10 @@ use super::runs::TOS;
 use super::sums::price_at;
 use super::sums::put_sums;
 use super::sums::slope_prices;
-use besttable::ENTRIES;
-use problem::MOST_TURNS;
-use problem::PLACES;
-use problem::row_at;
+use best_table::ENTRIES;
+use instance::MOST_TURNS;
+use instance::PLACES;
+use instance::row_at;
 
 // The sum of what is paid at the places of turn t's run.
 fn run_sum(orders: &[u16; ORDERS], sums: &[u32; ENTRIES], t: usize) -> u32

@@ -5,11 +5,11 @@ mod orders;
 mod runs;
 mod sums;
 
+use instance::MOST_TURNS;
+use instance::Size;
 pub use looking::limit_at;
 pub use looking::look;
 pub use orders::put_orders;
-use problem::MOST_TURNS;
-use problem::Size;
 
 // Five numbers for each turn: see Ordered.
 pub const ORDERS: usize = 5 * MOST_TURNS;

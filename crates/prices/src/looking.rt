@@ -4,19 +4,19 @@ ghost use mathlib.Core.Bool.{false};
 ghost use Prim.Native.Nat.{_+_};
 ghost use lib.ListN.{length, replicate};
 ghost use Rattle.sheet.specs.Kind.{mostTurns};
-ghost use Rattle.choicemap.specs.Choice.{choiceIn, Clean};
-ghost use Rattle.optimum.specs.Table.{bestWorth, bestChoice};
-ghost use Rattle.besttable.specs.Held.{entryPlaces, Skips};
+ghost use Rattle.choice_map.specs.Choice.{choiceIn, Clean};
+ghost use Rattle.best_spec.specs.Table.{bestWorth, bestChoice};
+ghost use Rattle.best_table.specs.Held.{entryPlaces, Skips};
 ghost use Rattle.price_spec.specs.Prices.{priceSum};
 ghost use Rattle.prices.specs.Held.{countedTurns, turnsIn, Priced, Ordered};
 use super::Extent;
 use super::ORDERS;
 use super::counts::put_counts;
-use besttable::ENTRIES;
-use besttable::fill_table;
-use besttable::read_back;
-use problem::MOST_TURNS;
-use problem::PLACES;
+use best_table::ENTRIES;
+use best_table::fill_table;
+use best_table::read_back;
+use instance::MOST_TURNS;
+use instance::PLACES;
 
 // The table over the counts; returns the limit.
 fn limit_with(

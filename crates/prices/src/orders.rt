@@ -4,15 +4,15 @@ ghost use mathlib.Core.Path.{_≡_};
 ghost use Prim.Native.Nat.{_≤_};
 ghost use lib.ListN.{length};
 ghost use Rattle.sheet.specs.Kind.{mostTurns};
-ghost use Rattle.problem.specs.Columns.{columnPlaces, turnsBy, Held};
-ghost use Rattle.besttable.specs.Held.{Ranged};
+ghost use Rattle.instance.specs.Columns.{columnPlaces, turnsBy, Held};
+ghost use Rattle.best_table.specs.Held.{Ranged};
 ghost use Rattle.prices.specs.Held.{byDrivers, turnsIn, orderPlaces, Driven, DriversPut, Ordered};
 use super::Extent;
 use super::ORDERS;
 use super::runs::put_drivers;
-use problem::MOST_TURNS;
-use problem::PLACES;
-use problem::Size;
+use instance::MOST_TURNS;
+use instance::PLACES;
+use instance::Size;
 
 // The first place of the groomers and of the drivers in columns.
 const GROOMER_COLUMN: usize = MOST_TURNS;
@@ -58,7 +58,7 @@ pub fn put_orders(
     ensures { λ _. ⌜ Ordered (turnsIn e (now (cols .entry))) (now (orders .exit)) × (length (now (room .exit)) ≡ columnPlaces) ⌝ }
 {
     let p = e.size;
-    besttable::put_places(p, cols, &mut *orders);
+    best_table::put_places(p, cols, &mut *orders);
     put_by_drivers(p, cols, &mut *room);
     put_drivers(p, &*room, &mut *orders);
 }

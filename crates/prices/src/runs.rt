@@ -6,16 +6,16 @@ ghost use Prim.Native.Nat.{_*_, _≤_, _<_};
 ghost use lib.Dec.{eqb};
 ghost use lib.ListN.{length};
 ghost use Rattle.sheet.specs.Kind.{mostTurns};
-ghost use Rattle.problem.specs.Columns.{turnsBy, Held};
-ghost use Rattle.besttable.specs.Held.{Numbered, InTurnOrder};
+ghost use Rattle.instance.specs.Columns.{turnsBy, Held};
+ghost use Rattle.best_table.specs.Held.{Numbered, InTurnOrder};
 ghost use Rattle.prices.specs.Held.{orderPlaces, withRun, RunStart, RunBefore, PlaceRun, RunsTo};
 use super::ORDERS;
-use besttable::row_at_place;
-use besttable::skip_blocked;
-use problem::MOST_TURNS;
-use problem::PLACES;
-use problem::Row;
-use problem::Size;
+use best_table::row_at_place;
+use best_table::skip_blocked;
+use instance::MOST_TURNS;
+use instance::PLACES;
+use instance::Row;
+use instance::Size;
 
 // Where the drivers' order begins, and the first and last places of the runs.
 pub const DRIVERS: usize = 2 * MOST_TURNS;
@@ -101,7 +101,7 @@ fn put_drivers_with(p: Size, cols: &[u16; PLACES], order: &mut [u16], orders: &m
     ensures { λ _. ⌜ RunsTo (turnsBy p (now (cols .entry))) (now (orders .entry)) (now (orders .exit)) (p .count) ⌝ }
 {
     let n = p.count;
-    besttable::put_any_order(p, cols, &mut order[0..n]);
+    best_table::put_any_order(p, cols, &mut order[0..n]);
     put_runs(p, cols, &*order, &mut *orders);
 }
 

@@ -4,14 +4,14 @@ ghost use mathlib.Core.Bool.{cond};
 ghost use Prim.Native.Nat.{_*_, _≤_, _<_};
 ghost use lib.ListN.{length, getD};
 ghost use Rattle.sheet.specs.Kind.{mostSlopes};
-ghost use Rattle.besttable.specs.Held.{entryPlaces};
+ghost use Rattle.best_table.specs.Held.{entryPlaces};
 ghost use Rattle.prices.specs.Held.{turnsIn, placePrice, slopesSum, mostPrice, Priced, Ordered, SumsTo};
 use super::Extent;
 use super::ORDERS;
 use super::runs::DRIVERS;
-use besttable::ENTRIES;
-use problem::PLACES;
-use problem::row_at;
+use best_table::ENTRIES;
+use instance::PLACES;
+use instance::row_at;
 
 fn wide(x: u16) -> u32
     ensures { λ r. ⌜ (r ≡ x) × (r ≤ mostPrice) ⌝ }

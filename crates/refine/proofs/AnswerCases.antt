@@ -14,7 +14,7 @@ use Rattle.refusal.specs.Cause.{Cause, _when_, firstOf}
 use Rattle.refusal.proofs.Order.{first-stops, first-goes}
 use Rattle.wire.specs.Number.{bytesOf, puts}
 use Rattle.wire.proofs.Puts.{puts-length}
-use Rattle.turns.specs.Turn.{mostDriver}
+use Rattle.turn.specs.Turn.{mostDriver}
 use Rattle.model.specs.Turns.{Turns}
 use Rattle.model.specs.Choice.{chosen, choice}
 use Rattle.sheet.specs.declared.answer.ReadAnswer.{ReadAnswer}
@@ -24,20 +24,20 @@ use Rattle.sheet.proofs.SoundKinds.{garage-sound}
 use Rattle.sheet.proofs.Readings.{sheet-numbered}
 use Rattle.sheet.proofs.Unrefused.{few-slopes, few-groomers}
 use Rattle.sheet.proofs.Whole.{whole-refusal, whole-accepted, whole-answer, whole-turns}
-use Rattle.optimum.specs.Table.{bestWorth, bestChoice}
-use Rattle.choicemap.specs.Choice.{mapBytes, choiceIn, mapOf, Clean}
-use Rattle.choicemap.proofs.Clean.{choice-length, clean-map}
+use Rattle.best_spec.specs.Table.{bestWorth, bestChoice}
+use Rattle.choice_map.specs.Choice.{mapBytes, choiceIn, mapOf, Clean}
+use Rattle.choice_map.proofs.Clean.{choice-length, clean-map}
 use Rattle.board.specs.Board.{worthPlace, boardHeader, boardLength}
-use Rattle.problem.specs.declared.columns.Size.{Size}
-use Rattle.problem.specs.Columns.{turnsBy, Held}
-use Rattle.problem.specs.Problem.{problemOf, shiftGap, sheetTurns}
-use Rattle.problem.specs.Load.{shiftSize, Posed}
-use Rattle.problem.proofs.Posed.{sheet-range-for, sheet-count, sheet-slopes, sheet-groomers}
-use Rattle.problem.proofs.Rows.{count-is}
-use Rattle.choices.proofs.Unchosen.{zeros-size}
-use Rattle.planning.specs.Plan.{boardFor}
-use Rattle.planning.proofs.Boards.{choice-count}
-use Rattle.besttable.specs.Held.{Ranged}
+use Rattle.instance.specs.declared.columns.Size.{Size}
+use Rattle.instance.specs.Columns.{turnsBy, Held}
+use Rattle.instance_spec.specs.Problem.{problemOf, shiftGap, sheetTurns}
+use Rattle.instance.specs.Load.{shiftSize, Posed}
+use Rattle.instance_spec.proofs.SheetTurns.{sheet-range-for, sheet-count, sheet-slopes, sheet-groomers}
+use Rattle.instance.proofs.Rows.{count-is}
+use Rattle.selection.proofs.Unchosen.{zeros-size}
+use Rattle.plan_spec.specs.Plan.{boardFor}
+use Rattle.plan_spec.proofs.Boards.{choice-count}
+use Rattle.best_table.specs.Held.{Ranged}
 use Rattle.price_spec.specs.Prices.{priceSum, limitBy}
 use Rattle.price_spec.specs.Limit.{priceCount}
 use Rattle.price_spec.proofs.Limits.{priced-sum, priced-best}

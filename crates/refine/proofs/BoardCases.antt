@@ -12,18 +12,18 @@ use Rattle.model.specs.Turns.{Turns}
 use Rattle.model.specs.Steps.{tally}
 use Rattle.model.specs.Pick.{steps}
 use Rattle.model.specs.Choice.{chosen, choice}
-use Rattle.choicemap.specs.Choice.{mapBytes, choiceIn, mapOf, Clean}
-use Rattle.choicemap.proofs.Clean.{map-length, map-choice, map-clean}
+use Rattle.choice_map.specs.Choice.{mapBytes, choiceIn, mapOf, Clean}
+use Rattle.choice_map.proofs.Clean.{map-length, map-choice, map-clean}
 use Rattle.board.specs.Board.{worthPlace, boardHeader, boardWorth, boardMap, boardLength, stepBytes, countBytes, headBytes}
-use Rattle.opening.specs.Open.{malformed}
-use Rattle.opening.proofs.Openings.{formed-header}
-use Rattle.opening.proofs.Written.{board-parts, map-read}
-use Rattle.problem.specs.declared.columns.Size.{Size}
-use Rattle.problem.specs.Columns.{turnsBy, Held}
-use Rattle.problem.proofs.Rows.{count-is}
-use Rattle.planning.specs.Plan.{boardFor}
-use Rattle.planning.proofs.Boards.{choice-count, board-most, ReadsBack, board-back}
-use Rattle.sheet.specs.Read.{atFront}
+use Rattle.board_open.specs.Open.{malformed}
+use Rattle.board_open.proofs.Openings.{formed-header}
+use Rattle.board_open.proofs.Written.{board-parts, map-read}
+use Rattle.instance.specs.declared.columns.Size.{Size}
+use Rattle.instance.specs.Columns.{turnsBy, Held}
+use Rattle.instance.proofs.Rows.{count-is}
+use Rattle.plan_spec.specs.Plan.{boardFor}
+use Rattle.plan_spec.proofs.Boards.{choice-count, board-most, ReadsBack, board-back}
+use Rattle.refusal.specs.Written.{atFront}
 use Rattle.refine_spec.specs.Refine.{boardWith}
 use Rattle.refine_spec.proofs.Boards.{with-size, with-most}
 use Rattle.refine.specs.Stages.{choiceWorth}

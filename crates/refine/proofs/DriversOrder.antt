@@ -15,10 +15,10 @@ use Rattle.lists.proofs.Sums.{sum-same, sum-point}
 use Rattle.sheet.specs.Kind.{mostTurns}
 use Rattle.model.specs.Turns.{Turns}
 use Rattle.model.specs.Choice.{has, chosen}
-use Rattle.problem.specs.Columns.{turnsBy}
-use Rattle.optimum.specs.Table.{turnOrder}
-use Rattle.optimum.proofs.Ordering as ordering
-use Rattle.besttable.proofs.OrderCases.{order-length, order-within}
+use Rattle.instance.specs.Columns.{turnsBy}
+use Rattle.best_spec.specs.Table.{turnOrder}
+use Rattle.best_spec.proofs.Ordering as ordering
+use Rattle.best_table.proofs.OrderCases.{order-length, order-within}
 use Rattle.price_spec.specs.Prices.{paysTurn}
 use Rattle.prices.specs.declared.Extent.{Extent}
 use Rattle.prices.specs.Held.{byDrivers, turnsIn, driverPlace, paidFrom, paidTo, Ordered, Priced}

@@ -9,13 +9,13 @@ use lib.ListN.{drop, replicate, getD}
 use borrow.Author.Tests.{lt-ltb, le-ltb}
 use Rattle.lists.specs.Lists.{sum, below}
 use Rattle.lists.proofs.Sums.{sum-zero, all-of}
-use Rattle.turns.specs.Turn.{mostWorth}
+use Rattle.turn.specs.Turn.{mostWorth}
 use Rattle.sheet.specs.Kind.{mostTurns}
 use Rattle.model.specs.Turns.{Turns}
-use Rattle.optimum.specs.Table.{turnOrder, blocked, bestOf, bestWorth}
-use Rattle.optimum.proofs.Tables.{best-ind}
-use Rattle.optimum.proofs.Ordering.{order-sum}
-use Rattle.choicemap.proofs.Clean.{zeros-at}
+use Rattle.best_spec.specs.Table.{turnOrder, blocked, bestOf, bestWorth}
+use Rattle.best_spec.proofs.Tables.{best-ind}
+use Rattle.best_spec.proofs.Ordering.{order-sum}
+use Rattle.choice_map.proofs.Clean.{zeros-at}
 use Rattle.price_spec.specs.Prices.{slopePrice, turnPrice, countsFor, priceSum}
 use Rattle.refine_spec.specs.Rounds.{Rule, Stage, startFrom, lowerLimit, betterChoice, looked, moving, refined}
 use Rattle.prices.specs.Held.{countedTurns}

@@ -16,15 +16,15 @@ use lib.Seq.{getD-set-same, getD-set-other, getD-append-add, ext-getD}
 use borrow.Author.Tests.{lt-ltb, le-ltb, eq-eqb, ne-eqb}
 use Rattle.lists.specs.Lists.{below, tab}
 use Rattle.lists.proofs.Sums.{sum-same, tab-length, tab-at}
-use Rattle.turns.specs.Turn.{mostWorth}
+use Rattle.turn.specs.Turn.{mostWorth}
 use Rattle.sheet.specs.Kind.{mostTurns, mostSlopes}
 use Rattle.model.specs.Turns.{Turns}
 use Rattle.model.specs.Choice.{has, chosen}
-use Rattle.choicemap.specs.Choice.{choiceIn}
-use Rattle.problem.specs.declared.ways.Row.{Row}
-use Rattle.problem.specs.declared.columns.Size.{Size}
-use Rattle.problem.specs.Columns.{rowIn, turnsBy, Held}
-use Rattle.problem.proofs.Rows.{count-is, slope-at, worth-at}
+use Rattle.choice_map.specs.Choice.{choiceIn}
+use Rattle.instance.specs.declared.ways.Row.{Row}
+use Rattle.instance.specs.declared.columns.Size.{Size}
+use Rattle.instance.specs.Columns.{rowIn, turnsBy, Held}
+use Rattle.instance.proofs.Rows.{count-is, slope-at, worth-at}
 use Rattle.price_spec.specs.Prices.{slopePrice, turnPrice}
 use Rattle.prices.specs.declared.Extent.{Extent}
 use Rattle.prices.specs.Held.{mostPrice, turnsIn, orderPlaces, driverPlace, Ordered, Priced}

@@ -12,12 +12,12 @@ use lib.Seq.{getD-set-same, getD-set-other}
 use borrow.Author.Tests.{lt-ltb, le-ltb, le-leb, lt-leb, eq-eqb, ne-eqb}
 use Rattle.lists.specs.Lists.{sum, below}
 use Rattle.lists.proofs.Sums.{sum-add, sum-mono, sum-zero, sum-same, sum-split, sum-ones, all-of, all-below}
-use Rattle.sorting.specs.Counting.{sumBefore}
+use Rattle.lists.specs.Counting.{sumBefore}
 use Rattle.sheet.specs.Kind.{mostTurns}
 use Rattle.model.specs.Choice.{has, chosen}
-use Rattle.choicemap.specs.Choice.{chosenIn, choiceIn, nextChosen, Clean}
-use Rattle.choicemap.proofs.Clean.{choice-has, clean-bits, clear-bits}
-use Rattle.choicemap.proofs.NextChosen.{next-from, next-clear, next-chosen}
+use Rattle.choice_map.specs.Choice.{chosenIn, choiceIn, nextChosen, Clean}
+use Rattle.choice_map.proofs.Clean.{choice-has, clean-bits, clear-bits}
+use Rattle.choice_map.proofs.NextChosen.{next-from, next-clear, next-chosen}
 use Rattle.prices.specs.Held.{paidFrom, paidTo}
 use Rattle.refine.specs.Moving.{payerPlaces, numberBehind, timesChosen, timesBefore, payersBefore, payersPresent, SmallNumbers, Times, PaidRuns, Summable, Present, Payers}
 

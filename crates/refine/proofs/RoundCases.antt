@@ -12,9 +12,9 @@ use Rattle.lists.proofs.Bools.{or-cases, or-false-1, or-false-2}
 use Rattle.wire.specs.Number.{puts}
 use Rattle.sheet.specs.Kind.{mostTurns, mostSlopes}
 use Rattle.model.specs.Turns.{Turns}
-use Rattle.optimum.specs.Table.{bestWorth, bestChoice}
-use Rattle.choicemap.specs.Choice.{mapBytes, choiceIn, Clean}
-use Rattle.problem.proofs.Rows.{count-is}
+use Rattle.best_spec.specs.Table.{bestWorth, bestChoice}
+use Rattle.choice_map.specs.Choice.{mapBytes, choiceIn, Clean}
+use Rattle.instance.proofs.Rows.{count-is}
 use Rattle.price_spec.specs.Prices.{priceSum}
 use Rattle.prices.specs.declared.Extent.{Extent}
 use Rattle.prices.specs.Held.{countedTurns, turnsIn, Priced}

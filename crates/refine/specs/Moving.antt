@@ -7,10 +7,10 @@ use Prim.Native.Nat.{ℕ, _+_, _-_, _≤_, _<_}
 use lib.Dec.{ltb, leb, eqb}
 use lib.ListN.{length, getD}
 use Rattle.lists.specs.Lists.{sum, below}
-use Rattle.sorting.specs.Counting.{sumBefore}
+use Rattle.lists.specs.Counting.{sumBefore}
 use Rattle.model.specs.Choice.{chosen}
 use Rattle.sheet.specs.Kind.{mostTurns}
-use Rattle.choicemap.specs.Choice.{chosenIn, choiceIn}
+use Rattle.choice_map.specs.Choice.{chosenIn, choiceIn}
 use Rattle.prices.specs.declared.Extent.{Extent}
 use Rattle.prices.specs.Held.{turnsIn, orderPlaces, driverPlace, paidFrom, paidTo}
 use Rattle.refine_spec.specs.Shift.{slopePayers, movedPrice}

@@ -8,12 +8,12 @@ use lib.ListN.{length, replicate}
 use Rattle.model.specs.Turns.{Turns}
 use Rattle.wire.specs.Number.{puts}
 use Rattle.model.specs.Choice.{has, chosen, fits, choice}
-use Rattle.optimum.specs.Table.{bestWorth, bestChoice}
-use Rattle.optimum.specs.Groomers.{keep}
-use Rattle.choicemap.specs.Choice.{choiceIn, Clean}
-use Rattle.problem.specs.declared.columns.Size.{Size}
-use Rattle.problem.specs.Columns.{columnPlaces, turnsBy, Held}
-use Rattle.planning.specs.Plan.{boardFor}
+use Rattle.best_spec.specs.Table.{bestWorth, bestChoice}
+use Rattle.best_spec.specs.Groomers.{keep}
+use Rattle.choice_map.specs.Choice.{choiceIn, Clean}
+use Rattle.instance.specs.declared.columns.Size.{Size}
+use Rattle.instance.specs.Columns.{columnPlaces, turnsBy, Held}
+use Rattle.plan_spec.specs.Plan.{boardFor}
 use Rattle.price_spec.specs.Prices.{priceSum}
 use Rattle.refine_spec.specs.Rounds.{Rule, Stage, startFrom, refined, firstChange}
 use Rattle.refine_spec.specs.Selection.{choiceFrom}

@@ -4,8 +4,8 @@ ghost use Prim.Native.Nat.{_+_, _≤_};
 ghost use lib.ListN.{length, take};
 ghost use Rattle.model.specs.Choice.{choice};
 ghost use Rattle.board.specs.Board.{boardLength};
-ghost use Rattle.problem.specs.Columns.{columnPlaces, Held};
-ghost use Rattle.besttable.specs.Held.{Ranged};
+ghost use Rattle.instance.specs.Columns.{columnPlaces, Held};
+ghost use Rattle.best_table.specs.Held.{Ranged};
 ghost use Rattle.prices.specs.Held.{turnsIn, Priced};
 ghost use Rattle.refine_spec.specs.Refine.{refinementOf, refineOf};
 ghost use Rattle.refine.specs.Stages.{tableRefined, RoundsStart, ReachedFrom};
@@ -16,11 +16,11 @@ mod planned;
 mod rounds;
 mod selecting;
 
+use instance::PLACES;
 use planned::plan_board;
 use planned::write_choice;
 use prices::Extent;
 use prices::ORDERS;
-use problem::PLACES;
 use refine_spec::RefineAnswer;
 use rounds::Reached;
 use rounds::Task;
@@ -59,7 +59,7 @@ fn refine_with(
         (now (board .entry)) (now (prices .entry)) ⌝ }
 {
     let p = e.size;
-    let size = choicemap::map_bytes(p.count as u16);
+    let size = choice_map::map_bytes(p.count as u16);
     let mut space = [0u8; MAP_BYTES];
     let map = &mut space[..size];
     let plan = plan_board(p, cols, &mut *board, &mut *map, &mut *room);
@@ -100,7 +100,7 @@ pub fn refine(s: &[u8], rounds: u32, board: &mut [u8], prices: &mut [u16]) -> Re
 {
     let mut cols = [0u16; PLACES];
     let mut room = [0u16; PLACES];
-    let r = problem::load_with(s, &mut cols, &mut room);
+    let r = instance::load_with(s, &mut cols, &mut room);
     let fault = r.refusal;
     if fault != 0 {
         return refused(fault);
@@ -114,7 +114,7 @@ pub fn refine(s: &[u8], rounds: u32, board: &mut [u8], prices: &mut [u16]) -> Re
         return refused(refusal::BUFFER_TOO_SMALL);
     }
     let e = Extent {
-        size: problem::shift_size(n),
+        size: instance::shift_size(n),
         slopes: slopes,
     };
     refine_with(e, rounds, &cols, &mut *board, &mut *prices, &mut room)

@@ -6,21 +6,21 @@ ghost use mathlib.Core.Bool.{cond};
 ghost use Prim.Native.Nat.{_+_, _-_, _≤_, _<_, max, min};
 ghost use lib.Dec.{ltb};
 ghost use lib.ListN.{length, getD, set, replicate};
-ghost use Rattle.turns.specs.Turn.{mostWorth};
+ghost use Rattle.turn.specs.Turn.{mostWorth};
 ghost use Rattle.sheet.specs.Kind.{mostTurns, mostSlopes};
-ghost use Rattle.choicemap.specs.Choice.{choiceIn, Clean};
-ghost use Rattle.problem.specs.Columns.{turnsBy, Held};
+ghost use Rattle.choice_map.specs.Choice.{choiceIn, Clean};
+ghost use Rattle.instance.specs.Columns.{turnsBy, Held};
 ghost use Rattle.prices.specs.Held.{mostPrice, turnsIn, Ordered, Priced};
 ghost use Rattle.refine_spec.specs.Rounds.{nextChange, firstChange};
 ghost use Rattle.refine_spec.specs.Shift.{highestPrice, movedPrice, turnChange, movedPrices, greatestWorth};
 ghost use Rattle.refine.specs.Moving.{mostChange, payerPlaces, numberBehind, payersAt, payersAfter, slopePayersIn, turnPayersIn, ownPlace, turnPlace};
 ghost use Rattle.refine.specs.Moving.{SmallNumbers, Times, PaidRuns, Summable, Present, Payers, FewPayers, EachOnce, MovedBy};
+use instance::MOST_TURNS;
+use instance::PLACES;
+use instance::Size;
+use instance::row_at;
 use prices::Extent;
 use prices::ORDERS;
-use problem::MOST_TURNS;
-use problem::PLACES;
-use problem::Size;
-use problem::row_at;
 
 const MOST_PRICE: u32 = 65535;
 
@@ -148,11 +148,11 @@ fn count_numbers(n: usize, relaxed: &[u8], numbers: &[u16], at: usize, times: &m
     requires { ⌜ Clean n (now relaxed) × SmallNumbers n (now numbers) at × (now times ≡ replicate payerPlaces 0) ⌝ }
     ensures { λ _. ⌜ Times n (choiceIn n (now (relaxed .entry))) (numberBehind (now (numbers .entry)) at) (now (times .exit)) ⌝ }
 {
-    let mut t = choicemap::next_chosen(relaxed, 0);
+    let mut t = choice_map::next_chosen(relaxed, 0);
     while t < n {
         let k = as_place(numbers[at + t]);
         add_payer(&mut *times, k);
-        t = choicemap::next_chosen(relaxed, t + 1);
+        t = choice_map::next_chosen(relaxed, t + 1);
     }
 }
 

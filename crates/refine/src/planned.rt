@@ -5,13 +5,13 @@ ghost use Prim.Native.Nat.{_+_, _≤_};
 ghost use lib.ListN.{length};
 ghost use Rattle.wire.specs.Number.{bytesOf, puts};
 ghost use Rattle.model.specs.Choice.{choice};
-ghost use Rattle.choicemap.specs.Choice.{mapBytes, choiceIn, Clean};
+ghost use Rattle.choice_map.specs.Choice.{mapBytes, choiceIn, Clean};
 ghost use Rattle.board.specs.Board.{worthPlace, boardHeader, boardLength};
-ghost use Rattle.problem.specs.Columns.{columnPlaces, turnsBy, Held};
-ghost use Rattle.planning.specs.Plan.{boardFor};
+ghost use Rattle.instance.specs.Columns.{columnPlaces, turnsBy, Held};
+ghost use Rattle.plan_spec.specs.Plan.{boardFor};
 ghost use Rattle.refine.specs.Stages.{choiceWorth, PlannedIn};
-use problem::PLACES;
-use problem::Size;
+use instance::PLACES;
+use instance::Size;
 
 // The worth stands before the map, in the last four bytes of the header.
 const WORTH_PLACE: usize = board::HEADER_BYTES - 4;
@@ -28,7 +28,7 @@ fn copy_choice(p: Size, cols: &[u16; PLACES], b: &[u8], map: &mut [u8]) -> u32
     ensures { λ r. ⌜ r ≡ choiceWorth (turnsBy p (now (cols .entry))) (choice (turnsBy p (now (cols .entry)))) ⌝ }
     ensures { λ _. ⌜ (choiceIn (p .count) (now (map .exit)) ≡ choice (turnsBy p (now (cols .entry)))) × Clean (p .count) (now (map .exit)) ⌝ }
 {
-    let planned = opening::map(b);
+    let planned = board_open::map(b);
     wire::put_bytes(&mut *map, 0, planned);
     board::worth(b)
 }
@@ -46,7 +46,7 @@ pub fn plan_board(
     ensures { λ r. ⌜ PlannedIn p (now (cols .entry)) (now (out .entry)) r (now (out .exit)) (now (map .exit)) ⌝ }
     ensures { λ _. ⌜ length (now (room .exit)) ≡ columnPlaces ⌝ }
 {
-    let made = planner::write_board(p, cols, &mut *out, &mut *room);
+    let made = plan::write_board(p, cols, &mut *out, &mut *room);
     let bytes = made.bytes as usize;
     let worth = copy_choice(p, cols, &out[..bytes], &mut *map);
     Planned {

@@ -14,11 +14,11 @@ use super::selecting::Rated;
 use super::selecting::copy_numbers;
 use super::selecting::keep_better;
 use super::selecting::put_ranks;
+use instance::MOST_TURNS;
+use instance::PLACES;
 use prices::Extent;
 use prices::ORDERS;
 use prices::look;
-use problem::MOST_TURNS;
-use problem::PLACES;
 
 // A price for each slope and each turn that a sheet can have.
 const MOST_PRICES: usize = sheet::MOST_SLOPES as usize + MOST_TURNS;

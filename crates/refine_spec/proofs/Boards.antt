@@ -6,7 +6,7 @@ use mathlib.Core.Bool.{Bool, false}
 use native.Mathlib.Omega.{arith}
 use lib.ListN.{length}
 use Rattle.refusal.specs.Cause.{firstOf}
-use Rattle.turns.specs.Turn.{mostWorth}
+use Rattle.turn.specs.Turn.{mostWorth}
 use Rattle.sheet.specs.Kind.{mostTurns}
 use Rattle.sheet.specs.Read.{sheetCauses}
 use Rattle.sheet.proofs.Unrefused.{few-turns}
@@ -21,13 +21,13 @@ use Rattle.model.proofs.Filled.{NoConflict, NoRoom}
 use Rattle.model.proofs.Readings.{apart-reads, full-reads}
 use Rattle.model.proofs.Promised.{planned-keeps}
 use Rattle.board.specs.Board.{boardTurns, boardTally, boardWorth, boardLength, boardChoice, writtenSteps}
-use Rattle.opening.specs.Open.{malformed}
-use Rattle.opening.proofs.Written as written
-use Rattle.ratio.proofs.Written.{steps-small}
-use Rattle.problem.specs.Problem.{sheetTurns}
-use Rattle.problem.proofs.Posed.{sheet-count, sheet-lengths, sheet-worths}
-use Rattle.checking.specs.Check.{Passes}
-use Rattle.checking.proofs.Passing.{formed-board, parts-pass}
+use Rattle.board_open.specs.Open.{malformed}
+use Rattle.board_open.proofs.Written as written
+use Rattle.board.proofs.WrittenSteps.{steps-small}
+use Rattle.instance_spec.specs.Problem.{sheetTurns}
+use Rattle.instance_spec.proofs.SheetTurns.{sheet-count, sheet-lengths, sheet-worths}
+use Rattle.check_spec.specs.Check.{Passes}
+use Rattle.check_spec.proofs.Passing.{formed-board, parts-pass}
 use Rattle.refine_spec.specs.Refine.{boardWith}
 
 -- everything that was written

@@ -23,11 +23,11 @@ use Rattle.model.proofs.Members.{chosen-members, members-feasible}
 use Rattle.model.proofs.Promised.{choice-earns}
 use Rattle.model.proofs.Readings.{apart-reads}
 use Rattle.board.specs.Board.{boardTally, boardWorth, writtenSteps}
-use Rattle.problem.specs.Problem.{sheetTurns}
-use Rattle.problem.proofs.Posed.{sheet-count, sheet-lengths}
-use Rattle.checking.specs.Check.{Passes}
-use Rattle.planning.specs.Plan.{plannedBoard}
-use Rattle.planning.proofs.Planned.{planned-back}
+use Rattle.instance_spec.specs.Problem.{sheetTurns}
+use Rattle.instance_spec.proofs.SheetTurns.{sheet-count, sheet-lengths}
+use Rattle.check_spec.specs.Check.{Passes}
+use Rattle.plan_spec.specs.Plan.{plannedBoard}
+use Rattle.plan_spec.proofs.Planned.{planned-back}
 use Rattle.price_spec.specs.declared.LimitAnswer.{LimitAnswer}
 use Rattle.price_spec.specs.Prices.{turnPrice}
 use Rattle.price_spec.specs.Limit.{priceCount, limitCauses, sheetLimit, limitIs, limitOf}

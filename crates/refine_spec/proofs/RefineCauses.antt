@@ -11,7 +11,7 @@ use borrow.Author.Tests.{ltb-true, ltb-false, lt-ltb, le-ltb, eqb-true}
 use Rattle.lists.proofs.Bools.{or-1, or-2, or-cases, or-false-1, or-false-2}
 use Rattle.refusal.specs.Number.{bufferTooSmall}
 use Rattle.refusal.specs.Cause.{Cause, _when_, There, firstOf}
-use Rattle.refusal.proofs.Order.{first-goes, clear-append, clear-cons}
+use Rattle.refusal.proofs.Order.{first-goes, clear-append, clear-cons, first-same}
 use Rattle.refusal.proofs.Places.{at-there, there-at, there-left, there-right, there-split}
 use Rattle.wire.specs.Number.{Bytes}
 use Rattle.sheet.specs.Kind.{garage}
@@ -20,10 +20,10 @@ use Rattle.sheet.specs.Accepted.{placeOf, SheetCause, Accepted}
 use Rattle.sheet.proofs.SoundKinds.{garage-sound}
 use Rattle.sheet.proofs.Readings.{sheet-numbered}
 use Rattle.sheet.proofs.Accepting.{accepted-iff}
-use Rattle.sheet.proofs.Causes.{first-same, cause-there, there-cause-for}
+use Rattle.sheet.proofs.Causes.{cause-there, there-cause-for}
 use Rattle.sheet.proofs.ReadCauses.{sheet-places}
 use Rattle.board.specs.Board.{boardLength}
-use Rattle.problem.specs.Problem.{sheetTurns}
+use Rattle.instance_spec.specs.Problem.{sheetTurns}
 use Rattle.price_spec.specs.Limit.{priceCount}
 use Rattle.refine_spec.specs.Rounds.{Stage}
 use Rattle.refine_spec.specs.Shift.{shiftRefined}

@@ -14,13 +14,13 @@ use Rattle.lists.proofs.Bools.{not-both, fails}
 use Rattle.lists.proofs.Sums.{all-map, tab-length, tab-at}
 use Rattle.model.specs.Turns.{Turns}
 use Rattle.model.specs.Choice.{has}
-use Rattle.optimum.specs.Table.{Best, bestOf, bestChoice, isAmong}
-use Rattle.optimum.specs.Groomers.{keep, ownTurns}
-use Rattle.optimum.proofs.Members.{among-all}
-use Rattle.optimum.proofs.Ordering.{Ordered, empty, first, order-ordered}
-use Rattle.optimum.proofs.Tables.{best-every, leads-groomer}
-use Rattle.optimum.proofs.Groomers.{together, groomers-add}
-use Rattle.optimum.proofs.Optimal.{bestTurns, choice-among, among-choice, best-length}
+use Rattle.best_spec.specs.Table.{Best, bestOf, bestChoice, isAmong}
+use Rattle.best_spec.specs.Groomers.{keep, ownTurns}
+use Rattle.best_spec.proofs.Members.{among-all}
+use Rattle.best_spec.proofs.Ordering.{Ordered, empty, first, order-ordered}
+use Rattle.best_spec.proofs.Tables.{best-every, leads-groomer}
+use Rattle.best_spec.proofs.Groomers.{together, groomers-add}
+use Rattle.best_spec.proofs.Optimal.{bestTurns, choice-among, among-choice, best-length}
 use Rattle.price_spec.specs.Prices.{countsFor, pricedTurns}
 use Rattle.price_spec.proofs.Bare.{withWorths, bare-choice}
 use Rattle.refine_spec.specs.Shift.{isRelaxed, relaxedSet}

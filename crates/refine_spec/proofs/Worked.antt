@@ -2,21 +2,21 @@
 use mathlib.Core.Path.{refl}
 use Rattle.refusal.specs.Cause.{firstOf}
 use Rattle.wire.specs.Mark.{opensWith}
-use Rattle.turns.specs.Turn.{outsideRange, pastShift, turnCauses}
+use Rattle.turn.specs.Turn.{outsideRange, pastShift, turnCauses}
 use Rattle.sheet.specs.Kind.{garage}
 use Rattle.sheet.specs.Record.{widthOf, field, turnFrom, badMapFor, endAt, turnAt, cursorAfter, recordCauses, firstCursor}
 use Rattle.sheet.specs.Read.{countCauses, headerCauses, recordsCauses, turnsFrom, causesFor, sheetCauses, turnsOf}
 use Rattle.lists.specs.Lists.{every, tab}
-use Rattle.sorting.specs.Sorting.{insertBy, sortBy}
+use Rattle.lists.specs.Sorting.{insertBy, sortBy}
 use Rattle.model.specs.Turns.{overlapping, overlap, bySlope, oneGroomer, byGroomer, oneDriver, byDriver, conflict}
 use Rattle.model.specs.Steps.{isOpen, left, initial, touches, reduced, change, afterStep, tally}
 use Rattle.model.specs.Pick.{sooner, better, best, pick, nextStep, planBy, plan, steps}
 use Rattle.model.specs.Choice.{chosen, fits, choose, chooseEach, back, fill, goBack, choice}
-use Rattle.choicemap.specs.Choice.{byteOf, mapOf}
+use Rattle.choice_map.specs.Choice.{byteOf, mapOf}
 use Rattle.board.specs.Board.{stepBytes, boardOf}
-use Rattle.problem.specs.Problem.{problemOf, sheetTurns}
-use Rattle.optimum.specs.Table.{laterFirst, turnOrder, greater, inTheWay, blocked, bestTable, bestOf, isAmong}
-use Rattle.optimum.specs.Groomers.{keep, ownTurns, groomerWorth, groomersWorth}
+use Rattle.instance_spec.specs.Problem.{problemOf, sheetTurns}
+use Rattle.best_spec.specs.Table.{laterFirst, turnOrder, greater, inTheWay, blocked, bestTable, bestOf, isAmong}
+use Rattle.best_spec.specs.Groomers.{keep, ownTurns, groomerWorth, groomersWorth}
 use Rattle.price_spec.specs.Prices.{slopePrice, turnPrice, paysTurn, paidBy, countsFor, pricedTurns, priceSum, limitBy}
 use Rattle.refine_spec.specs.Rounds.{startFrom, lowerLimit, betterChoice, looked, nextChange, moving, refined, greatestOf, firstChange}
 use Rattle.refine_spec.specs.Selection.{poorerFirst, byWorth, choiceFrom}

@@ -7,9 +7,9 @@ use lib.ListN.{take, drop}
 use Rattle.model.specs.Feasible.{Feasible, worthOf}
 use Rattle.sheet.specs.Read.{countsIn}
 use Rattle.board.specs.Board.{boardTally, boardWorth, writtenSteps}
-use Rattle.problem.specs.Problem.{sheetTurns}
-use Rattle.checking.specs.Check.{Passes}
-use Rattle.planning.specs.Plan.{plannedBoard}
+use Rattle.instance_spec.specs.Problem.{sheetTurns}
+use Rattle.check_spec.specs.Check.{Passes}
+use Rattle.plan_spec.specs.Plan.{plannedBoard}
 use Rattle.price_spec.specs.Prices.{turnPrice}
 use Rattle.price_spec.specs.Limit.{priceCount, limitIs, limitOf}
 use Rattle.refine_spec.specs.Refine.{refineOf}

@@ -10,10 +10,11 @@ use Rattle.model.specs.Turns.{Turns}
 use Rattle.model.specs.Steps.{tally}
 use Rattle.model.specs.Pick.{steps}
 use Rattle.model.specs.Choice.{chosen}
-use Rattle.sheet.specs.Read.{countsIn, turnCount, sheetCauses, atFront}
+use Rattle.sheet.specs.Read.{countsIn, turnCount, sheetCauses}
+use Rattle.refusal.specs.Written.{atFront}
 use Rattle.sheet.specs.Accepted.{SheetCause, placeOf}
 use Rattle.board.specs.Board.{boardLength, boardOf}
-use Rattle.problem.specs.Problem.{sheetTurns}
+use Rattle.instance_spec.specs.Problem.{sheetTurns}
 use Rattle.price_spec.specs.Limit.{priceCount}
 use Rattle.refine_spec.specs.Rounds.{Stage}
 use Rattle.refine_spec.specs.Shift.{shiftRefined}

@@ -7,8 +7,8 @@ use lib.ListN.{replicate}
 use Rattle.lists.specs.Lists.{tab, below}
 use Rattle.model.specs.Turns.{Turns}
 use Rattle.model.specs.Choice.{chosen, fits, choice}
-use Rattle.optimum.specs.Table.{bestOf, isAmong}
-use Rattle.optimum.specs.Groomers.{ownTurns}
+use Rattle.best_spec.specs.Table.{bestOf, isAmong}
+use Rattle.best_spec.specs.Groomers.{ownTurns}
 use Rattle.price_spec.specs.Prices.{slopePrice, turnPrice, paysTurn, pricedTurns, limitBy}
 use Rattle.refine_spec.specs.Rounds.{Rule, Stage, startFrom, refined, greatestOf, firstChange}
 use Rattle.refine_spec.specs.Selection.{choiceFrom}

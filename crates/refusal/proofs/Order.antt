@@ -7,7 +7,7 @@ use Prim.Native.Nat.{ℕ, suc, _<_}
 use native.Mathlib.Omega.{arith}
 use lib.Dec.{ltb}
 use borrow.Author.Tests.{ltb-true}
-use Rattle.refusal.specs.Cause.{Cause, firstOf, There, here, later, First}
+use Rattle.refusal.specs.Cause.{Cause, firstOf, There, here, later, FirstAmong, First}
 
 -- every number in the list is above 0, which stands for none
 abbrev pub numbered : List Cause → Bool
@@ -129,3 +129,14 @@ first-iff cs k z = (λ e. given-first cs k e z, λ f. there-given (f .cause) (f 
 
 pub none-iff : (cs : List Cause) → numbered cs ≡ true → (firstOf cs ≡ 0) ↔ ((k r : ℕ) → There cs k r → ⊥)
 none-iff cs p = (λ e. none-given cs e p, given-none cs)
+
+-- an order of causes and the same in words: what is first in one is first in the other
+module _ (cs : List Cause) (Causes : ℕ → ℕ → Type 0) (same : (k r : ℕ) → Causes k r ↔ There cs k r) where
+  pub first-same : (k : ℕ) → (k ≡ 0 → ⊥) → (firstOf cs ≡ k) ↔ FirstAmong Causes k
+  first-same k z = (λ e. to (first-iff cs k z .0 e), λ f. first-iff cs k z .1 (from f))
+    where
+      to : First cs k → FirstAmong Causes k
+      to f = record { place = f .place; cause = same k (f .place) .1 (f .cause); none-before = λ j r l h. f .none-before j r l (same j r .0 h) }
+
+      from : FirstAmong Causes k → First cs k
+      from f = record { place = f .place; cause = same k (f .place) .0 (f .cause); none-before = λ j r l h. f .none-before j r l (same j r .1 h) }

@@ -6,6 +6,10 @@ use lib.ListN.{length, drop}
 use lib.Dec.{eqb}
 use Rattle.refusal.specs.Cause.{Cause, firstOf}
 
+-- numbers at the front of a lent place, then what was there
+abbrev pub atFront : List ℕ → List ℕ → List ℕ
+atFront numbers lent = numbers ++ drop (length numbers) lent
+
 -- the refusal, 0 if none, the bytes written, 0 on a refusal, and what the lent bytes hold then
 pub record Written : Type 0 where
   pub refusal : ℕ
@@ -14,7 +18,7 @@ pub record Written : Type 0 where
 
 -- a text at the front of the lent bytes, then what was there
 abbrev pub wrote : List ℕ → List ℕ → Written
-wrote text lent = record { refusal = 0; bytes = length text; lent = text ++ drop (length text) lent }
+wrote text lent = record { refusal = 0; bytes = length text; lent = atFront text lent }
 
 -- a refusal, and the lent bytes as before
 abbrev pub kept : ℕ → List ℕ → Written

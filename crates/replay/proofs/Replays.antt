@@ -9,27 +9,27 @@ use lib.IntN.{ℤ}
 use lib.ListN.{length}
 use Rattle.refusal.specs.Number.{wrongStep, turnLeftOpen}
 use Rattle.refusal.specs.Cause.{_when_, firstOf}
-use Rattle.turns.specs.Turn.{mostWorth}
+use Rattle.turn.specs.Turn.{mostWorth}
 use Rattle.model.specs.Turns.{Turns}
 use Rattle.model.specs.Steps.{Step, initial, afterStep, afterSteps}
 use Rattle.model.specs.Rules.{Right, right, allRight, noneOpen}
 use Rattle.model.specs.Ceiling.{stepCost, ceiling}
 use Rattle.model.proofs.Readings.{right-is}
 use Rattle.board.specs.Board.{stepAt, stepsIn}
-use Rattle.problem.specs.declared.columns.Size.{Size}
-use Rattle.problem.specs.Columns.{turnsBy}
-use Rattle.problem.proofs.Rows.{count-is}
-use Rattle.relabelling.specs.Relabelling.{relabel, relabelAll}
-use Rattle.relabelling.proofs.Relabelling.{first-alike, none-open-same, all-right-same, after-all-same, costs-same}
-use Rattle.placing.specs.Placing.{placeAt, PutByEnd, PlacesOf}
-use Rattle.placing.proofs.Placed.{put-relabelled, list-places}
-use Rattle.ratio.specs.Bounds.{Residuals, ClosedTo}
-use Rattle.ratio.specs.Below.{closedBelow}
-use Rattle.ratio.specs.Counting.{costsFrom}
-use Rattle.ratio.proofs.Signed.{left-small}
-use Rattle.ratio.proofs.Replaying.{stepsFrom, steps-from-start, steps-from-more, steps-from-none, ceiling-is}
+use Rattle.instance.specs.declared.columns.Size.{Size}
+use Rattle.instance.specs.Columns.{turnsBy}
+use Rattle.instance.proofs.Rows.{count-is}
+use Rattle.model_relabel.specs.Relabelling.{relabel, relabelAll}
+use Rattle.model_relabel.proofs.Relabelling.{first-alike, none-open-same, all-right-same, after-all-same, costs-same}
+use Rattle.instance_by_end.specs.Placing.{placeAt, PutByEnd, PlacesOf}
+use Rattle.instance_by_end.proofs.Placed.{put-relabelled, list-places}
+use Rattle.local_ratio.specs.Bounds.{Residuals, ClosedTo}
+use Rattle.local_ratio.specs.Below.{closedBelow}
+use Rattle.local_ratio.specs.Counting.{costsFrom}
+use Rattle.local_ratio.proofs.Signed.{left-small}
+use Rattle.local_ratio.proofs.Replaying.{stepsFrom, steps-from-start, steps-from-more, steps-from-none, ceiling-is}
 use Rattle.replay.specs.declared.replay.Judgement.{Judgement}
-use Rattle.checking.specs.Check.{stepCauses}
+use Rattle.check_spec.specs.Check.{stepCauses}
 use Rattle.replay.specs.Judged.{faultAt, judged}
 use Rattle.replay.specs.Moves.{movesIn}
 use Rattle.replay.proofs.Faults.{fault-judged, none-judged}

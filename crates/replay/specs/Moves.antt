@@ -3,8 +3,8 @@ use Prim.Native.Nat.{ℕ}
 use mathlib.Core.List.{List}
 use Rattle.model.specs.Steps.{Step}
 use Rattle.board.specs.Board.{stepsIn}
-use Rattle.relabelling.specs.Relabelling.{relabelAll}
-use Rattle.placing.specs.Placing.{placeAt}
+use Rattle.model_relabel.specs.Relabelling.{relabelAll}
+use Rattle.instance_by_end.specs.Placing.{placeAt}
 
 -- m written steps so
 unfoldable pub movesIn : List ℕ → ℕ → List ℕ → List Step

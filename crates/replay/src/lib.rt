@@ -1,4 +1,5 @@
-// The steps that stand in a board, replayed: whether each is right, what they count for, what they leave.
+// A board's written steps, replayed: whether each is right where it stands, and what it counts for.
+mod orders;
 mod replay;
 
 pub use replay::Judgement;

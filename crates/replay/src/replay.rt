@@ -4,21 +4,21 @@ ghost use mathlib.Core.Bool.{true, cond};
 ghost use Prim.Native.Nat.{_+_, _*_, _≤_, _<_};
 ghost use lib.ListN.{length};
 ghost use Rattle.refusal.specs.Cause.{firstOf};
-ghost use Rattle.turns.specs.Turn.{mostWorth};
+ghost use Rattle.turn.specs.Turn.{mostWorth};
 ghost use Rattle.model.specs.Steps.{afterStep, afterSteps};
 ghost use Rattle.model.specs.Rules.{right, allRight};
 ghost use Rattle.model.specs.Ceiling.{stepCost, ceiling};
 ghost use Rattle.board.specs.Board.{stepSize, stepAt, stepsIn};
-ghost use Rattle.problem.specs.Columns.{columnPlaces, turnsBy, Held};
-ghost use Rattle.placing.specs.Placing.{placeAt, EndsRise};
-ghost use Rattle.ratio.specs.Bounds.{Residuals, ClosedTo};
-ghost use Rattle.ratio.specs.Counting.{costsFrom};
-ghost use Rattle.checking.specs.Check.{stepCauses};
+ghost use Rattle.instance.specs.Columns.{columnPlaces, turnsBy, Held};
+ghost use Rattle.instance_by_end.specs.Placing.{placeAt, EndsRise};
+ghost use Rattle.local_ratio.specs.Bounds.{Residuals, ClosedTo};
+ghost use Rattle.local_ratio.specs.Counting.{costsFrom};
+ghost use Rattle.check_spec.specs.Check.{stepCauses};
 ghost use Rattle.replay.specs.Judged.{faultAt, judged};
 ghost use Rattle.replay.specs.Moves.{movesIn};
-use problem::MOST_TURNS;
-use problem::PLACES;
-use problem::Size;
+use instance::MOST_TURNS;
+use instance::PLACES;
+use instance::Size;
 
 // Whether each of several steps is right where it stands, and what right ones count for.
 pub struct Replayed {
@@ -61,7 +61,7 @@ fn move_at(places: &[u16], steps: &[u8], i: usize) -> Move
 {
     let turn = board::step_turn(steps, i);
     let amount = board::step_amount(steps, i);
-    let place = placing::place_of(places, turn);
+    let place = instance_by_end::place_of(places, turn);
     Move {
         place: place,
         amount: amount,
@@ -86,9 +86,9 @@ fn replay_one(
         × (r .cost ≡ cond (r .right) (stepCost (turnsBy p (now (cols .entry))) (now (rest .entry)) (record { turn = j; amount = amount })) 0)
         × (r .cost ≤ 3 * mostWorth) ⌝ }
 {
-    let from = ratio::first_open(&*rest, closed);
-    if orders::is_right(&*rest, p, cols, j, amount, from) {
-        let cost = ratio::apply_step(&mut *rest, p, cols, j, amount, from);
+    let from = local_ratio::first_open(&*rest, closed);
+    if super::orders::is_right(&*rest, p, cols, j, amount, from) {
+        let cost = local_ratio::apply_step(&mut *rest, p, cols, j, amount, from);
         return Outcome {
             right: true,
             cost: cost,
@@ -155,10 +155,10 @@ fn judge_moves(
     ensures { λ r. ⌜ r ≡ judged (firstOf (stepCauses (turnsBy p (now (cols .entry))) (movesIn (now (places .entry)) m (now (steps .entry)))))
         (ceiling (turnsBy p (now (cols .entry))) (movesIn (now (places .entry)) m (now (steps .entry)))) ⌝ }
 {
-    ratio::set_initial(&mut *rest, p, cols);
+    local_ratio::set_initial(&mut *rest, p, cols);
     let run = replay(&mut *rest, p, cols, places, steps, m);
     if run.right {
-        if ratio::none_open(&*rest) {
+        if local_ratio::none_open(&*rest) {
             Judgement {
                 fault: 0,
                 ceiling: run.cost,
@@ -189,9 +189,9 @@ pub fn steps_fault(
     let n = p.count;
     let mut numbers = [0u16; MOST_TURNS];
     let order = &mut numbers[0..n];
-    placing::put_by_end(p, cols, &mut *order, &mut *room);
+    instance_by_end::put_by_end(p, cols, &mut *order, &mut *room);
     let mut spots = [0u16; MOST_TURNS];
     let places = &mut spots[0..n];
-    placing::put_places(&*order, &mut *places);
+    instance_by_end::put_places(&*order, &mut *places);
     judge_moves(&mut *rest, p, &*room, &*places, steps, m)
 }

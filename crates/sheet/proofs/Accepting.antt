@@ -16,9 +16,9 @@ use Rattle.refusal.proofs.Order.{first-goes, clear-cons, clear-append, none-iff
 use Rattle.wire.specs.Number.{bytesOf, valueAt, Bytes}
 use Rattle.wire.specs.Mark.{opensWith}
 use Rattle.wire.proofs.Numbers.{value-read, bytes-rest}
-use Rattle.turns.specs.declared.Turn.{Turn}
-use Rattle.turns.specs.declared.Counts.{Counts}
-use Rattle.turns.specs.Turn.{rowNumbers, Numbered}
+use Rattle.turn.specs.declared.Turn.{Turn}
+use Rattle.turn.specs.declared.Counts.{Counts}
+use Rattle.turn.specs.Turn.{rowNumbers, Numbered}
 use Rattle.sheet.specs.declared.kind.Kind.{Kind}
 use Rattle.sheet.specs.declared.record.Cursor.{Cursor}
 use Rattle.sheet.specs.Kind.{mostTurns, garage, ThreeBytes, three, Sound}

@@ -8,12 +8,11 @@ use native.Mathlib.Omega.{arith}
 use native.Mathlib.Nat.{zero-add}
 use lib.ListN.{length, take}
 use borrow.Author.Tests.{ltb-true, lt-ltb, leb-true, le-leb, not-true}
-use Rattle.refusal.specs.Cause.{Cause, There, First, firstOf}
-use Rattle.refusal.proofs.Order.{first-iff}
+use Rattle.refusal.specs.Cause.{There, firstOf}
 use Rattle.refusal.proofs.Places.{causeAt, there-at, at-there, there-left, there-right, there-split}
 use Rattle.wire.specs.Mark.{opensWith}
-use Rattle.turns.specs.Turn.{mostWorth, mostDriver, turnCauses}
-use Rattle.turns.proofs.Ranges.{outside-iff, past-iff}
+use Rattle.turn.specs.Turn.{mostWorth, mostDriver, turnCauses}
+use Rattle.turn.proofs.Ranges.{outside-iff, past-iff}
 use Rattle.sheet.specs.declared.kind.Kind.{Kind}
 use Rattle.sheet.specs.Kind.{garage, ThreeBytes}
 use Rattle.sheet.specs.Record.{widthOf, endAt, firstCursor, recordCauses}
@@ -21,6 +20,7 @@ use Rattle.sheet.specs.Read.{headerBytes, countsIn, turnCount, countCaus
 use Rattle.sheet.proofs.SoundKinds.{garage-sound, mark-iff}
 use Rattle.sheet.proofs.Maps.{bad-map-iff}
 use Rattle.sheet.specs.Accepted.{cursorOf, recordMap, turnOf, placeOf, CauseFor, SheetCause, short-header, other-mark, groomer-count, slope-count, turn-count, no-map, wrong-map, short-fields, slope, groomer, time, worth, driver, bytes-behind, FirstCause, FirstAmong}
+use Rattle.refusal.proofs.Order.{first-same}
 
 other-mark-iff : {mark : List ℕ} → ThreeBytes mark → (s : List ℕ) → (not (opensWith mark s) ≡ true) ↔ (take 3 s ≢ mark)
 other-mark-iff {mark} b s = (λ e m. true≢false (sym (mark-iff b s .1 m) ∙ not-true (opensWith mark s) e), λ n. go (opensWith mark s) refl n)
@@ -132,17 +132,6 @@ module _ (K : Kind) (mark : ThreeBytes (K .mark)) (s : List ℕ) where
   causes-iff-for k r = (cause-there-for, there-cause-for)
 
 -- ---- the number that is given
-
--- an order of causes and the same in words: what is first in one is first in the other
-module _ (cs : List Cause) (Causes : ℕ → ℕ → Type 0) (same : (k r : ℕ) → Causes k r ↔ There cs k r) where
-  pub first-same : (k : ℕ) → (k ≡ 0 → ⊥) → (firstOf cs ≡ k) ↔ FirstAmong Causes k
-  first-same k z = (λ e. to (first-iff cs k z .0 e), λ f. first-iff cs k z .1 (from f))
-    where
-      to : First cs k → FirstAmong Causes k
-      to f = record { place = f .place; cause = same k (f .place) .1 (f .cause); none-before = λ j r l h. f .none-before j r l (same j r .0 h) }
-
-      from : FirstAmong Causes k → First cs k
-      from f = record { place = f .place; cause = same k (f .place) .0 (f .cause); none-before = λ j r l h. f .none-before j r l (same j r .1 h) }
 
 -- a sheet is refused with k exactly where its first cause has number k
 pub refused-iff-for : (K : Kind) → ThreeBytes (K .mark) → (s : List ℕ) (k : ℕ) → (k ≡ 0 → ⊥) → (firstOf (causesFor K s) ≡ k) ↔ FirstAmong (CauseFor K s) k

@@ -14,10 +14,10 @@ use Rattle.refusal.specs.Cause.{firstOf, _when_}
 use Rattle.refusal.proofs.Order.{clear-cons}
 use Rattle.wire.specs.Number.{Bytes}
 use Rattle.wire.proofs.Numbers.{length-bytes, byte-front, value-front, bytes-rest}
-use Rattle.turns.specs.declared.Turn.{Turn}
-use Rattle.turns.specs.declared.Counts.{Counts}
-use Rattle.turns.specs.Turn.{InRange, Numbered}
-use Rattle.turns.proofs.Ranges.{in-range-fine, fine-in-range}
+use Rattle.turn.specs.declared.Turn.{Turn}
+use Rattle.turn.specs.declared.Counts.{Counts}
+use Rattle.turn.specs.Turn.{InRange, Numbered}
+use Rattle.turn.proofs.Ranges.{in-range-fine, fine-in-range}
 use Rattle.sheet.specs.declared.kind.Kind.{Kind}
 use Rattle.sheet.specs.declared.record.Cursor.{Cursor}
 use Rattle.sheet.specs.Record.{widthOf, recordBytes, field, turnFrom, badMapFor, mapAt, endAt, turnAt, recordCauses}

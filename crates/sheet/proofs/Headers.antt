@@ -12,9 +12,9 @@ use Rattle.refusal.specs.Cause.{_when_, firstOf}
 use Rattle.refusal.proofs.Order.{numbered, clear-cons}
 use Rattle.wire.specs.Number.{valueAt}
 use Rattle.wire.specs.Mark.{opensWith}
-use Rattle.turns.specs.declared.Counts.{Counts}
-use Rattle.turns.specs.Turn.{countsOf, outsideRange, Numbered}
-use Rattle.turns.proofs.Ranges.{inside-iff}
+use Rattle.turn.specs.declared.Counts.{Counts}
+use Rattle.turn.specs.Turn.{countsOf, outsideRange, Numbered}
+use Rattle.turn.proofs.Ranges.{inside-iff}
 use Rattle.sheet.specs.declared.kind.Kind.{Kind}
 use Rattle.sheet.specs.declared.header.Header.{Header}
 use Rattle.sheet.specs.declared.header.Header.the-variants.{Found, Refused}

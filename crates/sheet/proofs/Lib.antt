@@ -14,3 +14,4 @@ pub mod Whole
 pub mod Prefix
 pub mod Alike
 pub mod Promised
+pub mod Limits

@@ -13,8 +13,8 @@ use Rattle.refusal.specs.Cause.{_when_, firstOf}
 use Rattle.refusal.proofs.Order.{clear-cons, clear-append}
 use Rattle.wire.specs.Number.{valueOf, bytesAt, valueAt}
 use Rattle.wire.specs.Mark.{opensWith}
-use Rattle.turns.specs.declared.Turn.{Turn}
-use Rattle.turns.specs.declared.Counts.{Counts}
+use Rattle.turn.specs.declared.Turn.{Turn}
+use Rattle.turn.specs.declared.Counts.{Counts}
 use Rattle.sheet.specs.declared.kind.Kind.{Kind}
 use Rattle.sheet.specs.declared.record.Cursor.{Cursor}
 use Rattle.sheet.specs.Kind.{mostTurns, garage, Sound}

@@ -8,11 +8,12 @@ use lib.Seq.{take-at, drop-at}
 use borrow.Author.Tests.{ne-eqb}
 use Rattle.refusal.specs.Cause.{firstOf}
 use Rattle.wire.specs.Number.{Bytes}
-use Rattle.turns.specs.Turn.{rowNumbers, rows}
-use Rattle.turns.proofs.Rows.{rows-length}
+use Rattle.turn.specs.Turn.{rowNumbers, rows}
+use Rattle.turn.proofs.Rows.{rows-length}
 use Rattle.sheet.specs.declared.kind.Kind.{Kind}
 use Rattle.sheet.specs.Kind.{garage, Sound}
-use Rattle.sheet.specs.Read.{turnCount, tableOf, Outcome, outcome, atFront, readRefused, readAnswer, readCausesFor, readFor, readOf}
+use Rattle.sheet.specs.Read.{turnCount, tableOf, Outcome, outcome, readRefused, readAnswer, readCausesFor, readFor, readOf}
+use Rattle.refusal.specs.Written.{atFront}
 use Rattle.sheet.specs.Accepted.{AcceptedFor}
 use Rattle.sheet.specs.Promises.{ReadInto, ReadPromisedFor, ReadPromised}
 use Rattle.sheet.proofs.SoundKinds.{garage-sound}

@@ -11,16 +11,18 @@ use borrow.Author.Tests.{ltb-true, lt-ltb, eqb-true}
 use Rattle.refusal.specs.Number.{bufferTooSmall}
 use Rattle.refusal.specs.Cause.{Cause, _when_, There, firstOf}
 use Rattle.refusal.proofs.Places.{there-at, at-there, there-left, there-right, there-split}
-use Rattle.turns.specs.declared.Counts.{Counts}
-use Rattle.turns.specs.Turn.{rowNumbers, turnCauses}
+use Rattle.turn.specs.declared.Counts.{Counts}
+use Rattle.turn.specs.Turn.{rowNumbers, turnCauses}
 use Rattle.sheet.specs.declared.kind.Kind.{Kind}
 use Rattle.sheet.specs.declared.record.Cursor.{Cursor}
 use Rattle.sheet.specs.Kind.{garage, ThreeBytes}
 use Rattle.sheet.specs.Record.{cursorAfter, firstCursor, recordCauses}
-use Rattle.sheet.specs.Read.{countsIn, turnCount, countCauses, headerCauses, recordsCauses, causesFor, readCausesFor, tableOf, outcome, atFront, readRefused, readAnswer, readFor, sheetCauses, readCauses, readOf}
+use Rattle.sheet.specs.Read.{countsIn, turnCount, countCauses, headerCauses, recordsCauses, causesFor, readCausesFor, tableOf, outcome, readRefused, readAnswer, readFor, sheetCauses, readCauses, readOf}
+use Rattle.refusal.specs.Written.{atFront}
 use Rattle.sheet.specs.Accepted.{placeOf, LentCauseFor, of-sheet, too-small, ReadCauseFor, LentCause, FirstReadCause, FirstAmong}
 use Rattle.sheet.proofs.SoundKinds.{garage-sound}
-use Rattle.sheet.proofs.Causes.{there-cause-for, cause-there-for, first-same}
+use Rattle.sheet.proofs.Causes.{there-cause-for, cause-there-for}
+use Rattle.refusal.proofs.Order.{first-same}
 
 -- the reader's number is that of the first cause
 pub read-number-for : (K : Kind) (s lent : List ℕ) → readFor K s lent .answer .refusal ≡ firstOf (readCausesFor K s (length lent))

@@ -11,9 +11,9 @@ use Rattle.refusal.specs.Cause.{firstOf}
 use Rattle.refusal.proofs.Order.{numbered, numbered-append, first-stops, first-goes}
 use Rattle.wire.specs.Number.{puts}
 use Rattle.wire.proofs.Puts.{puts-front}
-use Rattle.turns.specs.declared.Counts.{Counts}
-use Rattle.turns.specs.Turn.{rowNumbers, rows, Numbered}
-use Rattle.turns.proofs.Rows.{rows-length}
+use Rattle.turn.specs.declared.Counts.{Counts}
+use Rattle.turn.specs.Turn.{rowNumbers, rows, Numbered}
+use Rattle.turn.proofs.Rows.{rows-length}
 use Rattle.sheet.specs.declared.kind.Kind.{Kind}
 use Rattle.sheet.specs.declared.record.Cursor.{Cursor}
 use Rattle.sheet.specs.declared.header.Header.{Header}
@@ -21,7 +21,8 @@ use Rattle.sheet.specs.declared.header.Header.the-variants.{Found, Refus
 use Rattle.sheet.specs.declared.answer.ReadAnswer.{ReadAnswer}
 use Rattle.sheet.specs.Kind.{tablePlaces, garage, Sound}
 use Rattle.sheet.specs.Record.{recordCauses, cursorAfter, firstCursor}
-use Rattle.sheet.specs.Read.{countsIn, turnCount, headerCauses, headerOf, recordsCauses, turnsFrom, causesFor, sheetCauses, turnsOf, tableOf, atFront, readRefused, answerFor}
+use Rattle.sheet.specs.Read.{countsIn, turnCount, headerCauses, headerOf, recordsCauses, turnsFrom, causesFor, sheetCauses, turnsOf, tableOf, readRefused, answerFor}
+use Rattle.refusal.specs.Written.{atFront}
 use Rattle.sheet.proofs.SoundKinds.{garage-sound}
 use Rattle.sheet.proofs.Headers.{header-numbered, header-few}
 use Rattle.sheet.proofs.Scans.{record-numbered}

@@ -13,10 +13,10 @@ use Rattle.refusal.specs.Cause.{firstOf}
 use Rattle.refusal.proofs.Order.{numbered, first-stops, first-goes}
 use Rattle.wire.specs.Number.{puts}
 use Rattle.wire.proofs.Puts.{puts-append}
-use Rattle.turns.specs.declared.Turn.{Turn}
-use Rattle.turns.specs.declared.Counts.{Counts}
-use Rattle.turns.specs.Turn.{rowNumbers, rowOf, rows, Numbered}
-use Rattle.turns.proofs.Ranges.{turn-numbered}
+use Rattle.turn.specs.declared.Turn.{Turn}
+use Rattle.turn.specs.declared.Counts.{Counts}
+use Rattle.turn.specs.Turn.{rowNumbers, rowOf, rows, Numbered}
+use Rattle.turn.proofs.Ranges.{turn-numbered}
 use Rattle.sheet.specs.declared.kind.Kind.{Kind}
 use Rattle.sheet.specs.declared.record.Cursor.{Cursor}
 use Rattle.sheet.specs.declared.record.Next.{Next}

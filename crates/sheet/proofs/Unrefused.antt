@@ -7,7 +7,7 @@ use native.Mathlib.Omega.{arith}
 use native.Mathlib.Decide.{decLt, ℕ-discrete}
 use Rattle.refusal.specs.Cause.{firstOf}
 use Rattle.refusal.proofs.Order.{none-given, clear-append}
-use Rattle.turns.specs.Turn.{turnIn, InRange, shiftMinutes, mostWorth, mostDriver}
+use Rattle.turn.specs.Turn.{turnIn, InRange, shiftMinutes, mostWorth, mostDriver}
 use Rattle.sheet.specs.declared.kind.Kind.{Kind}
 use Rattle.sheet.specs.Kind.{mostGroomers, mostSlopes, mostTurns, garage, Sound}
 use Rattle.sheet.specs.Read.{countsIn, turnCount, headerCauses, causesFor, sheetCauses, tableOf}

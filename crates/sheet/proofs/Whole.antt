@@ -14,11 +14,12 @@ use Rattle.refusal.specs.Cause.{_when_, firstOf}
 use Rattle.refusal.proofs.Order.{first-stops, first-goes}
 use Rattle.wire.specs.Number.{puts}
 use Rattle.wire.proofs.Puts.{puts-front}
-use Rattle.turns.specs.Turn.{rowNumbers}
+use Rattle.turn.specs.Turn.{rowNumbers}
 use Rattle.sheet.specs.declared.kind.Kind.{Kind}
 use Rattle.sheet.specs.declared.answer.ReadAnswer.{ReadAnswer}
 use Rattle.sheet.specs.Kind.{mostTurns, garage, Sound}
-use Rattle.sheet.specs.Read.{turnCount, tableOf, causesFor, readCausesFor, Outcome, outcome, atFront, readRefused, readAnswer, answerFor, readFor, sheetCauses, answerOf, readOf}
+use Rattle.sheet.specs.Read.{turnCount, tableOf, causesFor, readCausesFor, Outcome, outcome, readRefused, readAnswer, answerFor, readFor, sheetCauses, answerOf, readOf}
+use Rattle.refusal.specs.Written.{atFront}
 use Rattle.sheet.proofs.SoundKinds.{garage-sound, garage-given}
 use Rattle.sheet.proofs.Readings.{causes-numbered}
 use Rattle.sheet.proofs.Tables.{table-length}

@@ -7,9 +7,9 @@ use mathlib.Core.Bool.{Bool, true, false}
 use lib.ListN.{length, take}
 use Rattle.refusal.specs.Number.{truncated, badMagic, badMap, badTime, badWorth, badDriver, trailingBytes, bufferTooSmall}
 pub use Rattle.refusal.specs.Cause.{FirstAmong}
-use Rattle.turns.specs.declared.Turn.{Turn}
-use Rattle.turns.specs.declared.Counts.{Counts}
-use Rattle.turns.specs.Turn.{rowNumbers, InRange, shiftMinutes, mostWorth, mostDriver}
+use Rattle.turn.specs.declared.Turn.{Turn}
+use Rattle.turn.specs.declared.Counts.{Counts}
+use Rattle.turn.specs.Turn.{rowNumbers, InRange, shiftMinutes, mostWorth, mostDriver}
 use Rattle.sheet.specs.declared.kind.Maps.{Maps}
 use Rattle.sheet.specs.declared.kind.Kind.{Kind}
 use Rattle.sheet.specs.declared.record.Cursor.{Cursor}

@@ -3,7 +3,7 @@ use Prim.Native.Nat.{ℕ, _*_, _≤_}
 use mathlib.Core.List.{List, [], _∷_}
 use Rattle.refusal.specs.Number.{badCounts, tooManyTurns, badSlope, badGroomer}
 use Rattle.wire.specs.Mark.{sheetMark}
-use Rattle.turns.specs.Turn.{rowNumbers, Numbered}
+use Rattle.turn.specs.Turn.{rowNumbers, Numbered}
 use Rattle.sheet.specs.declared.kind.Kind.{Kind}
 
 -- a map with every field of a turn but the driver, which is then none

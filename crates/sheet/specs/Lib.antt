@@ -4,3 +4,4 @@ pub mod Read
 pub mod Layout
 pub mod Accepted
 pub mod Promises
+pub mod Screen

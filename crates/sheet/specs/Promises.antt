@@ -4,7 +4,7 @@ use mathlib.Core.Path.{_≡_}
 use mathlib.Core.Logic.{_↔_}
 use mathlib.Core.List.{List}
 use lib.ListN.{length, take, drop}
-use Rattle.turns.specs.Turn.{rowNumbers, rows}
+use Rattle.turn.specs.Turn.{rowNumbers, rows}
 use Rattle.sheet.specs.declared.kind.Kind.{Kind}
 use Rattle.sheet.specs.Kind.{garage}
 use Rattle.sheet.specs.Read.{Outcome, outcome, readRefused, readOf}

@@ -2,15 +2,15 @@
 use Prim.Native.Nat.{ℕ, zero, suc, _*_}
 use mathlib.Core.List.{List, [], _∷_, _++_}
 use mathlib.Core.Bool.{not, cond}
-use lib.ListN.{length, drop}
+use lib.ListN.{length}
 use lib.Dec.{ltb, eqb}
 use Rattle.refusal.specs.Number.{truncated, badMagic, trailingBytes, bufferTooSmall}
 use Rattle.refusal.specs.Cause.{Cause, _when_, firstOf}
 use Rattle.wire.specs.Number.{valueAt}
 use Rattle.wire.specs.Mark.{opensWith}
-use Rattle.turns.specs.declared.Turn.{Turn}
-use Rattle.turns.specs.declared.Counts.{Counts}
-use Rattle.turns.specs.Turn.{rowNumbers, rows, outsideRange}
+use Rattle.turn.specs.declared.Turn.{Turn}
+use Rattle.turn.specs.declared.Counts.{Counts}
+use Rattle.turn.specs.Turn.{rowNumbers, rows, outsideRange}
 use Rattle.sheet.specs.declared.kind.Kind.{Kind}
 use Rattle.sheet.specs.declared.record.Cursor.{Cursor}
 use Rattle.sheet.specs.declared.header.Header.{Header}
@@ -18,6 +18,7 @@ use Rattle.sheet.specs.declared.header.Header.the-variants.{Found, Refus
 use Rattle.sheet.specs.declared.answer.ReadAnswer.{ReadAnswer}
 use Rattle.sheet.specs.Kind.{garage}
 use Rattle.sheet.specs.Record.{recordCauses, turnAt, cursorAfter, firstCursor}
+use Rattle.refusal.specs.Written.{atFront}
 
 -- the bytes before the first record
 abbrev pub headerBytes : ℕ
@@ -96,10 +97,6 @@ pub record Outcome : Type 0 where
 -- an answer beside the table
 abbrev pub outcome : ReadAnswer → List ℕ → Outcome
 outcome answer table = record { answer = answer; table = table }
-
--- numbers at the front of a lent table, then what was there
-abbrev pub atFront : List ℕ → List ℕ → List ℕ
-atFront numbers lent = numbers ++ drop (length numbers) lent
 
 -- a refusal returns its number and no counts
 abbrev pub readRefused : ℕ → ReadAnswer

@@ -1,5 +1,5 @@
 // A sheet's header: what reading it gives.
-use turns::Counts;
+use turn::Counts;
 
 pub const HEADER_BYTES: usize = 7;
 

@@ -1,5 +1,5 @@
 // A kind of sheet: what may differ between sheets that are read alike.
-use turns::Refusals;
+use turn::Refusals;
 
 // A map with every field of a turn but the driver, which is then none, and a map with every field.
 pub const FIRST_MAP: u8 = 31;
@@ -14,7 +14,7 @@ pub const MOST_SLOPES: u16 = 120;
 // The most turns that a sheet of any kind may have, and the places that a table needs for them.
 pub const MOST_TURNS: u16 = 400;
 
-pub const TABLE_PLACES: usize = turns::ROW_NUMBERS * (MOST_TURNS as usize);
+pub const TABLE_PLACES: usize = turn::ROW_NUMBERS * (MOST_TURNS as usize);
 
 // The greatest counts that a header may name.
 pub struct Most {

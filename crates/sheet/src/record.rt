@@ -5,8 +5,8 @@ ghost use lib.ListN.{length};
 ghost use Rattle.sheet.specs.Record.{widthOf, recordBytes, field, turnFrom, badMapFor, nextOf};
 use super::kind::Kind;
 use super::kind::Maps;
-use turns::Counts;
-use turns::Turn;
+use turn::Counts;
+use turn::Turn;
 
 // Where the next record starts, and the turn before it.
 pub struct Cursor {
@@ -114,7 +114,7 @@ impl Cursor {
         }
         let t = turn_from(s, fields, m, self.prev);
         let refusals = kind.refusals;
-        let fault = turns::turn_fault(t, limits, refusals);
+        let fault = turn::turn_fault(t, limits, refusals);
         if fault != 0 {
             return Next::Refused(fault);
         }

@@ -3,62 +3,62 @@
 ghost use mathlib.Core.Path.{_≡_};
 ghost use lib.ListN.{take, drop};
 ghost use Rattle.sheet.specs.Read.{readOf, outcome};
-ghost use Rattle.writing.specs.Write.{countsOf, writeOf};
-ghost use Rattle.writer.specs.Answer.{written};
-ghost use Rattle.opening.specs.Open.{openOf, stepsPart};
-ghost use Rattle.opening.specs.Chosen.{countOf, turnChosen};
-ghost use Rattle.checking.specs.Check.{checkOf};
-ghost use Rattle.planner.specs.Answer.{planned};
-ghost use Rattle.planning.specs.Plan.{planOf};
-ghost use Rattle.listing.specs.Answer.{listed};
-ghost use Rattle.listing.specs.List.{listOf};
-ghost use Rattle.partition.specs.Partition.{partitioned, partitionOf};
-ghost use Rattle.screen.specs.Screen.{readShortOf};
-ghost use Rattle.trial.specs.Trial.{drawOf};
-ghost use Rattle.exact.specs.Answer.{earned};
-ghost use Rattle.exact.specs.Exact.{exactOf};
+ghost use Rattle.write_spec.specs.Write.{countsOf, writeOf};
+ghost use Rattle.write_spec.specs.Answer.{written};
+ghost use Rattle.board_open.specs.Open.{openOf, stepsPart};
+ghost use Rattle.board_open.specs.Chosen.{countOf, turnChosen};
+ghost use Rattle.check_spec.specs.Check.{checkOf};
+ghost use Rattle.plan_spec.specs.Answer.{planned};
+ghost use Rattle.plan_spec.specs.Plan.{planOf};
+ghost use Rattle.listing_spec.specs.Answer.{listed};
+ghost use Rattle.listing_spec.specs.List.{listOf};
+ghost use Rattle.assign_spec.specs.Partition.{partitioned, partitionOf};
+ghost use Rattle.sheet.specs.Screen.{readShortOf};
+ghost use Rattle.trial_spec.specs.Trial.{drawOf};
+ghost use Rattle.best_spec.specs.Answer.{earned};
+ghost use Rattle.best_spec.specs.Exact.{exactOf};
 ghost use Rattle.price_spec.specs.Limit.{limitOf};
 ghost use Rattle.refine_spec.specs.Refine.{refineOf};
 ghost use Rattle.hall_price_spec.specs.Limit.{chargeLimitOf};
 ghost use Rattle.hall_price_spec.specs.Refine.{chargeRefineOf};
 ghost use Rattle.hall_price_spec.specs.Answer.{chargeRefinedBy};
 ghost use Rattle.refine_spec.specs.Answer.{refinedBy};
-ghost use Rattle.improve.specs.Answer.{improved};
-ghost use Rattle.improve.specs.Improve.{improveOf};
-ghost use Rattle.archive.specs.Archive.{keepOf, restoreOf};
-ghost use Rattle.play.specs.Play.{played, playOf};
-ghost use Rattle.hall.specs.Answer.{charged};
-ghost use Rattle.hall.specs.Charge.{chargeOf};
-ghost use Rattle.opening.specs.Part.{stepsPartAt};
-use checking::CheckAnswer;
-use exact::BestAnswer;
-use hall::ChargeAnswer;
+ghost use Rattle.search_spec.specs.Answer.{improved};
+ghost use Rattle.search_spec.specs.Improve.{improveOf};
+ghost use Rattle.archive_spec.specs.Archive.{keepOf, restoreOf};
+ghost use Rattle.play_spec.specs.Play.{played, playOf};
+ghost use Rattle.hall_spec.specs.Answer.{charged};
+ghost use Rattle.hall_spec.specs.Charge.{chargeOf};
+ghost use Rattle.board_open.specs.Part.{stepsPartAt};
+use assign_spec::PartitionAnswer;
+use best_spec::BestAnswer;
+use board_open::CountAnswer;
+use board_open::Part;
+use check_spec::CheckAnswer;
 use hall_price_spec::ChargeRefineAnswer;
-use improve::Improved;
-use listing::ListAnswer;
-use opening::CountAnswer;
-use opening::Part;
-use partition::PartitionAnswer;
-use planner::PlanAnswer;
-use play::PlayAnswer;
-use playing::Standing;
+use hall_spec::ChargeAnswer;
+use listing_spec::ListAnswer;
+use plan_spec::PlanAnswer;
+use play_spec::PlayAnswer;
+use play_spec::Standing;
 use price_spec::LimitAnswer;
 use refine_spec::RefineAnswer;
+use search_spec::Improved;
 use sheet::ReadAnswer;
-use writer::WriteAnswer;
+use write_spec::WriteAnswer;
 
 #[no_mangle]
 pub extern "C" fn slopeboard_read(sheet: &[u8], table: &mut [u16]) -> ReadAnswer
     ensures { λ r. ⌜ outcome r (now (table .exit)) ≡ readOf (now (sheet .entry)) (now (table .entry)) ⌝ }
 {
-    reader::read(sheet, &mut *table)
+    sheet_read::read(sheet, &mut *table)
 }
 
 #[no_mangle]
 pub extern "C" fn slopeboard_read_short(sheet: &[u8], table: &mut [u16]) -> ReadAnswer
     ensures { λ r. ⌜ outcome r (now (table .exit)) ≡ readShortOf (now (sheet .entry)) (now (table .entry)) ⌝ }
 {
-    screen::read_short(sheet, &mut *table)
+    sheet_read_short::read_short(sheet, &mut *table)
 }
 
 #[no_mangle]
@@ -70,44 +70,44 @@ pub extern "C" fn slopeboard_write(
 ) -> WriteAnswer
     ensures { λ r. ⌜ written r (now (bytes .exit)) ≡ writeOf (countsOf groomers slopes) (now (table .entry)) (now (bytes .entry)) ⌝ }
 {
-    writer::write(groomers, slopes, table, &mut *bytes)
+    write::write(groomers, slopes, table, &mut *bytes)
 }
 
 #[no_mangle]
 pub extern "C" fn slopeboard_open(board: &[u8]) -> u8
     ensures { λ r. ⌜ r ≡ openOf (now (board .entry)) ⌝ }
 {
-    opening::open(board)
+    board_open::open(board)
 }
 
-// The part of the board that `opening::steps` returns, by place and length.
+// The part of the board that `board_open::steps` returns, by place and length.
 #[no_mangle]
 pub extern "C" fn slopeboard_steps(board: &[u8]) -> Part
     ensures { λ r. ⌜ r ≡ stepsPartAt (now (board .entry)) ⌝ }
     ensures { λ r. ⌜ take (r .length) (drop (r .start) (now (board .entry))) ≡ stepsPart (now (board .entry)) ⌝ }
 {
-    opening::steps_at(board)
+    board_open::steps_at(board)
 }
 
 #[no_mangle]
 pub extern "C" fn slopeboard_count(board: &[u8]) -> CountAnswer
     ensures { λ r. ⌜ r ≡ countOf (now (board .entry)) ⌝ }
 {
-    opening::count(board)
+    board_open::count(board)
 }
 
 #[no_mangle]
 pub extern "C" fn slopeboard_is_chosen(board: &[u8], turn: usize) -> bool
     ensures { λ r. ⌜ r ≡ turnChosen (now (board .entry)) turn ⌝ }
 {
-    opening::chooses(board, turn)
+    board_open::chooses(board, turn)
 }
 
 #[no_mangle]
 pub extern "C" fn slopeboard_check(sheet: &[u8], board: &[u8]) -> CheckAnswer
     ensures { λ r. ⌜ r ≡ checkOf (now (sheet .entry)) (now (board .entry)) ⌝ }
 {
-    audit::check(sheet, board)
+    check_board::check(sheet, board)
 }
 
 #[no_mangle]
@@ -127,7 +127,7 @@ pub extern "C" fn slopeboard_draw(
 pub extern "C" fn slopeboard_plan(sheet: &[u8], board: &mut [u8]) -> PlanAnswer
     ensures { λ r. ⌜ planned r (now (board .exit)) ≡ planOf (now (sheet .entry)) (now (board .entry)) ⌝ }
 {
-    planner::plan(sheet, &mut *board)
+    plan::plan(sheet, &mut *board)
 }
 
 #[no_mangle]
@@ -141,14 +141,14 @@ pub extern "C" fn slopeboard_list(sheet: &[u8], text: &mut [u8]) -> ListAnswer
 pub extern "C" fn slopeboard_assign(sheet: &[u8], places: &mut [u16]) -> PartitionAnswer
     ensures { λ r. ⌜ partitioned r (now (places .exit)) ≡ partitionOf (now (sheet .entry)) (now (places .entry)) ⌝ }
 {
-    partition::assign(sheet, &mut *places)
+    assign::assign(sheet, &mut *places)
 }
 
 #[no_mangle]
 pub extern "C" fn slopeboard_best(sheet: &[u8], map: &mut [u8]) -> BestAnswer
     ensures { λ r. ⌜ earned r (now (map .exit)) ≡ exactOf (now (sheet .entry)) (now (map .entry)) ⌝ }
 {
-    exact::best(sheet, &mut *map)
+    best::best(sheet, &mut *map)
 }
 
 #[no_mangle]

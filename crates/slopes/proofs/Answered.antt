@@ -15,12 +15,12 @@ use Rattle.wire.proofs.Puts.{puts-front, puts-length}
 use Rattle.sheet.specs.Read.{sheetCauses}
 use Rattle.sheet.proofs.Readings.{sheet-numbered}
 use Rattle.sheet.proofs.Prefix.{prefix-refusal, prefix-same}
-use Rattle.listing.specs.declared.ListAnswer.{ListAnswer}
-use Rattle.lines.specs.Text.{refusedLine}
-use Rattle.listing.specs.Limits.{inputBytes, listingBytes}
-use Rattle.listing.specs.List.{sheetListing, listCauses, listOf}
-use Rattle.listing.specs.Answer.{listed}
-use Rattle.listing.proofs.Bytes.{listing-bytes}
+use Rattle.listing_spec.specs.declared.ListAnswer.{ListAnswer}
+use Rattle.listing_spec.specs.Text.{refusedLine}
+use Rattle.listing_spec.specs.Limits.{inputBytes, listingBytes}
+use Rattle.listing_spec.specs.List.{sheetListing, listCauses, listOf}
+use Rattle.listing_spec.specs.Answer.{listed}
+use Rattle.listing_spec.proofs.Bytes.{listing-bytes}
 use Rattle.slopes.specs.Printed.{printed}
 
 -- ---- the two answers that there are, with room for every listing

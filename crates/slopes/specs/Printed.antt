@@ -5,8 +5,8 @@ use mathlib.Core.Bool.{cond}
 use lib.Dec.{eqb}
 use Rattle.refusal.specs.Cause.{firstOf}
 use Rattle.sheet.specs.Read.{sheetCauses}
-use Rattle.lines.specs.Text.{refusedLine}
-use Rattle.listing.specs.List.{sheetListing}
+use Rattle.listing_spec.specs.Text.{refusedLine}
+use Rattle.listing_spec.specs.List.{sheetListing}
 
 -- the listing of a sheet, or the one line of its refusal
 unfoldable pub printed : List ℕ → List ℕ

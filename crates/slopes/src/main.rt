@@ -2,7 +2,7 @@
 ghost use mathlib.Core.Path.{_≡_};
 ghost use Prim.Native.Nat.{_≤_};
 ghost use lib.ListN.{length, take};
-ghost use Rattle.listing.specs.Limits.{inputBytes, listingBytes};
+ghost use Rattle.listing_spec.specs.Limits.{inputBytes, listingBytes};
 ghost use Rattle.slopes.specs.Printed.{printed};
 use libc::STDIN_FILENO;
 use libc::STDOUT_FILENO;

@@ -15,60 +15,31 @@ use Rattle.refusal.specs.Written.{Written}
 use Rattle.refusal.proofs.Written.{kept-before}
 use Rattle.wire.specs.Number.{puts}
 use Rattle.wire.proofs.Puts.{puts-front}
-use Rattle.turns.specs.declared.Turn.{Turn}
-use Rattle.turns.specs.declared.Counts.{Counts}
-use Rattle.turns.specs.Turn.{countsOf, outsideRange}
-use Rattle.turns.proofs.Rows.{turns-rows}
+use Rattle.turn.specs.declared.Turn.{Turn}
+use Rattle.turn.specs.declared.Counts.{Counts}
+use Rattle.turn.specs.Turn.{countsOf, outsideRange}
+use Rattle.turn.proofs.Rows.{turns-rows}
 use Rattle.sheet.specs.declared.kind.Kind.{Kind}
 use Rattle.sheet.specs.Kind.{garage, mostTurns}
 use Rattle.sheet.specs.Read.{countCauses}
 use Rattle.sheet.specs.Accepted.{Legal}
 use Rattle.sheet.proofs.Headers.{legal-counts}
-use Rattle.sorting.specs.Sorting.{sortBy}
-use Rattle.writing.specs.Write.{writtenTurns, tableCauses, writeOf, sheetWritten}
-use Rattle.writing.specs.Key.{keyOf, keysOf, turnsOfKeys, turnsByKey}
-use Rattle.writing.proofs.Writable.{table-sorted, write-clear}
-use Rattle.writer.specs.Answer.{written}
+use Rattle.lists.specs.Sorting.{sortBy}
+use Rattle.write_spec.specs.Write.{writtenTurns, tableCauses, writeOf, sheetWritten}
+use Rattle.write_spec.specs.Key.{keyOf, keysOf, turnsOfKeys, turnsByKey}
+use Rattle.write_spec.proofs.Writable.{table-sorted, write-clear}
+use Rattle.write_spec.specs.Answer.{written}
 use Rattle.trial.specs.declared.Drawn.{Drawn}
-use Rattle.trial.specs.Draw.{drawFactor, drawModulus, mostDraw, nextDraw, drawNumber, drawnLength, lengthPlaces, drawnStarts, fromOne, turnDrawn, turnDraws, turnAfter, drawnTurns, drawnTable, Drawable}
-use Rattle.trial.specs.Trial.{seedCauses, drawCauses, drawOf}
-use Rattle.trial.proofs.Draws.{draw-drawable, drawn-length, number-drawable, number-one, number-two, number-three, number-four, number-five}
-use Rattle.trial.proofs.Trials.{drawn-causes, seed-iff, drawn-as-written}
+use Rattle.trial_spec.specs.Draw.{drawFactor, drawModulus, mostDraw, nextDraw, drawNumber, drawnLength, lengthPlaces, drawnStarts, fromOne, turnDrawn, turnDraws, turnAfter, drawnTurns, drawnTable, Drawable}
+use Rattle.trial_spec.specs.Trial.{seedCauses, drawCauses, drawOf}
+use Rattle.trial_spec.proofs.Draws.{draw-drawable, drawn-length, number-drawable, number-one, number-two, number-three, number-four, number-five}
+use Rattle.trial_spec.proofs.Trials.{drawn-causes, seed-iff, drawn-as-written}
 
 -- ---- one draw
 
 pub next-drawn : (x : ℕ) → Drawable x → (drawFactor * x % drawModulus ≡ nextDraw x) × Drawable (drawFactor * x % drawModulus)
 unfolding nextDraw
 next-drawn x d = (refl, draw-drawable x d)
-
--- one draw more, until none is left
-module _ (n x : ℕ) where
-  pub number-more : {y a : ℕ} → 0 < n → y ≡ nextDraw x → drawNumber n x ≡ a → drawNumber (n - 1) y ≡ a
-  unfolding drawNumber
-  number-more h e i = let k : n ≡ suc (n - 1) = omega arith in rw e (rw k at i)
-
-  pub number-done : {a : ℕ} → n ≤ 0 → drawNumber n x ≡ a → x ≡ a
-  unfolding drawNumber
-  number-done h i = let z : n ≡ 0 = omega arith in rw z at i
-
-pub ruleset draw-number-cases = (number-more, number-done)
-
-module _ (p : ℕ) where
-  pub length-first : p ≤ 39 → 30 ≡ drawnLength p
-  unfolding drawnLength
-  length-first h = rw (lt-ltb p 40 (omega arith))
-
-  pub length-second : 40 ≤ p → p ≤ 69 → 45 ≡ drawnLength p
-  unfolding drawnLength
-  length-second h k = rw (le-ltb p 40 h, lt-ltb p 70 (omega arith))
-
-  pub length-third : 70 ≤ p → p ≤ 89 → 60 ≡ drawnLength p
-  unfolding drawnLength
-  length-third h k = rw (le-ltb p 40 (omega arith), le-ltb p 70 h, lt-ltb p 90 (omega arith))
-
-  pub length-fourth : 90 ≤ p → 90 ≡ drawnLength p
-  unfolding drawnLength
-  length-fourth h = rw (le-ltb p 40 (omega arith), le-ltb p 70 (omega arith), le-ltb p 90 h)
 
 -- ---- one turn
 

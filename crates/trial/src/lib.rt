@@ -4,19 +4,19 @@ ghost use mathlib.Core.Path.{_≡_};
 ghost use Prim.Native.Nat.{_+_, _*_, _%_, _≤_, _<_};
 ghost use lib.ListN.{length};
 ghost use Rattle.refusal.specs.Cause.{firstOf};
-ghost use Rattle.turns.specs.Turn.{countsOf};
+ghost use Rattle.turn.specs.Turn.{countsOf};
 ghost use Rattle.sheet.specs.Kind.{garage, mostTurns};
 ghost use Rattle.sheet.specs.Accepted.{Legal};
-ghost use Rattle.writing.specs.Write.{writeOf};
-ghost use Rattle.writing.specs.Key.{keysOf};
-ghost use Rattle.writer.specs.Answer.{written};
-ghost use Rattle.trial.specs.Draw.{drawModulus, lengthPlaces, nextDraw, drawNumber, drawnLength, fromOne, turnDrawn, turnDraws, turnAfter, drawnTurns, drawnTable, Drawable};
-ghost use Rattle.trial.specs.Trial.{seedCauses, drawOf};
+ghost use Rattle.write_spec.specs.Write.{writeOf};
+ghost use Rattle.write_spec.specs.Key.{keysOf};
+ghost use Rattle.write_spec.specs.Answer.{written};
+ghost use Rattle.trial_spec.specs.Draw.{drawModulus, lengthPlaces, nextDraw, drawNumber, drawnLength, fromOne, turnDrawn, turnDraws, turnAfter, drawnTurns, drawnTable, Drawable};
+ghost use Rattle.trial_spec.specs.Trial.{seedCauses, drawOf};
 use sheet::MOST_TURNS;
-use turns::Counts;
-use turns::MOST_WORTH;
-use turns::Turn;
-use writer::WriteAnswer;
+use turn::Counts;
+use turn::MOST_WORTH;
+use turn::Turn;
+use write_spec::WriteAnswer;
 
 // The generator: a draw times the factor, modulo a prime.
 const DRAW_FACTOR: u64 = 16807;
@@ -137,7 +137,7 @@ fn fill_keys(seed: u32, counts: Counts, keys: &mut [u64])
     let mut i = 0;
     while i < keys.len() {
         let d = turn_after(counts, x);
-        keys[i] = writer::key_of(d.turn);
+        keys[i] = write::key_of(d.turn);
         x = d.last;
         i += 1;
     }
@@ -159,7 +159,7 @@ fn write_drawn(
     let end = n as usize;
     let some = &mut keys[0..end];
     fill_keys(seed, counts, &mut *some);
-    writer::write_keys(counts, &mut *some, &mut spare[0..end], &mut *out)
+    write::write_keys(counts, &mut *some, &mut spare[0..end], &mut *out)
 }
 
 // The first thing wrong with the seed or the counts, or 0.
@@ -172,8 +172,8 @@ fn seed_fault(seed: u64, groomers: u32, slopes: u32, turns: u32) -> u8
     if DRAW_MODULUS <= seed {
         return refusal::BAD_SEED;
     }
-    let kind = reader::garage();
-    reader::count_fault(kind, groomers, slopes, turns as usize)
+    let kind = sheet_read::garage();
+    sheet_read::count_fault(kind, groomers, slopes, turns as usize)
 }
 
 // Draws turns from any seed with any counts, and writes their sheet into any lent bytes.

@@ -1,5 +1,5 @@
 use mathlib.Core.Path.{refl}
-use Rattle.hall.specs.Charge.{chargingSheet}
+use Rattle.hall_spec.specs.Charge.{chargingSheet}
 use Rattle.hall.proofs.charging_sheet.Statement.{statement}
 use Rattle.hall.proofs.charging_sheet.Tie as tie
 

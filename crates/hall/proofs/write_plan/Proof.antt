@@ -1,5 +1,5 @@
 use Rattle.hall.proofs.Charges.{greater-cases, wide-room, small-room}
-use Rattle.choices.proofs.Unchosen.{zeros-cases}
+use Rattle.selection.proofs.Unchosen.{zeros-cases}
 use borrow.Author.Needs.{needs}
 use Rattle.hall.proofs.write_plan.Statement.{statement}
 use Rattle.hall.proofs.write_plan.Tie as tie

@@ -1,4 +1,4 @@
-use Rattle.lines.proofs.Sizes.{refused-short, refused-most}
+use Rattle.listing_spec.proofs.Sizes.{refused-short, refused-most}
 use borrow.Author.Needs.{needs}
 use Rattle.listing.proofs.refused_line.Statement.{statement}
 use Rattle.listing.proofs.refused_line.Tie as tie

@@ -1,4 +1,4 @@
-use Rattle.play.proofs.Moves.{begun-cases}
+use Rattle.play_spec.proofs.Moves.{begun-cases}
 use borrow.Author.Needs.{needs}
 use Rattle.play.proofs.begun.Statement.{statement}
 use Rattle.play.proofs.begun.Tie as tie

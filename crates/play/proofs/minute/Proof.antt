@@ -47,12 +47,12 @@ use denote.Triple.Spec.{Meets, tripleOf}
 use denote.Triple.Table.{entered, cited}
 use denote.Triple.Walked.{says, needs, Stays, stay-slice, stay-none-slice, stay-none, walkOf, AllGo, goes-slice, goes-none-slice, goes-none, Walks, ends-at, walked, walk-meets}
 use denote.Exit.{yes}
-use Rattle.playing.specs.declared.Standing.{Standing}
-use Rattle.playing.specs.Standing.{freshOf}
-use Rattle.play.specs.Minutes.{stepOf, minuteOf, MinuteReady, AllReady}
-use Rattle.play.proofs.Moves.{Mid, mid-start, mid-next, mid-end}
-use Rattle.playing.proofs.Standing as T
-use Rattle.playing.proofs.Standing.Laws as T′
+use Rattle.play_spec.specs.declared.Standing.{Standing}
+use Rattle.play_spec.specs.Standing.{freshOf}
+use Rattle.play_spec.specs.Minutes.{stepOf, minuteOf, MinuteReady, AllReady}
+use Rattle.play_spec.proofs.Moves.{Mid, mid-start, mid-next, mid-end}
+use Rattle.play_spec.proofs.Standing as T
+use Rattle.play_spec.proofs.Standing.Laws as T′
 use Rattle.play.proofs.step as step
 use Rattle.play.proofs.step.Symbol as step-def
 use Rattle.play.proofs.step.Symbol.{name as #play·step}

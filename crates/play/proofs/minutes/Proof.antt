@@ -44,14 +44,14 @@ use denote.Triple.Spec.{Meets, tripleOf}
 use denote.Triple.Table.{entered, cited}
 use denote.Triple.Walked.{says, needs, Stays, stay-slice, stay-none-slice, stay-none, walkOf, AllGo, goes-slice, goes-none-slice, goes-none, Walks, ends-at, walked, walk-meets}
 use denote.Exit.{yes}
-use Rattle.playing.specs.declared.Standing.{Standing}
-use Rattle.play.specs.Minutes.{minuteOf, minutesFrom, AllReady}
-use Rattle.turns.specs.Turn.{shiftMinutes}
+use Rattle.play_spec.specs.declared.Standing.{Standing}
+use Rattle.play_spec.specs.Minutes.{minuteOf, minutesFrom, AllReady}
+use Rattle.turn.specs.Turn.{shiftMinutes}
 use Rattle.sheet.specs.Kind.{mostGroomers}
-use Rattle.day.specs.Table.{dayTablePlaces}
-use Rattle.play.proofs.Moves.{Minutes, minutes-start, minutes-next, minutes-end}
+use Rattle.play_spec.specs.DayTable.{dayTablePlaces}
+use Rattle.play_spec.proofs.Moves.{Minutes, minutes-start, minutes-next, minutes-end}
 use Rattle.play.proofs.Again.{LentAgain, lends-again, comes-back}
-use Rattle.playing.proofs.Standing as T
+use Rattle.play_spec.proofs.Standing as T
 use Rattle.play.proofs.minute as minute
 use Rattle.play.proofs.minute.Symbol as minute-def
 use Rattle.play.proofs.minute.Symbol.{name as #play·minute}

@@ -48,20 +48,21 @@ use denote.Triple.Spec.{Meets, tripleOf}
 use denote.Triple.Table.{entered, cited}
 use denote.Triple.Walked.{says, Stays, gave-slice, stay-none-slice, walkOf, AllGo, goes-gave-slice, goes-none-slice, Walks, ends-at, walked, walk-meets}
 use denote.Exit.{yes}
-use Rattle.day.specs.Table.{dayTablePlaces}
-use Rattle.turns.specs.Turn.{shiftMinutes}
+use Rattle.play_spec.specs.DayTable.{dayTablePlaces}
+use Rattle.turn.specs.Turn.{shiftMinutes}
 use Rattle.sheet.specs.Kind.{mostGroomers}
-use Rattle.playing.specs.declared.Standing.{Standing}
+use Rattle.play_spec.specs.declared.Standing.{Standing}
 use Rattle.play.specs.declared.Prepared.{Prepared}
-use Rattle.play.specs.declared.PlayAnswer.{PlayAnswer}
-use Rattle.play.specs.Play.{played, playOf}
-use Rattle.play.specs.Minutes.{minutesFrom, PreparedFor}
+use Rattle.play_spec.specs.declared.PlayAnswer.{PlayAnswer}
+use Rattle.play_spec.specs.Play.{played, playOf}
+use Rattle.play_spec.specs.Minutes.{minutesFrom}
+use Rattle.play.specs.Prepared.{PreparedFor}
 use Rattle.play.proofs.Answers.{play-answer}
-use Rattle.playing.proofs.Standing as T
+use Rattle.play_spec.proofs.Standing as T
 use Rattle.play.proofs.Prepared as P
 use Rattle.play.proofs.Prepared.Laws as P′
-use Rattle.play.proofs.PlayAnswer as E
-use Rattle.play.proofs.PlayAnswer.Laws as E′
+use Rattle.play_spec.proofs.PlayAnswer as E
+use Rattle.play_spec.proofs.PlayAnswer.Laws as E′
 use Rattle.play.proofs.answer_of as answer
 use Rattle.play.proofs.answer_of.Symbol as answer-def
 use Rattle.play.proofs.answer_of.Symbol.{name as #play·answer_of}

@@ -1,4 +1,4 @@
-use Rattle.play.proofs.Moves.{step-cases}
+use Rattle.play_spec.proofs.Moves.{step-cases}
 use borrow.Author.Needs.{needs}
 use Rattle.play.proofs.step.Statement.{statement}
 use Rattle.play.proofs.step.Tie as tie

@@ -1,4 +1,4 @@
-use Rattle.choices.proofs.Unchosen.{zeros-cases}
+use Rattle.selection.proofs.Unchosen.{zeros-cases}
 use Rattle.refine.proofs.AnswerCases.{start-worth, write-room, refine-written, written-cases}
 use borrow.Author.Needs.{needs}
 use Rattle.refine.proofs.refine_with.Statement.{statement}

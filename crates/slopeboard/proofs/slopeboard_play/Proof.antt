@@ -37,12 +37,12 @@ use denote.Triple.Spec.{Meets, tripleOf}
 use denote.Triple.Table.{entered, cited}
 use denote.Triple.Walked.{says, Stays, gave-slice, stay-none-slice, walkOf, AllGo, goes-gave-slice, goes-none-slice, Walks, ends-at, walked, walk-meets}
 use denote.Exit.{yes}
-use Rattle.playing.specs.declared.Standing.{Standing}
-use Rattle.play.specs.declared.PlayAnswer.{PlayAnswer}
-use Rattle.play.specs.Play.{played, playOf}
-use Rattle.playing.proofs.Standing as T
-use Rattle.play.proofs.PlayAnswer as E
-use Rattle.play.proofs.PlayAnswer.Laws as E′
+use Rattle.play_spec.specs.declared.Standing.{Standing}
+use Rattle.play_spec.specs.declared.PlayAnswer.{PlayAnswer}
+use Rattle.play_spec.specs.Play.{played, playOf}
+use Rattle.play_spec.proofs.Standing as T
+use Rattle.play_spec.proofs.PlayAnswer as E
+use Rattle.play_spec.proofs.PlayAnswer.Laws as E′
 use Rattle.play.proofs.play as play
 use Rattle.play.proofs.play.Symbol as play-def
 use Rattle.play.proofs.play.Symbol.{name as #play·play}

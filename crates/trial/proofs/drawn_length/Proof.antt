@@ -1,4 +1,4 @@
-use Rattle.trial.proofs.Drawings.{length-first, length-second, length-third, length-fourth}
+use Rattle.trial_spec.proofs.Draws.{length-first, length-second, length-third, length-fourth}
 use native.Mathlib.Omega.{arith}
 use Rattle.trial.proofs.drawn_length.Statement.{statement}
 use Rattle.trial.proofs.drawn_length.Tie as tie

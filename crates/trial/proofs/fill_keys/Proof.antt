@@ -2,8 +2,8 @@ use mathlib.Core.Path.{_≡_}
 use Prim.Native.Nat.{_-_, _≤_}
 use lib.ListN.{length}
 use Rattle.wire.specs.Number.{puts}
-use Rattle.writing.specs.Key.{keysOf}
-use Rattle.trial.specs.Draw.{drawnTurns, Drawable}
+use Rattle.write_spec.specs.Key.{keysOf}
+use Rattle.trial_spec.specs.Draw.{drawnTurns, Drawable}
 use Rattle.trial.proofs.Drawings.{drawn-keys-cases}
 use borrow.Author.Needs.{needs}
 use Rattle.trial.proofs.fill_keys.Statement.{statement}

@@ -1,6 +1,6 @@
 use Rattle.archive.proofs.KeepCases.{fill-cases}
-use Rattle.archive.specs.Kept.{mapsFrom}
-use Rattle.columns.specs.Column.{widths}
+use Rattle.archive_spec.specs.Kept.{mapsFrom}
+use Rattle.archive_spec.specs.Column.{widths}
 use Rattle.sheet.specs.Read.{headerBytes}
 use Rattle.wire.specs.Number.{puts}
 use lib.ListN.{length}

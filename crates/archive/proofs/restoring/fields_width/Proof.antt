@@ -1,5 +1,5 @@
 use Rattle.archive.proofs.RestoreCases.{width-cases}
-use Rattle.columns.specs.Column.{widths}
+use Rattle.archive_spec.specs.Column.{widths}
 use Rattle.sheet.specs.Record.{recordBytes}
 use lib.ListN.{length, drop}
 use Prim.Native.Nat.{_+_, _-_, _*_, _≤_}

@@ -1,5 +1,5 @@
 use Rattle.archive.proofs.RestoreCases.{map-fault-cases}
-use Rattle.archive.specs.Archive.{mapsCauses}
+use Rattle.archive_spec.specs.Archive.{mapsCauses}
 use Rattle.refusal.specs.Cause.{firstOf}
 use mathlib.Core.Bool.{true}
 use lib.ListN.{length, drop}

@@ -1,5 +1,5 @@
 use Rattle.archive.proofs.RestoreCases.{record-kept, fields-room, fields-room-over}
-use Rattle.writer.proofs.Overs.{map-over-cases}
+use Rattle.write.proofs.Overs.{map-over-cases}
 use borrow.Author.Needs.{needs}
 use Rattle.archive.proofs.restoring.put_record.Statement.{statement}
 use Rattle.archive.proofs.restoring.put_record.Tie as tie

@@ -1,8 +1,8 @@
 use Rattle.archive.proofs.RestoreCases.{records-cases}
-use Rattle.archive.specs.Kept.{recordsBody}
-use Rattle.columns.specs.Column.{widths}
+use Rattle.archive_spec.specs.Kept.{recordsBody}
+use Rattle.archive_spec.specs.Column.{widths}
 use Rattle.sheet.specs.Read.{headerBytes}
-use Rattle.turns.specs.Turn.{turnsOfTable}
+use Rattle.turn.specs.Turn.{turnsOfTable}
 use Rattle.wire.specs.Number.{puts}
 use lib.ListN.{length, drop}
 use Prim.Native.Nat.{_+_, _-_, _≤_}

@@ -1,5 +1,5 @@
 use Rattle.hall.specs.Supply.{Drawn}
-use Rattle.turns.specs.Turn.{shiftMinutes}
+use Rattle.turn.specs.Turn.{shiftMinutes}
 use Prim.Native.Nat.{_-_, _≤_}
 use borrow.Author.Needs.{needs}
 use Rattle.hall.proofs.Supplies.{draw-cases}

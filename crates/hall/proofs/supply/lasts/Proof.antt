@@ -1,4 +1,4 @@
-use Rattle.turns.specs.Turn.{shiftMinutes}
+use Rattle.turn.specs.Turn.{shiftMinutes}
 use mathlib.Core.Path.{_≡_}
 use Prim.Native.Nat.{_-_, _≤_}
 use borrow.Author.Needs.{needs}

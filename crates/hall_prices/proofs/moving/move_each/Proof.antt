@@ -1,6 +1,6 @@
 -- Invariant: the prices of the first m minutes are moved, the others are as before. Measure: the minutes left.
 use Prim.Native.Nat.{_-_}
-use Rattle.turns.specs.Turn.{shiftMinutes}
+use Rattle.turn.specs.Turn.{shiftMinutes}
 use Rattle.hall_prices.proofs.MoveCases.{MovedTo, moved-minutes-cases}
 use borrow.Author.Needs.{needs}
 use Rattle.hall_prices.proofs.moving.move_each.Statement.{statement}

@@ -1,4 +1,4 @@
-use Rattle.choices.proofs.Unchosen.{zeros-cases}
+use Rattle.selection.proofs.Unchosen.{zeros-cases}
 use Rattle.hall_prices.proofs.RoundCases.{better-cases}
 use borrow.Author.Needs.{needs}
 use Rattle.hall_prices.proofs.rounds.keep_better.Statement.{statement}

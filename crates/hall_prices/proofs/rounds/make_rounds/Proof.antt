@@ -4,7 +4,7 @@ use mathlib.Core.Path.{_≡_, sym}
 use native.Mathlib.Omega.{arith}
 use lib.ListN.{length}
 use borrow.Author.Needs.{needs}
-use Rattle.choices.proofs.Unchosen.{zeros-size, zeros-map, zeros-none-chosen}
+use Rattle.selection.proofs.Unchosen.{zeros-size, zeros-map, zeros-none-chosen}
 use Rattle.refine_spec.specs.Selection.{byWorth}
 use Rattle.price_rounds.proofs.RankCases.{rank-cases}
 use Rattle.hall_prices.specs.Held.{hallFor}

@@ -1,6 +1,6 @@
 -- Invariant: the sums up to minute m are written, and sum is the last of them. Measure: the minutes left.
 use Prim.Native.Nat.{_-_}
-use Rattle.turns.specs.Turn.{shiftMinutes}
+use Rattle.turn.specs.Turn.{shiftMinutes}
 use Rattle.hall_prices.specs.Held.{SummedTo}
 use Rattle.hall_prices.proofs.SumCases.{sums-cases}
 use borrow.Author.Needs.{needs}

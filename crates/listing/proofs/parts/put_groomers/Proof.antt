@@ -4,9 +4,9 @@ use Prim.Native.Nat.{_+_, _-_, _≤_}
 use mathlib.Core.Path.{_≡_}
 use lib.ListN.{length}
 use Rattle.wire.specs.Number.{puts}
-use Rattle.problem.specs.Columns.{turnsBy}
-use Rattle.choicemap.specs.Choice.{choiceIn}
-use Rattle.lines.specs.Text.{groomersFrom}
+use Rattle.instance.specs.Columns.{turnsBy}
+use Rattle.choice_map.specs.Choice.{choiceIn}
+use Rattle.listing_spec.specs.Text.{groomersFrom}
 use Rattle.listing.proofs.parts.put_groomers.Statement.{statement}
 use Rattle.listing.proofs.parts.put_groomers.Tie as tie
 

@@ -2,7 +2,7 @@
 use borrow.Author.Needs.{needs}
 use Rattle.prices.proofs.RunCases.{runs-cases, runs-more, before-more}
 use Rattle.prices.specs.Held.{RunBefore, RunsTo}
-use Rattle.problem.specs.Columns.{turnsBy}
+use Rattle.instance.specs.Columns.{turnsBy}
 use Prim.Native.Nat.{_-_, _≤_}
 use Rattle.prices.proofs.runs.put_runs.Statement.{statement}
 use Rattle.prices.proofs.runs.put_runs.Tie as tie

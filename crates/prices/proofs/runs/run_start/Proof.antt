@@ -1,5 +1,5 @@
 use Rattle.prices.proofs.RunCases.{start-cases}
-use Rattle.besttable.proofs.OrderCases.{row-cases}
+use Rattle.best_table.proofs.OrderCases.{row-cases}
 use borrow.Author.Needs.{needs}
 use Rattle.prices.proofs.runs.run_start.Statement.{statement}
 use Rattle.prices.proofs.runs.run_start.Tie as tie

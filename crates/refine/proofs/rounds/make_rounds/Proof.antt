@@ -4,8 +4,8 @@ use mathlib.Core.Path.{_≡_}
 use native.Mathlib.Omega.{arith}
 use lib.ListN.{length}
 use borrow.Author.Needs.{needs}
-use Rattle.problem.specs.Columns.{columnPlaces}
-use Rattle.choices.proofs.Unchosen.{zeros-size, zeros-map, zeros-none-chosen}
+use Rattle.instance.specs.Columns.{columnPlaces}
+use Rattle.selection.proofs.Unchosen.{zeros-size, zeros-map, zeros-none-chosen}
 use Rattle.prices.specs.Held.{turnsIn}
 use Rattle.refine_spec.specs.Selection.{byWorth}
 use Rattle.refine.specs.Stages.{BetweenLooks}

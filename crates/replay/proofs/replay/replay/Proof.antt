@@ -1,12 +1,12 @@
 use borrow.Author.Needs.{needs}
 use Rattle.replay.proofs.Replays.{movesFrom, replay-cases, never}
-use Rattle.ratio.specs.Counting.{costsFrom}
-use Rattle.turns.specs.Turn.{mostWorth}
-use Rattle.ratio.specs.Bounds.{Residuals, ClosedTo}
+use Rattle.local_ratio.specs.Counting.{costsFrom}
+use Rattle.turn.specs.Turn.{mostWorth}
+use Rattle.local_ratio.specs.Bounds.{Residuals, ClosedTo}
 use Rattle.replay.specs.Moves.{movesIn}
 use Rattle.model.specs.Rules.{allRight}
 use Rattle.model.specs.Steps.{afterSteps}
-use Rattle.problem.specs.Columns.{turnsBy}
+use Rattle.instance.specs.Columns.{turnsBy}
 use mathlib.Core.Path.{_≡_}
 use Prim.Native.Nat.{_+_, _-_, _*_, _≤_}
 use Rattle.replay.proofs.replay.replay.Statement.{statement}

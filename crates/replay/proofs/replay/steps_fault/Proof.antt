@@ -1,6 +1,6 @@
 use borrow.Author.Needs.{needs}
 use Rattle.replay.proofs.Replays.{judged-by-number}
-use Rattle.placing.proofs.Placed.{order-numbered}
+use Rattle.instance_by_end.proofs.Placed.{order-numbered}
 use Rattle.replay.proofs.replay.steps_fault.Statement.{statement}
 use Rattle.replay.proofs.replay.steps_fault.Tie as tie
 

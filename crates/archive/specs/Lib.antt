@@ -1,4 +1,0 @@
-pub mod Kept
-pub mod Archive
-pub mod AcceptedKept
-pub mod Cases

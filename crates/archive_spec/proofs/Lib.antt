@@ -1,0 +1,9 @@
+pub mod ColumnCases
+pub mod Across
+pub mod Resolved
+pub mod ColumnWorked
+pub mod Bodies
+pub mod Accepting
+pub mod KeptCauses
+pub mod RoundTrip
+pub mod Worked

@@ -1,0 +1,2 @@
+pub mod SingleCases
+pub mod AnswerCases

@@ -1,0 +1,10 @@
+pub mod Members
+pub mod Ordering
+pub mod Tables
+pub mod Groomers
+pub mod Own
+pub mod Tight
+pub mod Optimal
+pub mod Singles
+pub mod BestCauses
+pub mod Promised

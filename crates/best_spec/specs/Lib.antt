@@ -1,0 +1,6 @@
+pub mod Table
+pub mod Single
+pub mod Groomers
+pub mod Exact
+pub mod Answer
+pub mod Promises

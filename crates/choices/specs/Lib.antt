@@ -1,3 +1,0 @@
-pub mod Bounds
-pub mod Below
-pub mod Gathered

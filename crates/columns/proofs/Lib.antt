@@ -1,4 +1,0 @@
-pub mod ColumnCases
-pub mod Across
-pub mod Resolved
-pub mod Worked

@@ -1,2 +1,0 @@
-pub mod Stints
-pub mod Rows

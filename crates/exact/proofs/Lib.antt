@@ -1,4 +1,0 @@
-pub mod SingleCases
-pub mod AnswerCases
-pub mod BestCauses
-pub mod Sheets

@@ -1,3 +1,0 @@
-pub mod Exact
-pub mod Answer
-pub mod Sheet

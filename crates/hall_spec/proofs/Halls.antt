@@ -1,0 +1,194 @@
+-- The hall's plan keeps its promises (5.2.5, both kinds of instances, factor 5). The source says it of the optimum in fractions; here of every allowed set, with the rounding in the added term. Assumes nothing.
+use mathlib.Core.Path.{_≡_, refl, ap, _∙_}
+use mathlib.Core.Logic.{_⊎_, inl, inr}
+use mathlib.Core.Bool.{Bool, true, false, not, cond}
+use mathlib.Core.List.{List, [], _∷_}
+use Prim.Native.Nat.{ℕ, _+_, _*_, _≤_, _<_}
+use native.Mathlib.Omega.{arith}
+use native.Mathlib.Decide.{decLt}
+use lib.ListN.{length}
+use borrow.Author.Tests.{le-ltb, lt-ltb}
+use Rattle.lists.specs.Lists.{sum, All, none, more}
+use Rattle.model.specs.Steps.{tally}
+use Rattle.model.specs.Choice.{has}
+use Rattle.model.specs.Feasible.{Distinct}
+use Rattle.lists.proofs.Sums.{sum-add, sum-mono, all-of, all-map}
+use Rattle.hall_spec.specs.Hall.{Hall, windowCount, drawAt, isWide, isSmall, Allowed, AllowedChoice, FullAmong, HallInRange}
+use Rattle.hall_spec.specs.Plan.{turnsAmong, wideSteps, smallSteps, chooseAmong, wideChoice, smallChoice, worthIn, greaterOf, hallChoice, hallWorth}
+use Rattle.hall_spec.specs.Promises.{worthOfWindows, HallPromises}
+use Rattle.hall_spec.proofs.Windows.{among-worth}
+use Rattle.hall_spec.proofs.Allowing.{chosen-allowed, chosen-kind, chosen-length, full-among}
+use Rattle.hall_spec.proofs.Small.{small-part, small-earns}
+use Rattle.hall_spec.proofs.Wide.{wide-twice, wide-earns}
+
+-- ---- those of a set that are of a kind
+
+unfoldable those : (ℕ → Bool) → List ℕ → List ℕ
+those kind [] = []
+those kind (t ∷ R) = let rest = those kind R in cond (kind t) (t ∷ rest) rest
+
+module _ (kind : ℕ → Bool) where
+  those-all : {P : ℕ → Type 0} {R : List ℕ} → All P R → All P (those kind R)
+  unfolding those
+  those-all none = none
+  those-all {P} (more {t = t} {ts = R} h hs) = go (kind t) (those-all hs)
+    where
+      go : (b : Bool) → All P (those kind R) → All P (cond b (t ∷ those kind R) (those kind R))
+      go true ih = more {t = t} h ih
+      go false ih = ih
+
+  those-kind : (R : List ℕ) → All (λ t. kind t ≡ true) (those kind R)
+  unfolding those
+  those-kind [] = none
+  those-kind (t ∷ R) = go (kind t) refl (those-kind R)
+    where
+      go : (b : Bool) → kind t ≡ b → All (λ u. kind u ≡ true) (those kind R) → All (λ u. kind u ≡ true) (cond b (t ∷ those kind R) (those kind R))
+      go true e ih = more {t = t} e ih
+      go false e ih = ih
+
+  those-once : {R : List ℕ} → Distinct R → Distinct (those kind R)
+  unfolding those
+  those-once Distinct.empty = Distinct.empty
+  those-once (Distinct.other {t = t} {ts = R} d ds) = go (kind t) (those-once ds)
+    where
+      go : (b : Bool) → Distinct (those kind R) → Distinct (cond b (t ∷ those kind R) (those kind R))
+      go true ih = Distinct.other {t = t} (those-all d) ih
+      go false ih = ih
+
+  those-sum : (f : ℕ → ℕ) (R : List ℕ) → sum f (those kind R) ≡ sum (λ t. cond (kind t) (f t) 0) R
+  unfolding those
+  those-sum f [] = refl
+  those-sum f (t ∷ R) = go (kind t) (those-sum f R)
+    where
+      go : (b : Bool) → sum f (those kind R) ≡ sum (λ t. cond (kind t) (f t) 0) R → sum f (cond b (t ∷ those kind R) (those kind R)) ≡ cond b (f t) 0 + sum (λ t. cond (kind t) (f t) 0) R
+      go true ih = omega (arith, ih)
+      go false ih = omega (arith, ih)
+
+  those-most : (f : ℕ → ℕ) (R : List ℕ) → sum f (those kind R) ≤ sum f R
+  those-most f R = omega (arith, those-sum f R, sum-mono (λ t. cond (kind t) (f t) 0) f (all-of (λ t. go (kind t) (f t)) R))
+    where
+      go : (b : Bool) (k : ℕ) → cond b k 0 ≤ k
+      go true k = omega arith
+      go false k = omega arith
+
+  -- a part of an allowed set is allowed
+  those-allowed : (H : Hall) (R : List ℕ) → Allowed H R → Allowed H (those kind R)
+  those-allowed H R r =
+      record {
+        numbers = those-all (r .numbers);
+        once = those-once (r .once);
+        vehicles = those-all (all-map (λ t h. those-all h) (r .vehicles));
+        supply = λ minute. omega (arith, those-most (drawAt H minute) R, r .supply minute);
+      }
+
+module _ (H : Hall) where
+  -- the worth of a set is that of its wide windows and that of its small ones
+  two-kinds : (R : List ℕ) → worthOfWindows H R ≡ sum (H .windows .worth) (those (isWide H) R) + sum (H .windows .worth) (those (isSmall H) R)
+  unfolding isSmall
+  two-kinds R =
+      omega (
+        arith,
+        those-sum (isWide H) (H .windows .worth) R,
+        those-sum (isSmall H) (H .windows .worth) R,
+        sum-add (λ t. cond (isWide H t) (H .windows .worth t) 0) (λ t. cond (not (isWide H t)) (H .windows .worth t) 0) R,
+        sum-same-all R,
+      )
+    where
+      one : (b : Bool) (k : ℕ) → k ≡ cond b k 0 + cond (not b) k 0
+      one true k = omega arith
+      one false k = omega arith
+
+      sum-same-all : (R : List ℕ) → sum (H .windows .worth) R ≡ sum (λ t. cond (isWide H t) (H .windows .worth t) 0 + cond (not (isWide H t)) (H .windows .worth t) 0) R
+      sum-same-all [] = refl
+      sum-same-all (t ∷ R) = omega (arith, one (isWide H t) (H .windows .worth t), sum-same-all R)
+
+  -- ---- the plan of greater worth
+
+  -- the second of two choices, where the first is worth no more, else the first
+  pub greater-second : (S U : List Bool) → worthIn H S ≤ worthIn H U → greaterOf H S U ≡ U
+  unfolding greaterOf
+  greater-second S U l = rw (le-ltb (worthIn H U) (worthIn H S) l)
+
+  pub greater-first : (S U : List Bool) → worthIn H U < worthIn H S → greaterOf H S U ≡ S
+  unfolding greaterOf
+  greater-first S U l = rw (lt-ltb (worthIn H U) (worthIn H S) l)
+
+  greater-cases : (P : List Bool → Type 0) (S U : List Bool) → (worthIn H U < worthIn H S → P S) → (worthIn H S ≤ worthIn H U → P U) → P (greaterOf H S U)
+  greater-cases P S U p q = go (decLt (worthIn H U) (worthIn H S))
+    where
+      go : Dec (worthIn H U < worthIn H S) → P (greaterOf H S U)
+      go (yes l) = rw (greater-first S U l) (p l)
+      go (no l) = let m : worthIn H S ≤ worthIn H U = omega arith in rw (greater-second S U m) (q m)
+
+  greater-most : (S U : List Bool) → (worthIn H S ≤ worthIn H (greaterOf H S U)) × (worthIn H U ≤ worthIn H (greaterOf H S U))
+  greater-most S U = greater-cases (λ W. (worthIn H S ≤ worthIn H W) × (worthIn H U ≤ worthIn H W)) S U (λ l. (omega arith, omega arith)) (λ l. (omega arith, omega arith))
+
+  pub plan-allowed : AllowedChoice H (hallChoice H)
+  unfolding hallChoice wideChoice smallChoice chooseAmong
+  plan-allowed = greater-cases (AllowedChoice H) (wideChoice H) (smallChoice H) (λ l. chosen-allowed H (isWide H) _ (wideSteps H)) (λ l. chosen-allowed H (isSmall H) _ (smallSteps H))
+
+  pub plan-kind : ((t : ℕ) → has (hallChoice H) t ≡ true → isWide H t ≡ true) ⊎ ((t : ℕ) → has (hallChoice H) t ≡ true → isSmall H t ≡ true)
+  unfolding hallChoice wideChoice smallChoice chooseAmong
+  plan-kind =
+      greater-cases (λ S. ((t : ℕ) → has S t ≡ true → isWide H t ≡ true) ⊎ ((t : ℕ) → has S t ≡ true → isSmall H t ≡ true)) (wideChoice H) (smallChoice H)
+      (λ l. inl (chosen-kind H (isWide H) _ (wideSteps H))) (λ l. inr (chosen-kind H (isSmall H) _ (smallSteps H)))
+
+  pub plan-length : length (hallChoice H) ≡ windowCount H
+  unfolding hallChoice wideChoice smallChoice chooseAmong
+  plan-length = greater-cases (λ S. length S ≡ windowCount H) (wideChoice H) (smallChoice H) (λ l. chosen-length H (isWide H) _ (wideSteps H)) (λ l. chosen-length H (isSmall H) _ (smallSteps H))
+
+  wide-filled : FullAmong H (isWide H) (wideChoice H)
+  unfolding wideChoice chooseAmong
+  wide-filled = full-among H (isWide H) (wideSteps H)
+
+  small-filled : FullAmong H (isSmall H) (smallChoice H)
+  unfolding smallChoice chooseAmong
+  small-filled = full-among H (isSmall H) (smallSteps H)
+
+  -- ---- the promises
+
+  module _ (good : HallInRange H) where
+    small-thrice : (R : List ℕ) → Allowed H R → All (λ t. isSmall H t ≡ true) R → worthOfWindows H R ≤ 3 * tally (smallSteps H) + H .units * length (smallSteps H)
+    small-thrice R r k = omega (arith, sum-mono (H .windows .worth) (turnsAmong H (isSmall H) .worth) (all-map own k), small-part H good R r)
+      where
+        own : (t : ℕ) → isSmall H t ≡ true → H .windows .worth t ≤ turnsAmong H (isSmall H) .worth t
+        own t e = omega (arith, among-worth H (isSmall H) t ∙ ap (λ (b : Bool). cond b (H .windows .worth t) 0) e)
+
+    -- twice for the wide part and three times for the small one: five times, whichever plan it is
+    five-times : (R : List ℕ) → Allowed H R → worthOfWindows H R ≤ 5 * hallWorth H + H .units * length (smallSteps H)
+    unfolding hallWorth hallChoice
+    five-times R r =
+        omega (
+          arith,
+          two-kinds R,
+          wide-twice H good (those (isWide H) R) (those-allowed (isWide H) H R r) (those-kind (isWide H) R),
+          wide-earns H good,
+          small-thrice (those (isSmall H) R) (those-allowed (isSmall H) H R r) (those-kind (isSmall H) R),
+          small-earns H good,
+          greater-most (wideChoice H) (smallChoice H),
+        )
+
+    covered : (worthIn H (wideChoice H) ≤ hallWorth H) × (worthIn H (smallChoice H) ≤ hallWorth H)
+    unfolding hallWorth hallChoice
+    covered = greater-most (wideChoice H) (smallChoice H)
+
+    tied : worthIn H (wideChoice H) ≡ worthIn H (smallChoice H) → hallChoice H ≡ smallChoice H
+    unfolding hallChoice
+    tied e = greater-second (wideChoice H) (smallChoice H) (omega arith)
+
+    pub hall-promises : HallPromises H
+    hall-promises =
+        record {
+          allowed = plan-allowed;
+          one-kind = plan-kind;
+          wide-full = wide-filled;
+          small-full = small-filled;
+          wide-bound = wide-twice H good;
+          wide-covered = wide-earns H good;
+          small-bound = small-thrice;
+          small-covered = small-earns H good;
+          hall-bound = five-times;
+          covers-wide = covered .0;
+          covers-small = covered .1;
+          tie = tied;
+        }

@@ -1,0 +1,14 @@
+pub mod Windows
+pub mod Takes
+pub mod Runs
+pub mod Allowing
+pub mod Open
+pub mod Small
+pub mod Wide
+pub mod Halls
+pub mod Worked
+pub mod Limits
+pub mod ChargingSheets
+pub mod ChargeCauses
+pub mod SheetPromised
+pub mod ChargeWorked

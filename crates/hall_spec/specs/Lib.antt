@@ -1,0 +1,8 @@
+pub mod Hall
+pub mod Plan
+pub mod Promises
+pub mod Cases
+pub mod Charge
+pub mod Answer
+pub mod SheetPromises
+pub mod ChargeCases

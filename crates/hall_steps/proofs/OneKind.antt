@@ -1,0 +1,134 @@
+-- The windows of one kind as turns in columns: rows by their cases, and the problem that they pose. Assumes nothing.
+use mathlib.Core.Path.{_≡_, refl, _∙_, ap}
+use mathlib.Core.Bool.{Bool, true, false, not, cond}
+use mathlib.Core.List.{List}
+use Prim.Native.Nat.{ℕ, _+_, _*_, _≤_, _<_}
+use native.Mathlib.Omega.{arith}
+use native.Mathlib.Numerals.{add-one}
+use native.Mathlib.Decide.{decLt}
+use lib.Dec.{ltb}
+use lib.ListN.{length}
+use borrow.Author.Tests.{lt-ltb, le-ltb}
+use Rattle.lists.proofs.Bools.{up-to}
+use Rattle.turn.specs.Turn.{mostWorth}
+use Rattle.sheet.specs.Kind.{mostTurns}
+use Rattle.instance.specs.declared.ways.Row.{Row}
+use Rattle.instance.specs.declared.columns.Size.{Size}
+use Rattle.instance.specs.Ways.{turnRow}
+use Rattle.instance.specs.Columns.{columnPlaces, rowIn, withRow, within, turnsBy, Held}
+use Rattle.instance.proofs.Posed.{put-length}
+use Rattle.instance.proofs.Rows.{row-new, row-other, row-is}
+use Rattle.hall_spec.specs.Hall.{Hall, wideDraw, isWide, isSmall}
+use Rattle.hall_spec.specs.Plan.{turnsAmong}
+use Rattle.hall_steps.specs.declared.among.Among.{Among}
+use Rattle.hall_steps.specs.Among.{hallBy, ofKind, kindRow, amongRow}
+use Rattle.hall_steps.specs.Bounds.{HallHeld}
+
+-- ---- one row
+
+module _ (a : Among) (r : Row) {u d : ℕ} (e : u ≡ a .units) (f : d ≡ r .groomer) where
+  pub kind-wide : a .wide ≡ true → ltb u (2 * d) ≡ kindRow a r
+  unfolding kindRow wideDraw
+  kind-wide w = rw (w, e, f)
+
+  pub kind-small : a .wide ≡ false → not (ltb u (2 * d)) ≡ kindRow a r
+  unfolding kindRow wideDraw
+  kind-small w = rw (w, e, f)
+
+pub worth-own : (a : Among) (r : Row) {b : Bool} → b ≡ kindRow a r → b ≡ true → r .worth ≡ cond (kindRow a r) (r .worth) 0
+worth-own a r e f = rw (← e, f)
+
+pub worth-other : (a : Among) (r : Row) {b : Bool} → b ≡ kindRow a r → b ≡ false → 0 ≡ cond (kindRow a r) (r .worth) 0
+worth-other a r e f = rw (← e, f)
+
+pub row-among : (a : Among) (r : Row) {w : ℕ} → w ≡ cond (kindRow a r) (r .worth) 0 → _≡_ {A = Row} (record { slope = r .slope; groomer = 0; start = r .start; end = r .end; worth = w; driver = 0 }) (amongRow a r)
+unfolding amongRow
+row-among a r e = rw e
+
+pub ruleset row-cases = (kind-wide, kind-small, worth-own, worth-other, row-among)
+
+-- a row is of the kind just if its window is
+pub kind-is : (a : Among) (cols : List ℕ) (t : ℕ) → kindRow a (turnRow (hallBy a cols .windows) t) ≡ ofKind a cols t
+unfolding kindRow ofKind isWide isSmall turnRow
+kind-is a cols t = refl
+
+-- ---- all rows
+
+-- the first i rows are what the engine gets of the hall's
+unfoldable pub RowsAmong : Among → List ℕ → List ℕ → ℕ → Type 0
+RowsAmong a cols own i = (t : ℕ) → t < i → rowIn own t ≡ amongRow a (rowIn cols t)
+
+module _ (a : Among) (cols own : List ℕ) where
+  pub among-none : RowsAmong a cols own 0
+  unfolding RowsAmong
+  among-none = λ t h. absurd (omega arith)
+
+  pub among-more : (i : ℕ) {x r : Row} {own′ : List ℕ} → HallHeld a cols → i < a .size .count → length own ≡ columnPlaces → x ≡ rowIn cols i → r ≡ amongRow a x → own′ ≡ withRow own i r → RowsAmong a cols own i → RowsAmong a cols own′ (i + 1)
+  unfolding RowsAmong
+  among-more i {r = r} held l w e f q o =
+      let h : i < mostTurns = omega (arith, held .held .few) in
+      rw (add-one, q) (up-to (λ t. rowIn (withRow own i r) t ≡ amongRow a (rowIn cols t)) i (λ t k. row-other own i r t (omega arith) h (omega arith) ∙ o t k) (row-new own i r h w ∙ f ∙ ap (amongRow a) e))
+
+  module _ (i : ℕ) (held : HallHeld a cols) (h : a .size .count ≤ i) (w : length own ≡ columnPlaces) (o : RowsAmong a cols own i) where
+    abbrev H : Hall
+    H = hallBy a cols
+
+    abbrev p : Size
+    p = a .size
+
+    own-row : (t : ℕ) → t < p .count → rowIn own t ≡ amongRow a (turnRow (H .windows) t)
+    unfolding RowsAmong
+    own-row t l = o t (omega arith) ∙ ap (amongRow a) (row-is p cols t l)
+
+    -- a number of each window; 0 behind the last
+    own-number : (f : Row → ℕ) (g : ℕ → ℕ) → ((t : ℕ) → t < p .count → f (amongRow a (turnRow (H .windows) t)) ≡ g t) → ((t : ℕ) → p .count ≤ t → 0 ≡ g t) → (t : ℕ) → within (p .count) (λ u. f (rowIn own u)) t ≡ g t
+    unfolding within
+    own-number f g e z t = go (decLt t (p .count))
+      where
+        go : Dec (t < p .count) → cond (ltb t (p .count)) (f (rowIn own t)) 0 ≡ g t
+        go (yes l) = rw (lt-ltb t (p .count) l, own-row t l) (e t l)
+        go (no l) = rw (le-ltb t (p .count) (omega arith)) (z t (omega arith))
+
+    -- behind the last window everything reads as 0
+    behind : (f : Row → ℕ) (t : ℕ) → p .count ≤ t → 0 ≡ within (p .count) (λ u. f (rowIn cols u)) t
+    unfolding within
+    behind f t l = rw (le-ltb t (p .count) l)
+
+    no-worth : (t : ℕ) → p .count ≤ t → 0 ≡ cond (ofKind a cols t) (H .windows .worth t) 0
+    unfolding turnsBy
+    no-worth t l = go (ofKind a cols t)
+      where
+        go : (b : Bool) → 0 ≡ cond b (H .windows .worth t) 0
+        go true = behind (λ (r : Row). r .worth) t l
+        go false = refl
+
+    pub among-turns : turnsBy (a .size) own ≡ turnsAmong (hallBy a cols) (ofKind a cols)
+    unfolding turnsBy turnsAmong amongRow turnRow
+    among-turns = λ j. record {
+      count = p .count;
+      gap = held .gapless j;
+      slope = λ t. own-number (λ r. r .slope) (H .windows .slope) (λ u l. refl) (behind (λ r. r .slope)) t j;
+      groomer = λ t. own-number (λ r. r .groomer) (λ u. 0) (λ u l. refl) (λ u l. refl) t j;
+      start = λ t. own-number (λ r. r .start) (H .windows .start) (λ u l. refl) (behind (λ r. r .start)) t j;
+      end = λ t. own-number (λ r. r .end) (H .windows .end) (λ u l. refl) (behind (λ r. r .end)) t j;
+      worth = λ t. own-number (λ r. r .worth) (λ u. cond (ofKind a cols u) (H .windows .worth u) 0) (λ u l. ap (λ (b : Bool). cond b (H .windows .worth u) 0) (kind-is a cols u)) no-worth t j;
+      driver = λ t. own-number (λ r. r .driver) (λ u. 0) (λ u l. refl) (λ u l. refl) t j;
+    }
+
+    least-worth : (b : Bool) (w : ℕ) → w ≤ mostWorth → cond b w 0 ≤ mostWorth
+    least-worth true w h = h
+    least-worth false w h = omega arith
+
+    pub among-held : Held (a .size) own
+    unfolding turnsAmong
+    among-held =
+        record {
+          places = w;
+          few = held .held .few;
+          slopes = λ t l. rw among-turns (held .held .slopes t l);
+          starts = λ t l. rw among-turns (held .held .starts t l);
+          ends = λ t l. rw among-turns (held .held .ends t l);
+          worths = λ t l. rw among-turns (least-worth (ofKind a cols t) (H .windows .worth t) (held .held .worths t l));
+        }
+
+pub ruleset among-cases = (among-none, among-more, put-length, among-turns, among-held)

@@ -1,4 +1,0 @@
-pub mod Hall
-pub mod Plan
-pub mod Promises
-pub mod Cases

@@ -1,1 +1,0 @@
-// Definitions and theorems only: this crate has no program.

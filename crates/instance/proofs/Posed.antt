@@ -1,0 +1,163 @@
+-- From a sheet's table to the columns, by cases, and the problem that they then pose. Assumes nothing.
+use mathlib.Core.Path.{_≡_, refl, sym, _∙_, ap}
+use mathlib.Core.Bool.{cond}
+use mathlib.Core.List.{List, _++_}
+use Prim.Native.Nat.{ℕ, _+_, _*_, _≤_, _<_}
+use native.Mathlib.Omega.{arith}
+use native.Mathlib.Numerals.{add-one}
+use native.Mathlib.Decide.{decLt}
+use lib.Dec.{ltb}
+use lib.ListN.{length, getD, drop, List·getD-eq-default, List·getD-append}
+use borrow.Author.Tests.{lt-ltb, le-ltb}
+use Rattle.refusal.specs.Cause.{firstOf}
+use Rattle.lists.proofs.Bools.{up-to}
+use Rattle.turn.specs.declared.Turn.{Turn}
+use Rattle.turn.specs.Turn.{rowNumbers, turnIn}
+use Rattle.model.specs.Turns.{Turns}
+use Rattle.sheet.specs.declared.answer.ReadAnswer.{ReadAnswer}
+use Rattle.sheet.specs.declared.kind.Kind.{Kind}
+use Rattle.sheet.specs.Kind.{mostTurns, Sound}
+use Rattle.sheet.specs.Read.{turnCount, turnsOf, tableOf, causesFor, answerFor}
+use Rattle.sheet.proofs.SoundKinds.{garage-given}
+use Rattle.sheet.proofs.Tables.{turns-length, turns-at, table-length, table-row}
+use Rattle.sheet.proofs.Unrefused.{legal-header}
+use Rattle.sheet.proofs.Whole.{whole-accepted-for, whole-turns-for, whole-few-for, whole-room-for, answer-garage}
+use Rattle.instance.specs.declared.ways.Row.{Row}
+use Rattle.instance.specs.declared.columns.Size.{Size}
+use Rattle.instance.specs.Ways.{rowFor}
+use Rattle.instance.specs.Columns.{columnPlaces, rowIn, withRow, within, turnsBy}
+use Rattle.instance_spec.specs.Problem.{noTurn, problemOf, shiftGap, sheetTurns}
+use Rattle.instance.specs.Load.{EndsFit, RowsOf, PosedFor, Posed}
+use Rattle.instance.proofs.Rows.{row-length, row-new, row-other}
+use Rattle.instance_spec.proofs.SheetTurns.{few-turns-for, sheet-range-for, sheet-starts-for, sheet-ends-for, sheet-worths-for, sheet-slopes-for}
+
+-- ---- one turn
+
+module _ (table : List ℕ) (t : ℕ) {a : Turn} (e : a ≡ turnIn table t) where
+  pub row-from-is : _≡_ {A = Row} (record { slope = a .slope; groomer = a .groomer; start = a .start; end = a .start + a .length; worth = a .worth; driver = a .driver }) (rowFor (turnIn table t))
+  unfolding rowFor
+  row-from-is = rw e
+
+  pub end-in-16 : (n : ℕ) → EndsFit n table → t < n → a .start + a .length < 65536
+  unfolding EndsFit
+  end-in-16 n f h = rw e (f t h)
+
+pub ruleset from-cases = (row-from-is, end-in-16)
+
+-- ---- all turns of the table
+
+pub rows-none : (table cols : List ℕ) → RowsOf table cols 0
+unfolding RowsOf
+rows-none table cols = λ t h. absurd (omega arith)
+
+pub rows-more : (table cols : List ℕ) (i : ℕ) {r : Row} {cols′ : List ℕ} {n : ℕ} → i < n → n ≤ mostTurns → length cols ≡ columnPlaces → r ≡ rowFor (turnIn table i) → cols′ ≡ withRow cols i r → RowsOf table cols i → RowsOf table cols′ (i + 1)
+unfolding RowsOf
+rows-more table cols i {r} {n = n} l m w e q o = let h : i < mostTurns = omega arith in rw (add-one, q) (up-to (λ t. rowIn (withRow cols i r) t ≡ rowFor (turnIn table t)) i (λ t k. row-other cols i r t (omega arith) h (omega arith) ∙ o t k) (row-new cols i r h w ∙ e))
+
+pub put-length : (cols : List ℕ) (i : ℕ) (r : Row) {cols′ : List ℕ} → cols′ ≡ withRow cols i r → length cols ≡ columnPlaces → length cols′ ≡ columnPlaces
+put-length cols i r e w = rw e (row-length cols i r ∙ w)
+
+pub rows-done : (table cols : List ℕ) (i : ℕ) {n : ℕ} → n ≤ i → i ≤ n → RowsOf table cols i → RowsOf table cols n
+rows-done table cols i {n} h l o = let q : i ≡ n = omega arith in rw q at o
+
+pub ruleset rows-cases = (rows-none, rows-more, put-length, rows-done)
+
+-- ---- a sheet of any kind that is not refused, in columns with its rows
+
+module _ (K : Kind) (sound : Sound K) (gap : ℕ) (s : List ℕ) (z : firstOf (causesFor K s) ≡ 0) (cols : List ℕ) (w : length cols ≡ columnPlaces) (o : (t : ℕ) → t < turnCount s → rowIn cols t ≡ rowFor (getD (turnsOf s) t noTurn)) where
+  abbrev T : Turns
+  T = problemOf gap (turnsOf s)
+
+  abbrev turn : ℕ → Turn
+  turn t = getD (turnsOf s) t noTurn
+
+  abbrev size : Size
+  size = record { count = turnCount s; gap = gap }
+
+  -- a number of each turn, from the columns and from the list; 0 behind the last
+  same : (f : Row → ℕ) (g : Turn → ℕ) → g noTurn ≡ 0 → ((t : Turn) → f (rowFor t) ≡ g t) → (t : ℕ) → within (turnCount s) (λ i. f (rowIn cols i)) t ≡ g (turn t)
+  unfolding within
+  same f g n e t = go (decLt t (turnCount s))
+    where
+      go : Dec (t < turnCount s) → cond (ltb t (turnCount s)) (f (rowIn cols t)) 0 ≡ g (turn t)
+      go (yes l) = rw (lt-ltb t (turnCount s) l, o t l) (e (turn t))
+      go (no l) = rw (le-ltb t (turnCount s) (omega arith), List·getD-eq-default (turnsOf s) noTurn {n = t} (omega (arith, turns-length s))) (sym n)
+
+  posed-turns : turnsBy size cols ≡ T
+  unfolding turnsBy problemOf rowFor
+  posed-turns = λ j. record {
+    count = sym (turns-length s) j;
+    gap = gap;
+    slope = λ t. same (λ r. r .slope) (λ u. u .slope) refl (λ u. refl) t j;
+    groomer = λ t. same (λ r. r .groomer) (λ u. u .groomer) refl (λ u. refl) t j;
+    start = λ t. same (λ r. r .start) (λ u. u .start) refl (λ u. refl) t j;
+    end = λ t. same (λ r. r .end) (λ u. u .start + u .length) refl (λ u. refl) t j;
+    worth = λ t. same (λ r. r .worth) (λ u. u .worth) refl (λ u. refl) t j;
+    driver = λ t. same (λ r. r .driver) (λ u. u .driver) refl (λ u. refl) t j;
+  }
+
+  pub posed : PosedFor gap s cols
+  posed =
+      record {
+        turns = posed-turns;
+        held =
+            record {
+              places = w;
+              few = few-turns-for K sound gap s z;
+              slopes = λ t h. rw posed-turns (omega (arith, sheet-slopes-for K sound gap s z t h, legal-header K sound s z .slopes-to, sound .slopes));
+              starts = λ t h. rw posed-turns (sheet-starts-for K sound gap s z t h);
+              ends = λ t h. rw posed-turns (sheet-ends-for K sound gap s z t h);
+              worths = λ t h. rw posed-turns (sheet-worths-for K sound gap s z t h);
+            };
+      }
+
+-- ---- what was read
+
+pub load-refused : (r : ReadAnswer) {s cols : List ℕ} → (r .refusal ≡ 0 → ⊥) → r .refusal ≡ 0 → (gap : ℕ) → PosedFor gap s cols
+load-refused r n z gap = absurd (n z)
+
+module _ (K : Kind) (sound : Sound K) (s lent t : List ℕ) (r : ReadAnswer) (e : (r ≡ answerFor K s) × (r .refusal ≡ 0 → t ≡ tableOf s ++ drop (length (tableOf s)) lent)) (z : r .refusal ≡ 0) where
+  pub load-few : r .turns ≤ mostTurns
+  load-few = omega (arith, whole-few-for K s (e .0) z sound, sound .turns)
+
+  pub load-room : rowNumbers * r .turns ≤ length t
+  load-room = whole-room-for K s (e .0) z lent (e .1)
+
+  accepted : firstOf (causesFor K s) ≡ 0
+  accepted = whole-accepted-for K s (e .0) z
+
+  number : (k : ℕ) → k < rowNumbers * turnCount s → getD t k 0 ≡ getD (tableOf s) k 0
+  number k h = rw (e .1 z) (List·getD-append (tableOf s) (drop (length (tableOf s)) lent) 0 k (omega (arith, table-length s)))
+
+  read-turn : (i : ℕ) → i < turnCount s → turnIn t i ≡ getD (turnsOf s) i noTurn
+  read-turn i h = front ∙ table-row s i h ∙ sym (turns-at s noTurn i h)
+    where
+      front : turnIn t i ≡ turnIn (tableOf s) i
+      front = λ j. record {
+        slope = number (i * rowNumbers) (omega arith) j;
+        groomer = number (i * rowNumbers + 1) (omega arith) j;
+        start = number (i * rowNumbers + 2) (omega arith) j;
+        length = number (i * rowNumbers + 3) (omega arith) j;
+        worth = number (i * rowNumbers + 4) (omega arith) j;
+        driver = number (i * rowNumbers + 5) (omega arith) j;
+      }
+
+  pub load-fits : EndsFit (r .turns) t
+  unfolding EndsFit
+  load-fits i h =
+      let l : i < turnCount s = omega (arith, whole-turns-for K s (e .0) z) in
+      let q : turnIn t i .start + turnIn t i .length ≡ getD (turnsOf s) i noTurn .start + getD (turnsOf s) i noTurn .length = ap (λ (u : Turn). u .start + u .length) (read-turn i l) in
+      omega (arith, sheet-range-for K sound 0 s accepted i l .end-to)
+
+  pub load-posed : (cols : List ℕ) → RowsOf t cols (r .turns) × (length cols ≡ columnPlaces) → (gap : ℕ) → PosedFor gap s cols
+  unfolding RowsOf
+  load-posed cols o gap = posed K sound gap s accepted cols (o .1) (λ i h. o .0 i (omega (arith, whole-turns-for K s (e .0) z)) ∙ ap rowFor (read-turn i h))
+
+pub ruleset load-cases = (load-refused, load-few, load-room, load-fits, load-posed)
+
+-- its loading is that of its kind
+pub load-garage : (s cols : List ℕ) (r : ReadAnswer) → (r .refusal ≡ 0 → (gap : ℕ) → PosedFor gap s cols) → r .refusal ≡ 0 → Posed s cols
+unfolding sheetTurns
+load-garage s cols r w z = record { turns = w z shiftGap .turns; held = w z shiftGap .held }
+
+pub ruleset garage-load-cases = (garage-given, answer-garage, load-garage)

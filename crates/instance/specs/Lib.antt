@@ -1,0 +1,4 @@
+pub mod Ways
+pub mod Columns
+pub mod Flags
+pub mod Load

@@ -1,0 +1,2 @@
+pub mod SheetTurns
+pub mod ByStart

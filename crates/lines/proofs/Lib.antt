@@ -1,3 +1,0 @@
-pub mod Pieces
-pub mod LinePieces
-pub mod Sizes

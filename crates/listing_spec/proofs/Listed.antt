@@ -1,0 +1,90 @@
+-- The listing of every sheet that is not refused: what its rounds have, how many turn lines there are; and its refusals. Assumes nothing.
+use Prim.Native.Nat.{ℕ, _+_, _<_, _≤_}
+use mathlib.Core.Path.{_≡_, sym, _∙_, ap}
+use mathlib.Core.List.{List}
+use mathlib.Core.Logic.{_↔_}
+use native.Mathlib.Omega.{arith}
+use lib.ListN.{length}
+use Rattle.refusal.specs.Cause.{There, firstOf}
+use Rattle.refusal.proofs.Written.{number-first, enough-iff}
+use Rattle.wire.specs.Number.{Bytes}
+use Rattle.lists.specs.Lists.{sum, below}
+use Rattle.model.specs.Turns.{Turns, PositiveLengths}
+use Rattle.model.specs.Choice.{choice}
+use Rattle.model.specs.Pick.{steps}
+use Rattle.model.proofs.Promised.{planned-keeps}
+use Rattle.sheet.specs.Read.{countsIn, turnCount, sheetCauses}
+use Rattle.sheet.specs.Accepted.{Accepted}
+use Rattle.sheet.proofs.Readings.{sheet-numbered}
+use Rattle.sheet.proofs.Accepting.{accepted-iff}
+use Rattle.refusal.proofs.Order.{first-same}
+use Rattle.sheet.proofs.ReadCauses.{lent-causes-iff}
+use Rattle.sheet.proofs.Unrefused.{few-turns}
+use Rattle.choice_map.specs.Choice.{mapOf, onesIn}
+use Rattle.board.specs.Board.{boardMap}
+use Rattle.board_open.proofs.Written.{map-read}
+use Rattle.instance_spec.specs.Problem.{sheetTurns}
+use Rattle.instance_spec.proofs.SheetTurns.{sheet-count, sheet-starts, sheet-lengths, sheet-ends, sheet-groomers}
+use Rattle.plan_spec.specs.Plan.{boardFor, plannedBoard}
+use Rattle.plan_spec.proofs.Boards.{choice-count}
+use Rattle.listing_spec.specs.Round.{roundOf, Round, StartsApart, shiftMinutes}
+use Rattle.listing_spec.specs.List.{sheetListing, listCauses, listOf, ListCause, FirstListCause}
+use Rattle.listing_spec.proofs.Rounds.{apart-starts, round-is, rounds-ones}
+
+module _ (s : List ℕ) (z : firstOf (sheetCauses s) ≡ 0) where
+  abbrev T : Turns
+  T = sheetTurns s
+
+  below-count : (u : ℕ) → u < T .count → u < turnCount s
+  below-count u h = omega (arith, sheet-count s z)
+
+  lengths : PositiveLengths T
+  lengths = sheet-lengths s z
+
+  starts : (u : ℕ) → u < T .count → T .start u < shiftMinutes
+  starts u h = omega (arith, sheet-starts s z u (below-count u h), sheet-ends s z u (below-count u h))
+
+  apart : StartsApart T (choice T)
+  apart = apart-starts T (choice T) (planned-keeps T lengths .apart) lengths
+
+  -- each chosen turn stands once, under its groomer, by start
+  pub sheet-rounds : (h : ℕ) → Round T (choice T) h (roundOf T (choice T) h)
+  sheet-rounds h = round-is T (choice T) h apart starts
+
+  from-1 : (u : ℕ) → u < T .count → 1 ≤ T .groomer u
+  from-1 u h = sheet-groomers s z u (below-count u h) .0
+
+  to-most : (u : ℕ) → u < T .count → T .groomer u ≤ countsIn s .groomers
+  to-most u h = sheet-groomers s z u (below-count u h) .1
+
+  map-is : boardMap (plannedBoard s) ≡ mapOf (choice T)
+  unfolding plannedBoard boardFor
+  map-is = map-read (choice T) (steps T) _ _ (omega (arith, choice-count T, sheet-count s z, few-turns s z))
+
+  -- there are as many turn lines as ones in the map of the planner's board
+  pub sheet-lines : sum (λ k. length (roundOf T (choice T) (k + 1))) (below (countsIn s .groomers)) ≡ onesIn (boardMap (plannedBoard s))
+  sheet-lines = rounds-ones T (choice T) (countsIn s .groomers) (choice-count T) from-1 to-most starts ∙ sym (ap onesIn map-is)
+
+-- ---- refused
+
+pub list-number : (s lent : List ℕ) → listOf s lent .refusal ≡ firstOf (listCauses s (length lent))
+unfolding listOf
+list-number s lent = number-first (listCauses s (length lent)) _ lent
+
+list-causes-iff : (s : List ℕ) (places k r : ℕ) → ListCause s places k r ↔ There (listCauses s places) k r
+unfolding listCauses
+list-causes-iff s places = lent-causes-iff s (length (sheetListing s)) places
+
+-- the listing's number is that of the first cause there
+pub list-refused-iff : (s lent : List ℕ) (k : ℕ) → (k ≡ 0 → ⊥) → (listOf s lent .refusal ≡ k) ↔ FirstListCause s (length lent) k
+list-refused-iff s lent k z =
+    let same = first-same (listCauses s (length lent)) (ListCause s (length lent)) (list-causes-iff s (length lent)) k z in
+    (λ e. same .0 (sym (list-number s lent) ∙ e), λ f. list-number s lent ∙ same .1 f)
+
+-- the listing refuses nothing just if the sheet is accepted and the lent bytes hold this very listing
+pub list-accepted-iff : {s : List ℕ} → Bytes s → (lent : List ℕ) → (listOf s lent .refusal ≡ 0) ↔ (Accepted s × (length (sheetListing s) ≤ length lent))
+unfolding listCauses
+list-accepted-iff {s} b lent =
+    let e = enough-iff (sheetCauses s) (length lent) (length (sheetListing s)) (sheet-numbered s) in
+    let a = accepted-iff b in
+    (λ z. let h = e .0 (sym (list-number s lent) ∙ z) in (a .0 (h .0), h .1), λ h. list-number s lent ∙ e .1 (a .1 (h .0), h .1))

@@ -1,1 +1,0 @@
-// Numbers for all turns, where any groomer can do any: what they are, and that no fewer will do; no code.

@@ -1,3 +1,0 @@
-pub mod Table
-pub mod Single
-pub mod Groomers

@@ -1,5 +1,0 @@
-pub mod Serving
-pub mod Places
-pub mod PartitionCauses
-pub mod Answers
-pub mod Promised

@@ -1,0 +1,31 @@
+-- What is worked out before the first minute, for inner functions only (request R-13). Assumes nothing.
+use mathlib.Core.Path.{_≡_}
+use Prim.Native.Nat.{ℕ, _≤_}
+use mathlib.Core.Bool.{Bool}
+use mathlib.Core.List.{List}
+use lib.ListN.{length}
+use Rattle.refusal.specs.Cause.{Cause, firstOf}
+use Rattle.model.specs.Turns.{Turns}
+use Rattle.sheet.specs.Kind.{mostGroomers}
+use Rattle.sheet.specs.Read.{countsIn}
+use Rattle.instance_spec.specs.Problem.{sheetTurns}
+use Rattle.board.specs.Board.{boardChoice}
+use Rattle.play_spec.specs.Day.{delayIn}
+use Rattle.play_spec.specs.DayTable.{dayTablePlaces, Days}
+use Rattle.play.specs.declared.Prepared.{Prepared}
+use Rattle.play_spec.specs.Play.{playCauses}
+
+-- what is worked out before the first minute, where these are the causes to refuse: the answer, and where none is there a table that holds the days
+pub record PreparedBy (causes : List Cause) (T : Turns) (groomers : ℕ) (S : List Bool) (delays : List ℕ) (places : ℕ) (p : Prepared) : Type 0 where
+  pub number : p .refusal ≡ firstOf causes
+  pub none : (p .refusal ≡ 0 → ⊥) → p .groomers ≡ 0
+  pub groomers-are : p .refusal ≡ 0 → p .groomers ≡ groomers
+  pub days : p .refusal ≡ 0 → Days T S (delayIn delays) (p .table)
+  pub places-are : length (p .table) ≡ dayTablePlaces
+  pub moved-are : p .moved ≡ p .groomers
+  pub few : p .moved ≤ mostGroomers
+  pub inside : p .moved ≤ places
+
+-- for a sheet and a board
+abbrev pub PreparedFor : List ℕ → List ℕ → List ℕ → ℕ → Prepared → Type 0
+PreparedFor s b delays places p = PreparedBy (playCauses s b delays places) (sheetTurns s) (countsIn s .groomers) (boardChoice b) delays places p

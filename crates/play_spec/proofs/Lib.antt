@@ -1,0 +1,12 @@
+pub mod Stints
+pub mod Delayed
+pub mod Days
+pub mod Standings
+pub mod Worked
+pub mod TableStints
+pub mod Delays
+pub mod Moves
+pub mod ListedStandings
+pub mod LentCauses
+pub mod PlayCauses
+pub mod Promised

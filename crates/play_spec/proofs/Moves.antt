@@ -1,0 +1,183 @@
+-- A minute of one groomer by its cases, and what the loops over the list keep. Assumes nothing.
+use mathlib.Core.Path.{_≡_, refl, sym, _∙_, ap, subst}
+use Prim.Native.Nat.{ℕ, zero, suc, _+_, _-_, _<_, _≤_, _/_}
+use native.Mathlib.Omega.{arith}
+use native.Mathlib.Nat.{sub-zero}
+use mathlib.Core.Bool.{Bool, true, false}
+use mathlib.Core.List.{List}
+use mathlib.Core.Logic.{_⊎_, inl, inr}
+use lib.Dec.{T, eqb, eqb→eq}
+use lib.ListN.{length, set, getD, length-set}
+use lib.Seq.{getD-set-same, getD-set-other}
+use borrow.Author.Tests.{eq-eqb, ne-eqb, lt-ltb, le-ltb}
+use Rattle.turn.specs.Turn.{shiftMinutes}
+use Rattle.sheet.specs.Kind.{mostGroomers}
+use Rattle.play_spec.specs.declared.Stint.{Stint}
+use Rattle.play_spec.specs.Day.{overMinutes}
+use Rattle.play_spec.specs.DayTable.{dayRows, dayTablePlaces, stintIn, doingBy}
+use Rattle.play_spec.specs.declared.Standing.{Standing}
+use Rattle.play_spec.specs.Standing.{noTurnInHand, freshOf, movedBy, totalOf}
+use Rattle.play_spec.proofs.Standings.{moved-total}
+use Rattle.play_spec.specs.Minutes.{begunOf, stepOf, minuteOf, minutesFrom, MinuteReady, AllReady}
+
+-- ---- the cases of a step
+
+pub begun-first : (s : Standing) (m : ℕ) → m ≡ 0 → freshOf ≡ begunOf s m
+unfolding begunOf
+begun-first s m e = rw (eq-eqb m 0 e)
+
+pub begun-anew : (s : Standing) (m : ℕ) {r : Standing} → r ≡ freshOf → m ≡ 0 → r ≡ begunOf s m
+begun-anew s m e z = e ∙ begun-first s m z
+
+pub begun-later : (s : Standing) (m : ℕ) → (m ≡ 0 → ⊥) → s ≡ begunOf s m
+unfolding begunOf
+begun-later s m e = rw (ne-eqb m 0 e)
+
+pub ruleset begun-cases = (begun-anew, begun-later)
+
+moved-stands : (b : Standing) (k : Stint) (m : ℕ) → m < k .begin → record { working = b .working; driving = b .driving; standing = b .standing + 1; turn = noTurnInHand } ≡ movedBy b (doingBy k m)
+unfolding movedBy doingBy
+moved-stands b k m l = rw (lt-ltb m (k .begin) l)
+
+moved-works : (b : Standing) (k : Stint) (m : ℕ) → k .begin ≤ m → m < k .end → record { working = b .working + 1; driving = b .driving; standing = b .standing; turn = k .turn } ≡ movedBy b (doingBy k m)
+unfolding movedBy doingBy
+moved-works b k m a l = rw (le-ltb m (k .begin) a, lt-ltb m (k .end) l)
+
+moved-drives : (b : Standing) (k : Stint) (m : ℕ) → k .begin ≤ m → k .end ≤ m → record { working = b .working; driving = b .driving + 1; standing = b .standing; turn = noTurnInHand } ≡ movedBy b (doingBy k m)
+unfolding movedBy doingBy
+moved-drives b k m a l = rw (le-ltb m (k .begin) a, le-ltb m (k .end) l)
+
+module _ (b s : Standing) (table : List ℕ) (g m : ℕ) {k : Stint} (e : b ≡ begunOf s m) (f : k ≡ stintIn table g (b .driving / overMinutes)) where
+  is-step : movedBy b (doingBy k m) ≡ stepOf s table g m
+  unfolding stepOf
+  is-step = let q : k ≡ stintIn table g (begunOf s m .driving / overMinutes) = f ∙ ap (λ (x : Standing). stintIn table g (x .driving / overMinutes)) e in λ i. movedBy (e i) (doingBy (q i) m)
+
+  pub step-stands : m < k .begin → record { working = b .working; driving = b .driving; standing = b .standing + 1; turn = noTurnInHand } ≡ stepOf s table g m
+  step-stands l = moved-stands b k m l ∙ is-step
+
+  pub step-works : k .begin ≤ m → m < k .end → record { working = b .working + 1; driving = b .driving; standing = b .standing; turn = k .turn } ≡ stepOf s table g m
+  step-works a l = moved-works b k m a l ∙ is-step
+
+  pub step-drives : k .begin ≤ m → k .end ≤ m → record { working = b .working; driving = b .driving + 1; standing = b .standing; turn = noTurnInHand } ≡ stepOf s table g m
+  step-drives a l = moved-drives b k m a l ∙ is-step
+
+-- ---- a step has room
+
+module _ (b s : Standing) (table : List ℕ) (g m : ℕ) (e : b ≡ begunOf s m) (r : MinuteReady table g m s) where
+  total-is : b .working + b .driving + b .standing ≡ m
+  total-is = ap totalOf e ∙ r .3
+
+  pub working-room : b .working + 1 < 65536
+  working-room = omega (arith, total-is, r .2)
+
+  pub driving-room : b .driving + 1 < 65536
+  driving-room = omega (arith, total-is, r .2)
+
+  pub standing-room : b .standing + 1 < 65536
+  standing-room = omega (arith, total-is, r .2)
+
+  pub row-room : b .driving / overMinutes < dayRows
+  row-room = omega (arith, total-is, r .2)
+
+  pub row-fits : b .driving / overMinutes < 18446744073709551616
+  row-fits = omega (arith, total-is, r .2)
+
+pub table-room : (s : Standing) (table : List ℕ) (g m : ℕ) → MinuteReady table g m s → length table ≡ dayTablePlaces
+table-room s table g m r = r .0
+
+pub groomer-room : (s : Standing) (table : List ℕ) (g m : ℕ) → MinuteReady table g m s → g < mostGroomers
+groomer-room s table g m r = r .1
+
+pub ruleset step-cases = (step-stands, step-works, step-drives, working-room, driving-room, standing-room, row-room, row-fits, table-room, groomer-room)
+
+-- ---- a step makes one more minute
+
+step-total : (s : Standing) (table : List ℕ) (g m : ℕ) → MinuteReady table g m s → totalOf (stepOf s table g m) ≡ m + 1
+unfolding stepOf
+step-total s table g m r = moved-total (begunOf s m) (doingBy (stintIn table g (begunOf s m .driving / overMinutes)) m) ∙ ap (λ (t : ℕ). t + 1) (r .3)
+
+-- ---- a minute of the list, g of whose n groomers are moved. What the loop of `minute` keeps
+pub length-minute : (k g : ℕ) (l : List Standing) (table : List ℕ) (m : ℕ) → length (minuteOf k g l table m) ≡ length l
+unfolding minuteOf
+length-minute zero g l table m = refl
+length-minute (suc k) g l table m = length-minute k (g + 1) (set l g (stepOf (getD l g freshOf) table g m)) table m ∙ length-set l g (stepOf (getD l g freshOf) table g m)
+
+pub record Mid (n : ℕ) (ys : List Standing) (table : List ℕ) (m g : ℕ) (l : List Standing) : Type 0 where
+  pub upto : g ≤ n
+  pub same : length l ≡ length ys
+  pub rest : minuteOf (n - g) g l table m ≡ minuteOf n 0 ys table m
+  pub ready : (j : ℕ) → g ≤ j → j < n → MinuteReady table j m (getD l j freshOf)
+
+module _ (n : ℕ) (ys : List Standing) (table : List ℕ) (m : ℕ) where
+  pub mid-start : AllReady table m n ys → Mid n ys table m 0 ys
+  mid-start h = record { upto = omega arith; same = refl; rest = rw sub-zero; ready = λ j _ l. h j l }
+
+  pub mid-next : (g : ℕ) (l : List Standing) → g < n → Mid n ys table m g l → Mid n ys table m (g + 1) (set l g (stepOf (getD l g freshOf) table g m))
+  unfolding minuteOf
+  mid-next g l less i = record {
+    upto = omega arith;
+    same = length-set l g (stepOf (getD l g freshOf) table g m) ∙ i .same;
+    rest = let k : n - g ≡ suc (n - (g + 1)) = omega arith in rw k at (i .rest);
+    ready = λ j from to. let other : j ≡ g → ⊥ = λ e. omega arith in let e : getD (set l g (stepOf (getD l g freshOf) table g m)) j freshOf ≡ getD l j freshOf = getD-set-other l g j (stepOf (getD l g freshOf) table g m) freshOf other in
+        let below : g ≤ j = omega arith in rw e (i .ready j below to);
+  }
+
+  pub mid-end : (g : ℕ) (l : List Standing) → n ≤ g → Mid n ys table m g l → l ≡ minuteOf n 0 ys table m
+  unfolding minuteOf
+  mid-end g l over i = let k : n - g ≡ 0 = omega arith in rw k at (i .rest)
+
+-- ---- a groomer of the list, a minute later
+pub minute-before : (k g : ℕ) (l : List Standing) (table : List ℕ) (m j : ℕ) → j < g → getD (minuteOf k g l table m) j freshOf ≡ getD l j freshOf
+unfolding minuteOf
+minute-before zero g l table m j h = refl
+minute-before (suc k) g l table m j h =
+    let later : j < g + 1 = omega arith in let other : j ≡ g → ⊥ = λ e. omega arith in
+    minute-before k (g + 1) (set l g (stepOf (getD l g freshOf) table g m)) table m j later ∙ getD-set-other l g j (stepOf (getD l g freshOf) table g m) freshOf other
+
+same-or-later : (g j : ℕ) → g ≤ j → (j ≡ g) ⊎ (g + 1 ≤ j)
+same-or-later g j h = go (eqb j g) refl
+  where
+    go : (b : Bool) → eqb j g ≡ b → (j ≡ g) ⊎ (g + 1 ≤ j)
+    go true e = inl (eqb→eq j g (subst T (sym e) tt))
+    go false e = let other : j ≡ g → ⊥ = λ p. subst T (sym (eq-eqb j g p) ∙ e) tt in inr (omega (arith, other))
+
+pub minute-at : (k g : ℕ) (l : List Standing) (table : List ℕ) (m j : ℕ) → g ≤ j → j < g + k → g + k ≤ length l → getD (minuteOf k g l table m) j freshOf ≡ stepOf (getD l j freshOf) table j m
+unfolding minuteOf
+minute-at zero g l table m j h h′ room = absurd (omega arith)
+minute-at (suc k) g l table m j h h′ room =
+    let within : g < length l = omega arith in let up : j < g + 1 + k = omega arith in let room′ : g + 1 + k ≤ length (set l g (stepOf (getD l g freshOf) table g m)) = rw (length-set l g (stepOf (getD l g freshOf) table g m)) (omega arith) in
+    elim (same-or-later g j h) [
+      | inl e ↦ let here : j < g + 1 = omega arith in minute-before k (g + 1) (set l g (stepOf (getD l g freshOf) table g m)) table m j here ∙ rw e (getD-set-same l g (stepOf (getD l g freshOf) table g m) freshOf within)
+      | inr more ↦ let other : j ≡ g → ⊥ = λ e. omega arith in minute-at k (g + 1) (set l g (stepOf (getD l g freshOf) table g m)) table m j more up room′ ∙ ap (λ (s : Standing). stepOf s table j m) (getD-set-other l g j (stepOf (getD l g freshOf) table g m) freshOf other)
+    ]
+
+pub minute-ready : (n : ℕ) (l : List Standing) (table : List ℕ) (m : ℕ) → n ≤ length l → m + 1 < shiftMinutes → AllReady table m n l → AllReady table (m + 1) n (minuteOf n 0 l table m)
+minute-ready n l table m room day h g less =
+    let e : getD (minuteOf n 0 l table m) g freshOf ≡ stepOf (getD l g freshOf) table g m = minute-at n 0 l table m g (omega arith) (omega arith) (omega arith) in
+    let later : m + 1 ≡ 0 → ⊥ = λ z. omega arith in
+    (h g less .0, h g less .1, day, ap totalOf (sym (begun-later (getD (minuteOf n 0 l table m) g freshOf) (m + 1) later) ∙ e) ∙ step-total (getD l g freshOf) table g m (h g less))
+
+-- ---- the minutes. What the loop of `minutes` keeps
+pub record Minutes (n : ℕ) (ys : List Standing) (table : List ℕ) (m : ℕ) (l : List Standing) : Type 0 where
+  pub upto : m ≤ shiftMinutes
+  pub same : length l ≡ length ys
+  pub rest : minutesFrom (shiftMinutes - m) m n l table ≡ minutesFrom shiftMinutes 0 n ys table
+  pub ready : m < shiftMinutes → AllReady table m n l
+
+module _ (n : ℕ) (ys : List Standing) (table : List ℕ) where
+  pub minutes-start : n ≤ mostGroomers → length table ≡ dayTablePlaces → Minutes n ys table 0 ys
+  unfolding begunOf
+  minutes-start few places = record { upto = omega arith; same = refl; rest = refl; ready = λ _ g less. (places, omega arith, omega arith, refl) }
+
+  pub minutes-next : (m : ℕ) (l : List Standing) → n ≤ length ys → m < shiftMinutes → Minutes n ys table m l → Minutes n ys table (m + 1) (minuteOf n 0 l table m)
+  unfolding minutesFrom
+  minutes-next m l room less i = record {
+    upto = omega arith;
+    same = length-minute n 0 l table m ∙ i .same;
+    rest = let k : shiftMinutes - m ≡ suc (shiftMinutes - (m + 1)) = omega arith in rw k at (i .rest);
+    ready = λ day. let within : n ≤ length l = rw (i .same) room in minute-ready n l table m within day (i .ready less);
+  }
+
+  pub minutes-end : (m : ℕ) (l : List Standing) → shiftMinutes ≤ m → Minutes n ys table m l → l ≡ minutesFrom shiftMinutes 0 n ys table
+  unfolding minutesFrom
+  minutes-end m l over i = let k : shiftMinutes - m ≡ 0 = omega arith in rw k at (i .rest)

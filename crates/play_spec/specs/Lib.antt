@@ -1,0 +1,7 @@
+pub mod Day
+pub mod Standing
+pub mod Play
+pub mod Cases
+pub mod Minutes
+pub mod Promises
+pub mod DayTable

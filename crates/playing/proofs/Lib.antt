@@ -1,4 +1,0 @@
-pub mod Stints
-pub mod Delayed
-pub mod Days
-pub mod Standings

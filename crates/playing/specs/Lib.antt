@@ -1,2 +1,0 @@
-pub mod Day
-pub mod Standing

@@ -1,5 +1,0 @@
-pub mod Ways
-pub mod Columns
-pub mod Flags
-pub mod Problem
-pub mod Load

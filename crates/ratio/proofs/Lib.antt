@@ -1,6 +1,0 @@
-pub mod Signed
-pub mod Steps
-pub mod Replaying
-pub mod Holdings
-pub mod Blocks
-pub mod Written

@@ -1,0 +1,67 @@
+// The order of steps: which open turn the check lets a step be about.
+ghost use mathlib.Core.Path.{_≡_};
+ghost use Prim.Native.Nat.{_<_};
+ghost use Rattle.model.specs.Rules.{noEarlier, right};
+ghost use Rattle.instance.specs.Columns.{turnsBy, Held};
+ghost use Rattle.instance_by_end.specs.Placing.{EndsRise};
+ghost use Rattle.local_ratio.specs.Bounds.{Residuals, ClosedTo};
+ghost use Rattle.local_ratio.specs.Below.{earliestBelow};
+use instance::PLACES;
+use instance::Size;
+use instance::row_at;
+use instance::shared_of;
+use local_ratio::is_open;
+use local_ratio::left_of;
+
+// Whether turn t is not an open turn of j's groomer or driver with an earlier end. All tests are always
+// done: a jump a turn would be guessed wrong too often.
+fn is_no_earlier(rest: &[i32], p: Size, cols: &[u16; PLACES], j: usize, t: usize) -> bool
+    requires { ⌜ (j < p .count) × (t < p .count) × Residuals (p .count) (now rest) × Held p (now cols) ⌝ }
+    ensures { λ r. ⌜ r ≡ noEarlier (turnsBy p (now (cols .entry))) (now (rest .entry)) j t ⌝ }
+{
+    let live = is_open(rest, t);
+    let x = row_at(cols, j);
+    let y = row_at(cols, t);
+    let shared = shared_of(x, y);
+    let earlier = y.end < x.end;
+    !(live & (shared.groomer | shared.driver) & earlier)
+}
+
+// Whether no open turn of j's groomer or driver has an earlier end. The turns stand in order of end, so that
+// only those before j can have one, and those before a turn are closed.
+fn is_earliest(rest: &[i32], p: Size, cols: &[u16; PLACES], j: usize, from: usize) -> bool
+    requires { ⌜ (j < p .count) × Residuals (p .count) (now rest) × Held p (now cols) × ClosedTo from (now rest) × EndsRise (turnsBy p (now cols)) ⌝ }
+    ensures { λ r. ⌜ r ≡ earliestBelow (turnsBy p (now (cols .entry))) (now (rest .entry)) j (p .count) ⌝ }
+{
+    let mut all = true;
+    let mut t = from;
+    while t < j {
+        let one = is_no_earlier(rest, p, cols, j, t);
+        all = one & all;
+        t += 1;
+    }
+    all
+}
+
+// Whether a step is right where it stands.
+pub fn is_right(
+    rest: &[i32],
+    p: Size,
+    cols: &[u16; PLACES],
+    j: usize,
+    amount: u16,
+    from: usize,
+) -> bool
+    requires { ⌜ Residuals (p .count) (now rest) × Held p (now cols) × ClosedTo from (now rest) × EndsRise (turnsBy p (now cols)) ⌝ }
+    ensures { λ r. ⌜ r ≡ right (turnsBy p (now (cols .entry))) (now (rest .entry)) (record { turn = j; amount = amount }) ⌝ }
+{
+    if p.count <= j {
+        return false;
+    }
+    if is_open(rest, j) {
+        if amount == left_of(rest, j) {
+            return is_earliest(rest, p, cols, j, from);
+        }
+    }
+    false
+}

@@ -1,1 +1,0 @@
-// A groomer's round, its chosen turns by start; no code.

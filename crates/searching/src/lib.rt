@@ -1,1 +1,0 @@
-// The search with a limit on its visits: definitions and theorems only; no code.

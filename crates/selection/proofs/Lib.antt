@@ -1,0 +1,5 @@
+pub mod Chosen
+pub mod Gathering
+pub mod Unchosen
+pub mod Fitting
+pub mod Numbers

@@ -1,0 +1,98 @@
+use borrow.Author.Tests.{not-true, not-false}
+use borrow.Author.Needs.{needs}
+use Rattle.selection.proofs.Chosen.{take-room, independent-next, independent-ends, taken-places, lent-cases, one-cases, all-cases, next-cases}
+use Rattle.selection.specs.Gathered.{Gathered}
+use Rattle.selection.specs.Below.{independentBelow}
+use Rattle.choice_map.specs.Choice.{choiceIn}
+use Rattle.instance.specs.Columns.{turnsBy}
+use mathlib.Core.Bool.{true}
+use mathlib.Core.Path.{_≡_}
+use Prim.Native.Nat.{_-_, _≤_}
+use Rattle.selection.proofs.rules.is_independent.Statement.{statement}
+use Rattle.selection.proofs.rules.is_independent.Tie as tie
+
+abbrev Inv-loop : tie.InvT-loop
+Inv-loop p cols map taken₀ n flags₀ c₀ x₀ taken flags c x =
+    (x ≤ p .count) × Gathered (turnsBy p cols) (choiceIn (p .count) map) x c taken flags × (independentBelow (turnsBy p cols) (choiceIn (p .count) map) x ≡ true)
+
+abbrev μ-loop : tie.MeasureT-loop
+μ-loop p cols map taken₀ n flags₀ c₀ x₀ taken flags c x = p .count - x
+
+loop-holds : tie.Need-loop-holds Inv-loop μ-loop
+loop-holds c = (search needs, search (needs, all-cases), search all-cases)
+
+is-chosen-requires : tie.Need-is-chosen-requires Inv-loop μ-loop
+is-chosen-requires c κs = search needs
+
+row-at-requires : tie.Need-row-at-requires Inv-loop μ-loop
+row-at-requires c κs = search needs
+
+take-if-room-requires : tie.Need-take-if-room-requires Inv-loop μ-loop
+take-if-room-requires c κs = (search lent-cases, search lent-cases, λ f. search lent-cases)
+
+returns : tie.Need-returns Inv-loop μ-loop
+returns c =
+    let call = c .before in
+    let chosen = call .before .before .before .before in
+    let test = chosen .before .before in
+    let head = test .before in (
+      independent-ends _ _ _ _ (test .loop-test .taken) (chosen .before .is-chosen .ensures) (call .before .row-at .ensures) _ _ _ (head .before .before .pre .0) (call .take-if-room .ensures .0) (chosen .if1 .taken) (head .loop .inv .1)
+          (not-true (call .take-if-room .result) (c .if2 .taken)),
+      taken-places (head .loop .taken) (head .loop .c) (call .before .row-at .result) (call .take-if-room .result) (call .take-if-room .ensures .1 .0) (head .loop .inv .1 .places),
+    )
+
+add-c : tie.Need-add-c Inv-loop μ-loop
+add-c c = search lent-cases
+
+add-x : tie.Need-add-x Inv-loop μ-loop
+add-x c = search needs
+
+loop-less : tie.Need-loop-less Inv-loop μ-loop
+loop-less c = search needs
+
+loop-again : tie.Need-loop-again Inv-loop μ-loop
+loop-again c =
+    let call = c .before in
+    let chosen = call .before .before .before .before in
+    let test = chosen .before .before in
+    let head = test .before in (
+      search needs,
+      take-room _ _ _ _ (test .loop-test .taken) (chosen .before .is-chosen .ensures) (call .before .row-at .ensures) _ _ _ (head .before .before .pre .0) {r = call .take-if-room .result} (not-false (call .take-if-room .result) (c .if2 .left)) (chosen .if1 .taken) (head .loop .inv .1)
+          (call .take-if-room .ensures .1 .0)
+          (call .take-if-room .ensures .1 .1),
+      independent-next _ _ _ _ (test .loop-test .taken) (chosen .before .is-chosen .ensures) (call .before .row-at .ensures) _ _ _ (head .before .before .pre .0) (call .take-if-room .ensures .0) (chosen .if1 .taken) (head .loop .inv .1)
+          (not-false (call .take-if-room .result) (c .if2 .left))
+          (head .loop .inv .2),
+    )
+
+add-x-2 : tie.Need-add-x-2 Inv-loop μ-loop
+add-x-2 c = search needs
+
+loop-less-2 : tie.Need-loop-less-2 Inv-loop μ-loop
+loop-less-2 c = search needs
+
+loop-again-2 : tie.Need-loop-again-2 Inv-loop μ-loop
+loop-again-2 c = (search needs, search one-cases, search next-cases)
+
+returns-2 : tie.Need-returns-2 Inv-loop μ-loop
+returns-2 c = (search all-cases, search needs)
+
+pub is-independent-spec : {M : Type 1} → statement M
+is-independent-spec =
+    tie.close
+    (tie.spec
+    Inv-loop
+    μ-loop
+    loop-holds
+    is-chosen-requires
+    row-at-requires
+    take-if-room-requires
+    returns
+    add-c
+    add-x
+    loop-less
+    loop-again
+    add-x-2
+    loop-less-2
+    loop-again-2
+    returns-2)

@@ -1,0 +1,4 @@
+pub mod Bounds
+pub mod Below
+pub mod Gathered
+pub mod Asked

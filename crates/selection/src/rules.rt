@@ -1,0 +1,134 @@
+// What the rules ask of a choice, held in a choice map: no two of its turns conflict, no turn is left
+// that fits beside it, and what it is worth.
+ghost use mathlib.Core.Path.{_≡_};
+ghost use mathlib.Core.Bool.{cond};
+ghost use Prim.Native.Nat.{_<_};
+ghost use lib.ListN.{length, replicate};
+ghost use Rattle.model.specs.Choice.{has};
+ghost use Rattle.choice_map.specs.Choice.{choiceIn};
+ghost use Rattle.instance.specs.Columns.{columnPlaces, slopePlaces, turnsBy};
+ghost use Rattle.selection.specs.Bounds.{Lent};
+ghost use Rattle.selection.specs.Below.{independentBelow, maximalBelow, chosenBelow};
+ghost use Rattle.selection.specs.Gathered.{Gathered};
+use super::room::has_room;
+use super::room::take_if_room;
+use super::room::take_row;
+use instance::PLACES;
+use instance::SLOPES;
+use instance::Size;
+use instance::row_at;
+
+// Whether no two chosen turns conflict, with a place for the rows: each has room beside those of lower
+// numbers.
+pub fn is_independent(p: Size, cols: &[u16; PLACES], map: &[u8], taken: &mut [u16; PLACES]) -> bool
+    requires { ⌜ Lent p (now cols) (now map) × (length (now taken) ≡ columnPlaces) ⌝ }
+    ensures { λ r. ⌜ r ≡ independentBelow (turnsBy p (now (cols .entry))) (choiceIn (p .count) (now (map .entry))) (p .count) ⌝ }
+    ensures { λ _. ⌜ length (now (taken .exit)) ≡ columnPlaces ⌝ }
+{
+    let n = p.count;
+    let mut flags = [0u8; SLOPES];
+    let mut c = 0;
+    let mut x = 0;
+    while x < n {
+        if choice_map::is_chosen(map, x) {
+            if !take_if_room(p.gap, &mut *taken, &mut flags, c, row_at(cols, x)) {
+                return false;
+            }
+            c += 1;
+            x += 1;
+        } else {
+            x += 1;
+        }
+    }
+    true
+}
+
+// Takes all chosen turns into rows that have none, with clear flags; returns how many they are.
+fn take_chosen(
+    p: Size,
+    cols: &[u16; PLACES],
+    map: &[u8],
+    taken: &mut [u16; PLACES],
+    flags: &mut [u8; SLOPES],
+) -> usize
+    requires { ⌜ Lent p (now cols) (now map) × (length (now taken) ≡ columnPlaces) × (now flags ≡ replicate slopePlaces 0) ⌝ }
+    ensures { λ r. ⌜ Gathered (turnsBy p (now (cols .entry))) (choiceIn (p .count) (now (map .entry))) (p .count) r (now (taken .exit)) (now (flags .exit)) ⌝ }
+{
+    let mut c = 0;
+    let mut x = 0;
+    while x < p.count {
+        if choice_map::is_chosen(map, x) {
+            take_row(&mut *taken, &mut *flags, c, row_at(cols, x));
+            c += 1;
+            x += 1;
+        } else {
+            x += 1;
+        }
+    }
+    c
+}
+
+// Whether every turn is chosen or has no room beside the rows of all chosen turns.
+fn are_settled(
+    p: Size,
+    cols: &[u16; PLACES],
+    map: &[u8],
+    taken: &[u16; PLACES],
+    flags: &[u8; SLOPES],
+    c: usize,
+) -> bool
+    requires { ⌜ Lent p (now cols) (now map) × Gathered (turnsBy p (now cols)) (choiceIn (p .count) (now map)) (p .count) c (now taken) (now flags) ⌝ }
+    ensures { λ r. ⌜ r ≡ maximalBelow (turnsBy p (now (cols .entry))) (choiceIn (p .count) (now (map .entry))) (p .count) ⌝ }
+{
+    let n = p.count;
+    let mut t = 0;
+    while t < n {
+        if choice_map::is_chosen(map, t) {
+            t += 1;
+        } else {
+            if has_room(p.gap, taken, flags, c, row_at(cols, t)) {
+                return false;
+            }
+            t += 1;
+        }
+    }
+    true
+}
+
+// Whether every turn is chosen or conflicts with a chosen one, with a place for the rows.
+pub fn is_maximal(p: Size, cols: &[u16; PLACES], map: &[u8], taken: &mut [u16; PLACES]) -> bool
+    requires { ⌜ Lent p (now cols) (now map) × (length (now taken) ≡ columnPlaces) ⌝ }
+    ensures { λ r. ⌜ r ≡ maximalBelow (turnsBy p (now (cols .entry))) (choiceIn (p .count) (now (map .entry))) (p .count) ⌝ }
+    ensures { λ _. ⌜ length (now (taken .exit)) ≡ columnPlaces ⌝ }
+{
+    let mut flags = [0u8; SLOPES];
+    let c = take_chosen(p, cols, map, &mut *taken, &mut flags);
+    are_settled(p, cols, map, &*taken, &flags, c)
+}
+
+// A turn's worth if it is chosen, else 0.
+fn worth_if_chosen(p: Size, cols: &[u16; PLACES], map: &[u8], t: usize) -> u32
+    requires { ⌜ (t < p .count) × Lent p (now cols) (now map) ⌝ }
+    ensures { λ r. ⌜ (r ≡ cond (has (choiceIn (p .count) (now (map .entry))) t) (turnsBy p (now (cols .entry)) .worth t) 0) × (r < 65536) ⌝ }
+{
+    if choice_map::is_chosen(map, t) {
+        row_at(cols, t).worth as u32
+    } else {
+        0
+    }
+}
+
+// What the chosen turns are worth together.
+pub fn chosen_worth(p: Size, cols: &[u16; PLACES], map: &[u8]) -> u32
+    requires { ⌜ Lent p (now cols) (now map) ⌝ }
+    ensures { λ r. ⌜ r ≡ chosenBelow (turnsBy p (now (cols .entry))) (choiceIn (p .count) (now (map .entry))) (p .count) ⌝ }
+{
+    let n = p.count;
+    let mut sum: u32 = 0;
+    let mut t = 0;
+    while t < n {
+        sum += worth_if_chosen(p, cols, map, t);
+        t += 1;
+    }
+    sum
+}

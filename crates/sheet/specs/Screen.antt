@@ -1,0 +1,43 @@
+-- The lift desk's sheets: the garage's with fewer turns (request R-8). Assumes nothing.
+use Prim.Native.Nat.{ℕ, _*_}
+use mathlib.Core.Path.{_≡_}
+use mathlib.Core.List.{List}
+use lib.ListN.{take, drop}
+use Rattle.refusal.specs.Number.{tooManyForScreen}
+use Rattle.turn.specs.Turn.{rowNumbers}
+use Rattle.sheet.specs.declared.kind.Kind.{Kind}
+use Rattle.sheet.specs.Kind.{garage, withTurns}
+use Rattle.sheet.specs.Read.{Outcome, readFor}
+use Rattle.sheet.specs.Accepted.{AcceptedFor, ReadCauseFor, FirstAmong}
+
+-- the most turns that the screen shows
+abbrev pub screenTurns : ℕ
+screenTurns = 96
+
+-- its sheet: the garage's with that limit, and a number of its own for more
+unfoldable pub liftDesk : Kind
+liftDesk = withTurns garage screenTurns tooManyForScreen
+
+-- reading it
+unfoldable pub readShortOf : List ℕ → List ℕ → Outcome
+readShortOf = readFor liftDesk
+
+-- ---- as statements
+
+-- the bytes are made as such a sheet is made
+abbrev pub AcceptedShort : List ℕ → Type 0
+AcceptedShort = AcceptedFor liftDesk
+
+-- the first cause to refuse them, or the lent table, has number k
+abbrev pub FirstShortCause : List ℕ → ℕ → ℕ → Type 0
+FirstShortCause s places k = FirstAmong (ReadCauseFor liftDesk s places) k
+
+-- two readings, into the lent tables a and b, say the same
+pub record ReadAlike (p q : Outcome) (a b : List ℕ) : Type 0 where
+  -- one answer
+  pub one-answer : p .answer ≡ q .answer
+  -- the same numbers in front, a row for each turn of the answer
+  pub same-rows : take (rowNumbers * p .answer .turns) (p .table) ≡ take (rowNumbers * q .answer .turns) (q .table)
+  -- behind them either table is as it was
+  pub first-behind : drop (rowNumbers * p .answer .turns) (p .table) ≡ drop (rowNumbers * p .answer .turns) a
+  pub second-behind : drop (rowNumbers * q .answer .turns) (q .table) ≡ drop (rowNumbers * q .answer .turns) b

@@ -1,3 +1,0 @@
-pub mod Sorting
-pub mod Order
-pub mod Counting

@@ -1,0 +1,1 @@
+// Drawn sheets: the generator, the drawn turns, their sheet; no code.

@@ -1,0 +1,6 @@
+pub mod Order
+pub mod Write
+pub mod Key
+pub mod WriteCause
+pub mod Promises
+pub mod Answer
