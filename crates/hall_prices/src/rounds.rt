@@ -47,7 +47,8 @@ fn look_at(h: HallSize, cols: &[u16; PLACES], prices: &[u16], relaxed: &mut [u8]
     requires { ⌜ HallPosed h (now cols) × (length (now prices) ≡ shiftMinutes) ⌝ }
     requires { ⌜ Clean (h .size .count) (now relaxed) × (choiceIn (h .size .count) (now relaxed) ≡ replicate (h .size .count) false) ⌝ }
     ensures { λ r. ⌜ r ≡ hallLimit (hallFor h (now (cols .entry))) (h .vehicles) (now (prices .entry)) ⌝ }
-    ensures { λ _. ⌜ Clean (h .size .count) (now (relaxed .exit)) × (choiceIn (h .size .count) (now (relaxed .exit)) ≡ hallRelaxed (hallFor h (now (cols .entry))) (now (prices .entry))) ⌝ }
+    ensures { λ _. ⌜ Clean (h .size .count) (now (relaxed .exit))
+        × (choiceIn (h .size .count) (now (relaxed .exit)) ≡ hallRelaxed (hallFor h (now (cols .entry))) (now (prices .entry))) ⌝ }
 {
     let mut most = [0u16; VEHICLES];
     let mut taken = [0u16; VEHICLES];
@@ -60,7 +61,8 @@ fn look_at(h: HallSize, cols: &[u16; PLACES], prices: &[u16], relaxed: &mut [u8]
 fn choose_from(h: HallSize, cols: &[u16; PLACES], ranks: &[u16], relaxed: &[u8], map: &mut [u8])
     requires { ⌜ HallPosed h (now cols) × (now ranks ≡ byWorth (hallFor h (now cols) .windows)) × Clean (h .size .count) (now relaxed) ⌝ }
     requires { ⌜ Clean (h .size .count) (now map) × (choiceIn (h .size .count) (now map) ≡ replicate (h .size .count) false) ⌝ }
-    ensures { λ _. ⌜ choiceIn (h .size .count) (now (map .exit)) ≡ windowsMade (hallFor h (now (cols .entry))) (choiceIn (h .size .count) (now (relaxed .entry))) ⌝ }
+    ensures { λ _. ⌜ choiceIn (h .size .count) (now (map .exit))
+        ≡ windowsMade (hallFor h (now (cols .entry))) (choiceIn (h .size .count) (now (relaxed .entry))) ⌝ }
     ensures { λ _. ⌜ Clean (h .size .count) (now (map .exit)) ⌝ }
 {
     let mut numbers = [0u16; selection::ASKED];

@@ -115,7 +115,8 @@ fn replay(
     requires { ⌜ Residuals (p .count) (now rest) × Held p (now cols) × EndsRise (turnsBy p (now cols))
         × (stepSize * m ≤ length (now steps)) × (m ≤ p .count) ⌝ }
     ensures { λ r. ⌜ (r .right ≡ allRight (turnsBy p (now (cols .entry))) (now (rest .entry)) (movesIn (now (places .entry)) m (now (steps .entry))))
-        × (r .right ≡ true → now (rest .exit) ≡ afterSteps (turnsBy p (now (cols .entry))) (now (rest .entry)) (movesIn (now (places .entry)) m (now (steps .entry))))
+        × (r .right ≡ true → now (rest .exit)
+        ≡ afterSteps (turnsBy p (now (cols .entry))) (now (rest .entry)) (movesIn (now (places .entry)) m (now (steps .entry))))
         × (r .right ≡ true → r .cost ≡ costsFrom (turnsBy p (now (cols .entry))) (now (rest .entry)) (movesIn (now (places .entry)) m (now (steps .entry))))
         × (length (now (rest .exit)) ≡ p .count) ⌝ }
 {
