@@ -6,27 +6,6 @@ use borrow.Author.Needs.{needs}
 use Rattle.archive_columns.proofs.put_columns.Statement.{statement}
 use Rattle.archive_columns.proofs.put_columns.Tie as tie
 
-put-column-requires : tie.Need-put-column-requires
-put-column-requires c κs = (search laid-cases, search (needs, widths-sum (c .before .before .before .before .args .maps .now)), search needs)
-
-put-column-requires-2 : tie.Need-put-column-requires-2
-put-column-requires-2 c κs = (search laid-cases, search (needs, widths-sum (c .before .before .before .before .before .before .before .before .args .maps .now)), search needs)
-
-put-column-requires-3 : tie.Need-put-column-requires-3
-put-column-requires-3 c κs = (search laid-cases, search (needs, widths-sum (c .before .before .before .before .before .before .before .before .before .before .before .before .args .maps .now)), search needs)
-
-put-column-requires-4 : tie.Need-put-column-requires-4
-put-column-requires-4 c κs = (search laid-cases, search (needs, widths-sum (c .before .before .before .before .before .before .before .before .before .before .before .before .before .before .before .before .args .maps .now)), search needs)
-
-put-column-requires-5 : tie.Need-put-column-requires-5
-put-column-requires-5 c κs = (search laid-cases, search (needs, widths-sum (c .before .before .before .before .before .before .before .before .before .before .before .before .before .before .before .before .before .before .before .before .args .maps .now)), search needs)
-
-put-column-requires-6 : tie.Need-put-column-requires-6
-put-column-requires-6 c κs = (search laid-cases, search (needs, widths-sum (c .before .before .before .before .before .before .before .before .before .before .before .before .before .before .before .before .before .before .before .before .before .before .before .before .args .maps .now)), search needs)
-
-same-length : tie.Need-same-length
-same-length c = search needs
-
 returns : tie.Need-returns
 returns c =
     let d6 = c .before .before in
@@ -47,11 +26,11 @@ pub put-columns-spec : {M : Type 1} → statement M
 put-columns-spec =
     tie.close
     (tie.spec
-    put-column-requires
-    put-column-requires-2
-    put-column-requires-3
-    put-column-requires-4
-    put-column-requires-5
-    put-column-requires-6
-    same-length
+    (λ c κs. (search laid-cases, search (needs, widths-sum (c .before .before .before .before .args .maps .now)), search needs))
+    (λ c κs. (search laid-cases, search (needs, widths-sum (c .before .before .before .before .before .before .before .before .args .maps .now)), search needs))
+    (λ c κs. (search laid-cases, search (needs, widths-sum (c .before .before .before .before .before .before .before .before .before .before .before .before .args .maps .now)), search needs))
+    (λ c κs. (search laid-cases, search (needs, widths-sum (c .before .before .before .before .before .before .before .before .before .before .before .before .before .before .before .before .args .maps .now)), search needs))
+    (λ c κs. (search laid-cases, search (needs, widths-sum (c .before .before .before .before .before .before .before .before .before .before .before .before .before .before .before .before .before .before .before .before .args .maps .now)), search needs))
+    (λ c κs. (search laid-cases, search (needs, widths-sum (c .before .before .before .before .before .before .before .before .before .before .before .before .before .before .before .before .before .before .before .before .before .before .before .before .args .maps .now)), search needs))
+    (λ c. search needs)
     returns)

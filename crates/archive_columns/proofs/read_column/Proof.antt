@@ -14,65 +14,23 @@ Inv-loop k from field maps table₀ at₀ old₀ i₀ table at old i = (i ≤ le
 abbrev μ-loop : tie.MeasureT-loop
 μ-loop k from field maps table₀ at₀ old₀ i₀ table at old i = length maps - i
 
-loop-holds : tie.Need-loop-holds Inv-loop μ-loop
-loop-holds c = search (needs, column-cases)
-
-shared-slice-read-m : tie.Need-shared-slice-read-m Inv-loop μ-loop
-shared-slice-read-m c = search (needs, column-cases)
-
-read-field-requires : tie.Need-read-field-requires Inv-loop μ-loop
-read-field-requires c κs = search (needs, column-cases)
-
-mul-cell : tie.Need-mul-cell Inv-loop μ-loop
-mul-cell c = search (needs, column-cases)
-
-add-cell : tie.Need-add-cell Inv-loop μ-loop
-add-cell c = search (needs, column-cases)
-
-mul-table : tie.Need-mul-table Inv-loop μ-loop
-mul-table c = search (needs, column-cases)
-
-slice-write-table : tie.Need-slice-write-table Inv-loop μ-loop
-slice-write-table c = search (needs, column-cases)
-
-size-in-requires : tie.Need-size-in-requires Inv-loop μ-loop
-size-in-requires c κs = search (needs, column-cases)
-
-add-at : tie.Need-add-at Inv-loop μ-loop
-add-at c = search (needs, column-cases)
-
-add-i : tie.Need-add-i Inv-loop μ-loop
-add-i c = search (needs, column-cases)
-
-loop-less : tie.Need-loop-less Inv-loop μ-loop
-loop-less c = search (needs, column-cases)
-
-loop-again : tie.Need-loop-again Inv-loop μ-loop
-loop-again c = (search needs, search needs, search (needs, column-cases), search (needs, column-cases))
-
-same-length : tie.Need-same-length Inv-loop μ-loop
-same-length c = search (needs, column-cases)
-
-returns : tie.Need-returns Inv-loop μ-loop
-returns c = search (needs, column-cases)
-
 pub read-column-spec : {M : Type 1} → statement M
 read-column-spec =
     tie.close
     (tie.spec
     Inv-loop
     μ-loop
-    loop-holds
-    shared-slice-read-m
-    read-field-requires
-    mul-cell
-    add-cell
-    mul-table
-    slice-write-table
-    size-in-requires
-    add-at
-    add-i
-    loop-less
-    loop-again
-    same-length
-    returns)
+    (λ c. search (needs, column-cases))
+    (λ c. search (needs, column-cases))
+    (λ c κs. search (needs, column-cases))
+    (λ c. search (needs, column-cases))
+    (λ c. search (needs, column-cases))
+    (λ c. search (needs, column-cases))
+    (λ c. search (needs, column-cases))
+    (λ c κs. search (needs, column-cases))
+    (λ c. search (needs, column-cases))
+    (λ c. search (needs, column-cases))
+    (λ c. search (needs, column-cases))
+    (λ c. (search needs, search needs, search (needs, column-cases), search (needs, column-cases)))
+    (λ c. search (needs, column-cases))
+    (λ c. search (needs, column-cases)))

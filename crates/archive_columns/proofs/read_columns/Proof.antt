@@ -5,27 +5,6 @@ use borrow.Author.Needs.{needs}
 use Rattle.archive_columns.proofs.read_columns.Statement.{statement}
 use Rattle.archive_columns.proofs.read_columns.Tie as tie
 
-read-column-requires : tie.Need-read-column-requires
-read-column-requires c κs = (search laid-cases, search (needs, widths-sum (c .before .before .before .before .args .maps .now)), search needs)
-
-read-column-requires-2 : tie.Need-read-column-requires-2
-read-column-requires-2 c κs = (search laid-cases, search (needs, widths-sum (c .before .before .before .before .before .before .before .before .args .maps .now)), search needs)
-
-read-column-requires-3 : tie.Need-read-column-requires-3
-read-column-requires-3 c κs = (search laid-cases, search (needs, widths-sum (c .before .before .before .before .before .before .before .before .before .before .before .before .args .maps .now)), search needs)
-
-read-column-requires-4 : tie.Need-read-column-requires-4
-read-column-requires-4 c κs = (search laid-cases, search (needs, widths-sum (c .before .before .before .before .before .before .before .before .before .before .before .before .before .before .before .before .args .maps .now)), search needs)
-
-read-column-requires-5 : tie.Need-read-column-requires-5
-read-column-requires-5 c κs = (search laid-cases, search (needs, widths-sum (c .before .before .before .before .before .before .before .before .before .before .before .before .before .before .before .before .before .before .before .before .args .maps .now)), search needs)
-
-read-column-requires-6 : tie.Need-read-column-requires-6
-read-column-requires-6 c κs = (search laid-cases, search (needs, widths-sum (c .before .before .before .before .before .before .before .before .before .before .before .before .before .before .before .before .before .before .before .before .before .before .before .before .args .maps .now)), search needs)
-
-same-length : tie.Need-same-length
-same-length c = search needs
-
 returns : tie.Need-returns
 returns c =
     let d6 = c .before .before in
@@ -46,11 +25,11 @@ pub read-columns-spec : {M : Type 1} → statement M
 read-columns-spec =
     tie.close
     (tie.spec
-    read-column-requires
-    read-column-requires-2
-    read-column-requires-3
-    read-column-requires-4
-    read-column-requires-5
-    read-column-requires-6
-    same-length
+    (λ c κs. (search laid-cases, search (needs, widths-sum (c .before .before .before .before .args .maps .now)), search needs))
+    (λ c κs. (search laid-cases, search (needs, widths-sum (c .before .before .before .before .before .before .before .before .args .maps .now)), search needs))
+    (λ c κs. (search laid-cases, search (needs, widths-sum (c .before .before .before .before .before .before .before .before .before .before .before .before .args .maps .now)), search needs))
+    (λ c κs. (search laid-cases, search (needs, widths-sum (c .before .before .before .before .before .before .before .before .before .before .before .before .before .before .before .before .args .maps .now)), search needs))
+    (λ c κs. (search laid-cases, search (needs, widths-sum (c .before .before .before .before .before .before .before .before .before .before .before .before .before .before .before .before .before .before .before .before .args .maps .now)), search needs))
+    (λ c κs. (search laid-cases, search (needs, widths-sum (c .before .before .before .before .before .before .before .before .before .before .before .before .before .before .before .before .before .before .before .before .before .before .before .before .args .maps .now)), search needs))
+    (λ c. search needs)
     returns)

@@ -15,41 +15,17 @@ Inv-loop map n first end t₀ t = (n ≤ t) × (t ≤ 8 * length map) × (every 
 abbrev μ-loop : tie.MeasureT-loop
 μ-loop map n first end t₀ t = 8 * length map - t
 
-mul-end : tie.Need-mul-end Inv-loop μ-loop
-mul-end c = search (needs, clear-cases)
-
-loop-holds : tie.Need-loop-holds Inv-loop μ-loop
-loop-holds c = search (needs, clear-cases)
-
-is-chosen-requires : tie.Need-is-chosen-requires Inv-loop μ-loop
-is-chosen-requires c κs = search (needs, clear-cases)
-
-returns : tie.Need-returns Inv-loop μ-loop
-returns c = search (needs, clear-cases)
-
-add-t : tie.Need-add-t Inv-loop μ-loop
-add-t c = search (needs, clear-cases)
-
-loop-less : tie.Need-loop-less Inv-loop μ-loop
-loop-less c = search (needs, clear-cases)
-
-loop-again : tie.Need-loop-again Inv-loop μ-loop
-loop-again c = (search needs, search needs, clear-more _ _ _ (c .before .before .before .loop .inv .0) (c .before .is-chosen .ensures) (c .if1 .left) (c .before .before .before .loop .inv .2))
-
-returns-2 : tie.Need-returns-2 Inv-loop μ-loop
-returns-2 c = search (needs, clear-cases)
-
 pub clear-past-spec : {M : Type 1} → statement M
 clear-past-spec =
     tie.close
     (tie.spec
     Inv-loop
     μ-loop
-    mul-end
-    loop-holds
-    is-chosen-requires
-    returns
-    add-t
-    loop-less
-    loop-again
-    returns-2)
+    (λ c. search (needs, clear-cases))
+    (λ c. search (needs, clear-cases))
+    (λ c κs. search (needs, clear-cases))
+    (λ c. search (needs, clear-cases))
+    (λ c. search (needs, clear-cases))
+    (λ c. search (needs, clear-cases))
+    (λ c. (search needs, search needs, clear-more _ _ _ (c .before .before .before .loop .inv .0) (c .before .is-chosen .ensures) (c .if1 .left) (c .before .before .before .loop .inv .2)))
+    (λ c. search (needs, clear-cases)))

@@ -3,14 +3,8 @@ use borrow.Author.Needs.{needs}
 use Rattle.choice_map.proofs.with_bit.Statement.{statement}
 use Rattle.choice_map.proofs.with_bit.Tie as tie
 
-cast-result : tie.Need-cast-result
-cast-result c = search needs
-
-shl-result : tie.Need-shl-result
-shl-result c = search needs
-
 returns : tie.Need-returns
 returns c = with-bit-byte (c .args .x) (c .args .k) (c .fits .x .fits) (c .pre)
 
 pub with-bit-spec : {M : Type 1} → statement M
-with-bit-spec = tie.close (tie.spec cast-result shl-result returns)
+with-bit-spec = tie.close (tie.spec (λ c. search needs) (λ c. search needs) returns)

@@ -4,30 +4,6 @@ use borrow.Author.Needs.{needs}
 use Rattle.refine.proofs.refine_with.Statement.{statement}
 use Rattle.refine.proofs.refine_with.Tie as tie
 
-cast-map-bytes : tie.Need-cast-map-bytes
-cast-map-bytes c = search needs
-
-map-bytes-requires : tie.Need-map-bytes-requires
-map-bytes-requires c κs = search needs
-
-array-borrow-prefix-space : tie.Need-array-borrow-prefix-space
-array-borrow-prefix-space c = search needs
-
-slice-aggregate-map : tie.Need-slice-aggregate-map
-slice-aggregate-map c = search (needs, zeros-cases)
-
-plan-board-requires : tie.Need-plan-board-requires
-plan-board-requires c κs = (search needs, (search written-cases, search needs))
-
-add-k : tie.Need-add-k
-add-k c = search needs
-
-slice-relend-prefix-run : tie.Need-slice-relend-prefix-run
-slice-relend-prefix-run c = search written-cases
-
-slice-aggregate-run : tie.Need-slice-aggregate-run
-slice-aggregate-run c = search needs
-
 run-requires : tie.Need-run-requires
 run-requires c κs =
     let planned = c .before .before .before .before .before .before .before .before .before .plan-board .ensures in
@@ -41,12 +17,6 @@ write-choice-requires c κs =
     let start = planned .before .before .before .before .before .before .before .before .before .before in
     write-room _ _ _ (planned .plan-board .ensures .0) (start .pre .1 .0) (reached .run .ensures .clean)
 
-same-length : tie.Need-same-length
-same-length c = search needs
-
-same-length-2 : tie.Need-same-length-2
-same-length-2 c = search needs
-
 returns : tie.Need-returns
 returns c =
     let written = c .before .before .before in
@@ -59,16 +29,16 @@ pub refine-with-spec : {M : Type 1} → statement M
 refine-with-spec =
     tie.close
     (tie.spec
-    cast-map-bytes
-    map-bytes-requires
-    array-borrow-prefix-space
-    slice-aggregate-map
-    plan-board-requires
-    add-k
-    slice-relend-prefix-run
-    slice-aggregate-run
+    (λ c. search needs)
+    (λ c κs. search needs)
+    (λ c. search needs)
+    (λ c. search (needs, zeros-cases))
+    (λ c κs. (search needs, (search written-cases, search needs)))
+    (λ c. search needs)
+    (λ c. search written-cases)
+    (λ c. search needs)
     run-requires
     write-choice-requires
-    same-length
-    same-length-2
+    (λ c. search needs)
+    (λ c. search needs)
     returns)

@@ -3,11 +3,5 @@ use Rattle.sheet.proofs.Limits.{desk-cases}
 use Rattle.sheet_read_short.proofs.lift_desk.Statement.{statement}
 use Rattle.sheet_read_short.proofs.lift_desk.Tie as tie
 
-garage-requires : tie.Need-garage-requires
-garage-requires c κs = search needs
-
-returns : tie.Need-returns
-returns c = search (needs, desk-cases)
-
 pub lift-desk-spec : {M : Type 1} → statement M
-lift-desk-spec = tie.close (tie.spec garage-requires returns)
+lift-desk-spec = tie.close (tie.spec (λ c κs. search needs) (λ c. search (needs, desk-cases)))

@@ -13,41 +13,17 @@ Inv-loop out₀ at text to₀ i₀ out to i = (i ≤ length text) × (to ≡ at 
 abbrev μ-loop : tie.MeasureT-loop
 μ-loop out₀ at text to₀ i₀ out to i = length text - i
 
-loop-holds : tie.Need-loop-holds Inv-loop μ-loop
-loop-holds c = search (needs, text-cases)
-
-shared-slice-read-put-byte : tie.Need-shared-slice-read-put-byte Inv-loop μ-loop
-shared-slice-read-put-byte c = search (needs, text-cases)
-
-put-byte-requires : tie.Need-put-byte-requires Inv-loop μ-loop
-put-byte-requires c κs = search (needs, text-cases)
-
-add-i : tie.Need-add-i Inv-loop μ-loop
-add-i c = search (needs, text-cases)
-
-loop-less : tie.Need-loop-less Inv-loop μ-loop
-loop-less c = search (needs, text-cases)
-
-loop-again : tie.Need-loop-again Inv-loop μ-loop
-loop-again c = search (needs, text-cases)
-
-same-length : tie.Need-same-length Inv-loop μ-loop
-same-length c = search (needs, text-cases)
-
-returns : tie.Need-returns Inv-loop μ-loop
-returns c = search (needs, text-cases)
-
 pub put-text-spec : {M : Type 1} → statement M
 put-text-spec =
     tie.close
     (tie.spec
     Inv-loop
     μ-loop
-    loop-holds
-    shared-slice-read-put-byte
-    put-byte-requires
-    add-i
-    loop-less
-    loop-again
-    same-length
-    returns)
+    (λ c. search (needs, text-cases))
+    (λ c. search (needs, text-cases))
+    (λ c κs. search (needs, text-cases))
+    (λ c. search (needs, text-cases))
+    (λ c. search (needs, text-cases))
+    (λ c. search (needs, text-cases))
+    (λ c. search (needs, text-cases))
+    (λ c. search (needs, text-cases)))

@@ -4,17 +4,11 @@ use borrow.Author.Needs.{needs}
 use Rattle.trial.proofs.from_one.Statement.{statement}
 use Rattle.trial.proofs.from_one.Tie as tie
 
-rem-result : tie.Need-rem-result
-rem-result c = search needs
-
 add-result : tie.Need-add-result
 add-result c = omega (arith, mod-lt (c .args .draw) (c .pre))
 
 cast-result : tie.Need-cast-result
 cast-result c = omega (arith, mod-lt (c .args .draw) (c .pre))
 
-returns : tie.Need-returns
-returns c = search needs
-
 pub from-one-spec : {M : Type 1} → statement M
-from-one-spec = tie.close (tie.spec rem-result add-result cast-result returns)
+from-one-spec = tie.close (tie.spec (λ c. search needs) add-result cast-result (λ c. search needs))

@@ -4,9 +4,6 @@ use Rattle.turn.specs.Turn.{pastShift}
 use Rattle.turn.proofs.past_shift.Statement.{statement}
 use Rattle.turn.proofs.past_shift.Tie as tie
 
-add-result : tie.Need-add-result
-add-result c = search needs
-
 returns : tie.Need-returns
 unfolding pastShift
 returns c = simp (eq-eqb _ _ (c .if1 .taken))
@@ -16,4 +13,4 @@ unfolding pastShift
 returns-2 c = simp (ne-eqb _ _ (c .if1 .left))
 
 pub past-shift-spec : {M : Type 1} → statement M
-past-shift-spec = tie.close (tie.spec add-result returns returns-2)
+past-shift-spec = tie.close (tie.spec (λ c. search needs) returns returns-2)

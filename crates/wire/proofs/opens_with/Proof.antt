@@ -4,24 +4,6 @@ use Rattle.wire.specs.Mark.{opensWith}
 use Rattle.wire.proofs.opens_with.Statement.{statement}
 use Rattle.wire.proofs.opens_with.Tie as tie
 
-shared-slice-read-if1 : tie.Need-shared-slice-read-if1
-shared-slice-read-if1 c = search needs
-
-array-read-if1 : tie.Need-array-read-if1
-array-read-if1 c = search needs
-
-shared-slice-read-if2 : tie.Need-shared-slice-read-if2
-shared-slice-read-if2 c = search needs
-
-array-read-if2 : tie.Need-array-read-if2
-array-read-if2 c = search needs
-
-shared-slice-read-result : tie.Need-shared-slice-read-result
-shared-slice-read-result c = search needs
-
-array-read-result : tie.Need-array-read-result
-array-read-result c = search needs
-
 returns : tie.Need-returns
 unfolding opensWith
 returns c = rw (eq-eqb _ _ (c .before .before .before .if1 .taken), eq-eqb _ _ (c .before .if2 .taken))
@@ -38,12 +20,12 @@ pub opens-with-spec : {M : Type 1} → statement M
 opens-with-spec =
     tie.close
     (tie.spec
-    shared-slice-read-if1
-    array-read-if1
-    shared-slice-read-if2
-    array-read-if2
-    shared-slice-read-result
-    array-read-result
+    (λ c. search needs)
+    (λ c. search needs)
+    (λ c. search needs)
+    (λ c. search needs)
+    (λ c. search needs)
+    (λ c. search needs)
     returns
     returns-2
     returns-3)

@@ -4,39 +4,18 @@ use borrow.Author.Needs.{needs}
 use Rattle.wire.proofs.put_mark.Statement.{statement}
 use Rattle.wire.proofs.put_mark.Tie as tie
 
-array-read-out : tie.Need-array-read-out
-array-read-out c = search needs
-
-slice-write-out : tie.Need-slice-write-out
-slice-write-out c = search needs
-
-array-read-out-2 : tie.Need-array-read-out-2
-array-read-out-2 c = search needs
-
 slice-write-out-2 : tie.Need-slice-write-out-2
 slice-write-out-2 c = simp length-set (omega arith)
-
-array-read-out-3 : tie.Need-array-read-out-3
-array-read-out-3 c = search needs
-
-slice-write-out-3 : tie.Need-slice-write-out-3
-slice-write-out-3 c = search needs
-
-same-length : tie.Need-same-length
-same-length c = search needs
-
-returns : tie.Need-returns
-returns c = search needs
 
 pub put-mark-spec : {M : Type 1} → statement M
 put-mark-spec =
     tie.close
     (tie.spec
-    array-read-out
-    slice-write-out
-    array-read-out-2
+    (λ c. search needs)
+    (λ c. search needs)
+    (λ c. search needs)
     slice-write-out-2
-    array-read-out-3
-    slice-write-out-3
-    same-length
-    returns)
+    (λ c. search needs)
+    (λ c. search needs)
+    (λ c. search needs)
+    (λ c. search needs))

@@ -5,29 +5,11 @@ use borrow.Author.Needs.{needs}
 use Rattle.archive.proofs.keeping.keep.Statement.{statement}
 use Rattle.archive.proofs.keeping.keep.Tie as tie
 
-slice-aggregate-read-table : tie.Need-slice-aggregate-read-table
-slice-aggregate-read-table c = search needs
-
-read-table-requires : tie.Need-read-table-requires
-read-table-requires c κs = search needs
-
-refused-requires : tie.Need-refused-requires
-refused-requires c κs = search needs
-
 returns : tie.Need-returns
 returns c = keep-fault (c .before .before .before .before .before .before .before .before .args .sheet .now) (c .before .before .before .before .before .before .before .before .args .kept .now) (c .before .before .before .before .read-table .ensures .0) (search needs) (c .refused .ensures)
 
-refused-requires-2 : tie.Need-refused-requires-2
-refused-requires-2 c κs = search needs
-
 returns-2 : tie.Need-returns-2
 returns-2 c = keep-small (c .before .before .before .before .before .before .before .before .before .args .sheet .now) (c .before .before .before .before .before .before .before .before .before .args .kept .now) (c .before .before .before .before .before .read-table .ensures .0) (search needs) (search needs) (c .refused2 .ensures)
-
-cast-n : tie.Need-cast-n
-cast-n c = search needs
-
-mul-end : tie.Need-mul-end
-mul-end c = search needs
 
 array-share-prefix-table : tie.Need-array-share-prefix-table
 array-share-prefix-table c = whole-room _ (c .before .before .before .before .before .read-table .ensures .0) (search needs) _ (c .before .before .before .before .before .read-table .ensures .1)
@@ -35,17 +17,8 @@ array-share-prefix-table c = whole-room _ (c .before .before .before .before .be
 slice-aggregate-keep-turns : tie.Need-slice-aggregate-keep-turns
 slice-aggregate-keep-turns c = sym (whole-rows _ (c .before .before .before .before .before .before .read-table .ensures .0) (search needs) _ (c .before .before .before .before .before .before .read-table .ensures .1))
 
-slice-aggregate-keep-turns-2 : tie.Need-slice-aggregate-keep-turns-2
-slice-aggregate-keep-turns-2 c = search needs
-
 keep-turns-requires : tie.Need-keep-turns-requires
 keep-turns-requires c κs = ((whole-few _ (c .before .before .before .before .before .before .before .before .read-table .ensures .0) (search needs), keep-header (c .before .before .before .before .before .before .before .before .before .before .before .before .args .sheet .now) (c .before .before .before .before .before .before .before .before .before .before .before .before .args .kept .now) (c .before .before .before .before .before .before .before .before .read-table .ensures .0) (search needs), search (needs, whole-rows _ (c .before .before .before .before .before .before .before .before .read-table .ensures .0) (search needs) _ (c .before .before .before .before .before .before .before .before .read-table .ensures .1))), (keep-whole (c .before .before .before .before .before .before .before .before .before .before .before .before .args .sheet .now) (c .before .before .before .before .before .before .before .before .before .before .before .before .args .kept .now) (c .before .before .before .before .before .before .before .before .read-table .ensures .0) (search needs), search needs))
-
-cast-t20 : tie.Need-cast-t20
-cast-t20 c = search (needs, keep-bytes (c .before .before .before .before .before .before .before .before .before .before .before .before .before .before .before .before .args .sheet .now) (c .before .before .before .before .before .before .before .before .before .before .before .before .before .before .before .before .args .kept .now) (c .before .before .before .before .before .before .before .before .before .before .before .before .read-table .ensures .0) (search needs))
-
-same-length : tie.Need-same-length
-same-length c = search needs
 
 returns-3 : tie.Need-returns-3
 returns-3 c = keep-done (c .before .before .before .before .before .before .before .before .before .before .before .before .before .before .before .before .args .sheet .now) (c .before .before .before .before .before .before .before .before .before .before .before .before .before .before .before .before .args .kept .now) (c .before .before .before .before .before .before .before .before .before .before .before .before .read-table .ensures .0) (search needs) _ (c .before .before .before .before .before .before .before .before .before .before .before .before .read-table .ensures .1) (search needs) (c .before .before .before .keep-turns .ensures)
@@ -54,18 +27,18 @@ pub keep-spec : {M : Type 1} → statement M
 keep-spec =
     tie.close
     (tie.spec
-    slice-aggregate-read-table
-    read-table-requires
-    refused-requires
+    (λ c. search needs)
+    (λ c κs. search needs)
+    (λ c κs. search needs)
     returns
-    refused-requires-2
+    (λ c κs. search needs)
     returns-2
-    cast-n
-    mul-end
+    (λ c. search needs)
+    (λ c. search needs)
     array-share-prefix-table
     slice-aggregate-keep-turns
-    slice-aggregate-keep-turns-2
+    (λ c. search needs)
     keep-turns-requires
-    cast-t20
-    same-length
+    (λ c. search (needs, keep-bytes (c .before .before .before .before .before .before .before .before .before .before .before .before .before .before .before .before .args .sheet .now) (c .before .before .before .before .before .before .before .before .before .before .before .before .before .before .before .before .args .kept .now) (c .before .before .before .before .before .before .before .before .before .before .before .before .read-table .ensures .0) (search needs)))
+    (λ c. search needs)
     returns-3)

@@ -3,26 +3,11 @@ use borrow.Author.Needs.{needs}
 use Rattle.archive.proofs.keeping.keep_turns.Statement.{statement}
 use Rattle.archive.proofs.keeping.keep_turns.Tie as tie
 
-sub-some : tie.Need-sub-some
-sub-some c = search needs
-
-part-some-start : tie.Need-part-some-start
-part-some-start c = search needs
-
-part-some-end : tie.Need-part-some-end
-part-some-end c = search needs
-
 fill-maps-requires : tie.Need-fill-maps-requires
 fill-maps-requires c κs = part-room _ _ _ (c .before .before .before .before .before .before .pre .0 .0) (c .before .before .before .before .before .before .pre .1 .0)
 
 put-kept-requires : tie.Need-put-kept-requires
 put-kept-requires c κs = (c .before .before .before .before .before .before .before .before .before .before .before .pre .0 .1, kept-fits _ _ _ (c .before .before .before .before .before .before .before .before .before .before .before .pre .0 .0) (c .before .before .before .before .fill-maps .ensures) (c .before .before .before .before .before .before .before .before .before .before .before .pre .1 .0) (c .before .before .before .before .before .before .before .before .before .before .before .pre .1 .1), kept-rows _ _ _ (c .before .before .before .before .before .before .before .before .before .before .before .pre .0 .0) (c .before .before .before .before .fill-maps .ensures) (c .before .before .before .before .before .before .before .before .before .before .before .pre .0 .2))
-
-same-length : tie.Need-same-length
-same-length c = search needs
-
-same-length-2 : tie.Need-same-length-2
-same-length-2 c = search needs
 
 returns : tie.Need-returns
 returns c =
@@ -34,11 +19,11 @@ pub keep-turns-spec : {M : Type 1} → statement M
 keep-turns-spec =
     tie.close
     (tie.spec
-    sub-some
-    part-some-start
-    part-some-end
+    (λ c. search needs)
+    (λ c. search needs)
+    (λ c. search needs)
     fill-maps-requires
     put-kept-requires
-    same-length
-    same-length-2
+    (λ c. search needs)
+    (λ c. search needs)
     returns)

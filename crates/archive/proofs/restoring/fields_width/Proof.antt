@@ -14,41 +14,17 @@ Inv-loop maps sum₀ i₀ sum i = (i ≤ length maps) × (sum ≤ recordBytes * 
 abbrev μ-loop : tie.MeasureT-loop
 μ-loop maps sum₀ i₀ sum i = length maps - i
 
-loop-holds : tie.Need-loop-holds Inv-loop μ-loop
-loop-holds c = search (needs, width-cases)
-
-shared-slice-read-width : tie.Need-shared-slice-read-width Inv-loop μ-loop
-shared-slice-read-width c = search (needs, width-cases)
-
-width-requires : tie.Need-width-requires Inv-loop μ-loop
-width-requires c κs = search (needs, width-cases)
-
-add-sum : tie.Need-add-sum Inv-loop μ-loop
-add-sum c = search (needs, width-cases)
-
-add-i : tie.Need-add-i Inv-loop μ-loop
-add-i c = search (needs, width-cases)
-
-loop-less : tie.Need-loop-less Inv-loop μ-loop
-loop-less c = search (needs, width-cases)
-
-loop-again : tie.Need-loop-again Inv-loop μ-loop
-loop-again c = search (needs, width-cases)
-
-returns : tie.Need-returns Inv-loop μ-loop
-returns c = (search (needs, width-cases), search needs)
-
 pub fields-width-spec : {M : Type 1} → statement M
 fields-width-spec =
     tie.close
     (tie.spec
     Inv-loop
     μ-loop
-    loop-holds
-    shared-slice-read-width
-    width-requires
-    add-sum
-    add-i
-    loop-less
-    loop-again
-    returns)
+    (λ c. search (needs, width-cases))
+    (λ c. search (needs, width-cases))
+    (λ c κs. search (needs, width-cases))
+    (λ c. search (needs, width-cases))
+    (λ c. search (needs, width-cases))
+    (λ c. search (needs, width-cases))
+    (λ c. search (needs, width-cases))
+    (λ c. (search (needs, width-cases), search needs)))

@@ -3,26 +3,11 @@ use borrow.Author.Needs.{needs}
 use Rattle.archive.proofs.restoring.form_fault.Statement.{statement}
 use Rattle.archive.proofs.restoring.form_fault.Tie as tie
 
-add-from : tie.Need-add-from
-add-from c = search needs
-
 returns : tie.Need-returns
 returns c = form-few (c .before .before .args .k .now) (c .before .before .args .n) (c .before .before .pre .1) (search needs)
 
-maps-of-requires : tie.Need-maps-of-requires
-maps-of-requires c κs = search needs
-
-map-fault-requires : tie.Need-map-fault-requires
-map-fault-requires c κs = search needs
-
 returns-2 : tie.Need-returns-2
 returns-2 c = form-map (c .before .before .before .before .before .args .k .now) (c .before .before .before .before .before .args .n) (c .before .before .before .before .before .pre .1) (c .before .before .before .before .before .args .rule) (c .before .before .before .before .before .pre .0) (search needs) (c .before .before .maps-of .ensures .0) (c .before .map-fault .ensures) (search needs)
-
-fields-width-requires : tie.Need-fields-width-requires
-fields-width-requires c κs = search needs
-
-add-end : tie.Need-add-end
-add-end c = search needs
 
 returns-3 : tie.Need-returns-3
 returns-3 c = form-short (c .before .before .before .before .before .before .before .args .k .now) (c .before .before .before .before .before .before .before .args .n) (c .before .before .before .before .before .before .before .pre .1) (c .before .before .before .before .before .before .before .args .rule) (c .before .before .before .before .before .before .before .pre .0) (search needs) (c .before .before .before .before .maps-of .ensures .0) (c .before .before .before .map-fault .ensures) (search needs) (c .before .fields-width .ensures .0) (search needs)
@@ -37,13 +22,13 @@ pub form-fault-spec : {M : Type 1} → statement M
 form-fault-spec =
     tie.close
     (tie.spec
-    add-from
+    (λ c. search needs)
     returns
-    maps-of-requires
-    map-fault-requires
+    (λ c κs. search needs)
+    (λ c κs. search needs)
     returns-2
-    fields-width-requires
-    add-end
+    (λ c κs. search needs)
+    (λ c. search needs)
     returns-3
     returns-4
     returns-5)

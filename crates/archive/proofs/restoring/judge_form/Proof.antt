@@ -3,26 +3,14 @@ use borrow.Author.Needs.{needs}
 use Rattle.archive.proofs.restoring.judge_form.Statement.{statement}
 use Rattle.archive.proofs.restoring.judge_form.Tie as tie
 
-form-fault-requires : tie.Need-form-fault-requires
-form-fault-requires c κs = search needs
-
 returns : tie.Need-returns
 returns c = (judge-fault (c .before .before .before .before .before .args .k .now) (c .before .form-fault .ensures) _ (search needs), λ z. judge-stops (c .before .before .before .before .before .args .k .now) (c .before .form-fault .ensures) (search needs) z)
-
-add-from : tie.Need-add-from
-add-from c = search needs
 
 maps-of-requires : tie.Need-maps-of-requires
 maps-of-requires c κs = (c .before .before .before .before .before .pre .1, judge-whole (c .before .before .before .before .before .args .k .now) (c .before .form-fault .ensures) (search needs))
 
 read-columns-requires : tie.Need-read-columns-requires
 read-columns-requires c κs = (judge-room (c .before .before .before .before .before .before .before .args .k .now) (c .before .before .before .form-fault .ensures) (search needs) (c .before .before .before .before .before .before .before .pre .1) (c .before .maps-of .ensures .0), search needs)
-
-judge-turns-requires : tie.Need-judge-turns-requires
-judge-turns-requires c κs = (search needs, kind-numbered (c .before .before .before .before .before .before .before .before .before .before .before .before .pre .0))
-
-same-length : tie.Need-same-length
-same-length c = search needs
 
 returns-2 : tie.Need-returns-2
 returns-2 c =
@@ -35,11 +23,11 @@ pub judge-form-spec : {M : Type 1} → statement M
 judge-form-spec =
     tie.close
     (tie.spec
-    form-fault-requires
+    (λ c κs. search needs)
     returns
-    add-from
+    (λ c. search needs)
     maps-of-requires
     read-columns-requires
-    judge-turns-requires
-    same-length
+    (λ c κs. (search needs, kind-numbered (c .before .before .before .before .before .before .before .before .before .before .before .before .pre .0)))
+    (λ c. search needs)
     returns-2)

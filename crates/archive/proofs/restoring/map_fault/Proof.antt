@@ -15,41 +15,17 @@ Inv-loop rule maps first₀ i₀ first i = (i ≤ length maps) × (firstOf (maps
 abbrev μ-loop : tie.MeasureT-loop
 μ-loop rule maps first₀ i₀ first i = length maps - i
 
-loop-holds : tie.Need-loop-holds Inv-loop μ-loop
-loop-holds c = search (needs, map-fault-cases)
-
-shared-slice-read-bad-map-for : tie.Need-shared-slice-read-bad-map-for Inv-loop μ-loop
-shared-slice-read-bad-map-for c = search (needs, map-fault-cases)
-
-bad-map-for-requires : tie.Need-bad-map-for-requires Inv-loop μ-loop
-bad-map-for-requires c κs = search (needs, map-fault-cases)
-
-returns : tie.Need-returns Inv-loop μ-loop
-returns c = search (needs, map-fault-cases)
-
-add-i : tie.Need-add-i Inv-loop μ-loop
-add-i c = search (needs, map-fault-cases)
-
-loop-less : tie.Need-loop-less Inv-loop μ-loop
-loop-less c = search (needs, map-fault-cases)
-
-loop-again : tie.Need-loop-again Inv-loop μ-loop
-loop-again c = search (needs, map-fault-cases)
-
-returns-2 : tie.Need-returns-2 Inv-loop μ-loop
-returns-2 c = search (needs, map-fault-cases)
-
 pub map-fault-spec : {M : Type 1} → statement M
 map-fault-spec =
     tie.close
     (tie.spec
     Inv-loop
     μ-loop
-    loop-holds
-    shared-slice-read-bad-map-for
-    bad-map-for-requires
-    returns
-    add-i
-    loop-less
-    loop-again
-    returns-2)
+    (λ c. search (needs, map-fault-cases))
+    (λ c. search (needs, map-fault-cases))
+    (λ c κs. search (needs, map-fault-cases))
+    (λ c. search (needs, map-fault-cases))
+    (λ c. search (needs, map-fault-cases))
+    (λ c. search (needs, map-fault-cases))
+    (λ c. search (needs, map-fault-cases))
+    (λ c. search (needs, map-fault-cases)))

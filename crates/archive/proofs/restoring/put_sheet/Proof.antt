@@ -3,22 +3,10 @@ use borrow.Author.Needs.{needs}
 use Rattle.archive.proofs.restoring.put_sheet.Statement.{statement}
 use Rattle.archive.proofs.restoring.put_sheet.Tie as tie
 
-put-front-requires : tie.Need-put-front-requires
-put-front-requires c κs = search needs
-
-maps-of-requires : tie.Need-maps-of-requires
-maps-of-requires c κs = search needs
-
-put-records-requires : tie.Need-put-records-requires
-put-records-requires c κs = (search (needs, sheet-size (c .before .before .before .before .before .before .before .before .before .args .k .now) _ (c .before .maps-of .ensures .0) (c .before .maps-of .ensures .1) (c .before .before .before .before .before .before .before .before .before .pre .0 .0)), search needs)
-
-same-length : tie.Need-same-length
-same-length c = search needs
-
 returns : tie.Need-returns
 returns c = sheet-put (c .before .before .before .before .before .before .before .before .before .before .before .before .args .out .now) (c .before .before .before .before .before .before .before .before .before .before .before .before .args .k .now) _ (c .before .before .before .before .before .before .before .before .before .before .before .before .args .table .now) (c .before .before .before .before .before .before .before .before .before .before .before .before .args .n) (c .before .before .before .before .before .before .before .put-front .ensures) (c .before .before .before .before .maps-of .ensures .0) (c .before .before .before .before .maps-of .ensures .1) (c .before .before .put-records .ensures)
 
 pub put-sheet-spec : {M : Type 1} → statement M
 put-sheet-spec =
     tie.close
-    (tie.spec put-front-requires maps-of-requires put-records-requires same-length returns)
+    (tie.spec (λ c κs. search needs) (λ c κs. search needs) (λ c κs. (search (needs, sheet-size (c .before .before .before .before .before .before .before .before .before .args .k .now) _ (c .before .maps-of .ensures .0) (c .before .maps-of .ensures .1) (c .before .before .before .before .before .before .before .before .before .pre .0 .0)), search needs)) (λ c. search needs) returns)

@@ -13,41 +13,17 @@ Inv-loop numbers₀ t₀ numbers t = (t ≤ length numbers₀) × (length number
 abbrev μ-loop : tie.MeasureT-loop
 μ-loop numbers₀ t₀ numbers t = length numbers₀ - t
 
-loop-holds : tie.Need-loop-holds Inv-loop μ-loop
-loop-holds c = search (needs, unnumbered-cases)
-
-mul-numbers : tie.Need-mul-numbers Inv-loop μ-loop
-mul-numbers c = search (needs, unnumbered-cases)
-
-slice-write-numbers : tie.Need-slice-write-numbers Inv-loop μ-loop
-slice-write-numbers c = search (needs, unnumbered-cases)
-
-add-t : tie.Need-add-t Inv-loop μ-loop
-add-t c = search (needs, unnumbered-cases)
-
-loop-less : tie.Need-loop-less Inv-loop μ-loop
-loop-less c = search (needs, unnumbered-cases)
-
-loop-again : tie.Need-loop-again Inv-loop μ-loop
-loop-again c = search (needs, unnumbered-cases)
-
-same-length : tie.Need-same-length Inv-loop μ-loop
-same-length c = search (needs, unnumbered-cases)
-
-returns : tie.Need-returns Inv-loop μ-loop
-returns c = search (needs, unnumbered-cases)
-
 pub clear-spec : {M : Type 1} → statement M
 clear-spec =
     tie.close
     (tie.spec
     Inv-loop
     μ-loop
-    loop-holds
-    mul-numbers
-    slice-write-numbers
-    add-t
-    loop-less
-    loop-again
-    same-length
-    returns)
+    (λ c. search (needs, unnumbered-cases))
+    (λ c. search (needs, unnumbered-cases))
+    (λ c. search (needs, unnumbered-cases))
+    (λ c. search (needs, unnumbered-cases))
+    (λ c. search (needs, unnumbered-cases))
+    (λ c. search (needs, unnumbered-cases))
+    (λ c. search (needs, unnumbered-cases))
+    (λ c. search (needs, unnumbered-cases)))

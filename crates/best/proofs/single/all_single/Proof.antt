@@ -16,37 +16,16 @@ Inv-loop p cols flags₀ all₀ x₀ flags all x = (x ≤ p .count) × Flagged (
 abbrev μ-loop : tie.MeasureT-loop
 μ-loop p cols flags₀ all₀ x₀ flags all x = p .count - x
 
-loop-holds : tie.Need-loop-holds Inv-loop μ-loop
-loop-holds c = (search needs, search needs, search single-cases)
-
-row-at-requires : tie.Need-row-at-requires Inv-loop μ-loop
-row-at-requires c κs = search needs
-
-is-first-requires : tie.Need-is-first-requires Inv-loop μ-loop
-is-first-requires c κs = search (needs, flags-cases)
-
-add-x : tie.Need-add-x Inv-loop μ-loop
-add-x c = search needs
-
-loop-less : tie.Need-loop-less Inv-loop μ-loop
-loop-less c = search needs
-
-loop-again : tie.Need-loop-again Inv-loop μ-loop
-loop-again c = (search needs, search (needs, flags-cases), search single-cases)
-
-returns : tie.Need-returns Inv-loop μ-loop
-returns c = search single-cases
-
 pub all-single-spec : {M : Type 1} → statement M
 all-single-spec =
     tie.close
     (tie.spec
     Inv-loop
     μ-loop
-    loop-holds
-    row-at-requires
-    is-first-requires
-    add-x
-    loop-less
-    loop-again
-    returns)
+    (λ c. (search needs, search needs, search single-cases))
+    (λ c κs. search needs)
+    (λ c κs. search (needs, flags-cases))
+    (λ c. search needs)
+    (λ c. search needs)
+    (λ c. (search needs, search (needs, flags-cases), search single-cases))
+    (λ c. search single-cases))

@@ -3,20 +3,5 @@ use borrow.Author.Needs.{needs}
 use Rattle.corpus.proofs.entries.restore.Statement.{statement}
 use Rattle.corpus.proofs.entries.restore.Tie as tie
 
-restore-requires : tie.Need-restore-requires
-restore-requires c κs = search needs
-
-cast-t6 : tie.Need-cast-t6
-cast-t6 c = search needs
-
-byte-sum-requires : tie.Need-byte-sum-requires
-byte-sum-requires c κs = search needs
-
-same-length : tie.Need-same-length
-same-length c = search needs
-
-returns : tie.Need-returns
-returns c = search (needs, line-cases)
-
 pub restore-spec : {M : Type 1} → statement M
-restore-spec = tie.close (tie.spec restore-requires cast-t6 byte-sum-requires same-length returns)
+restore-spec = tie.close (tie.spec (λ c κs. search needs) (λ c. search needs) (λ c κs. search needs) (λ c. search needs) (λ c. search (needs, line-cases)))

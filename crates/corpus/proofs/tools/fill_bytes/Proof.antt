@@ -14,37 +14,16 @@ Inv-loop bytes₀ i₀ bytes i = (i ≤ length bytes₀) × (length bytes ≡ le
 abbrev μ-loop : tie.MeasureT-loop
 μ-loop bytes₀ i₀ bytes i = length bytes₀ - i
 
-loop-holds : tie.Need-loop-holds Inv-loop μ-loop
-loop-holds c = search (needs, fill-cases)
-
-slice-write-bytes : tie.Need-slice-write-bytes Inv-loop μ-loop
-slice-write-bytes c = search (needs, fill-cases)
-
-add-i : tie.Need-add-i Inv-loop μ-loop
-add-i c = search (needs, fill-cases)
-
-loop-less : tie.Need-loop-less Inv-loop μ-loop
-loop-less c = search (needs, fill-cases)
-
-loop-again : tie.Need-loop-again Inv-loop μ-loop
-loop-again c = search (needs, fill-cases)
-
-same-length : tie.Need-same-length Inv-loop μ-loop
-same-length c = search (needs, fill-cases)
-
-returns : tie.Need-returns Inv-loop μ-loop
-returns c = search (needs, fill-cases)
-
 pub fill-bytes-spec : {M : Type 1} → statement M
 fill-bytes-spec =
     tie.close
     (tie.spec
     Inv-loop
     μ-loop
-    loop-holds
-    slice-write-bytes
-    add-i
-    loop-less
-    loop-again
-    same-length
-    returns)
+    (λ c. search (needs, fill-cases))
+    (λ c. search (needs, fill-cases))
+    (λ c. search (needs, fill-cases))
+    (λ c. search (needs, fill-cases))
+    (λ c. search (needs, fill-cases))
+    (λ c. search (needs, fill-cases))
+    (λ c. search (needs, fill-cases)))

@@ -3,20 +3,5 @@ use borrow.Author.Needs.{needs}
 use Rattle.corpus.proofs.tools.quad_or.Statement.{statement}
 use Rattle.corpus.proofs.tools.quad_or.Tie as tie
 
-returns : tie.Need-returns
-returns c = search (needs, number-cases)
-
-sub-if2 : tie.Need-sub-if2
-sub-if2 c = search needs
-
-returns-2 : tie.Need-returns-2
-returns-2 c = search (needs, number-cases)
-
-quad-at-requires : tie.Need-quad-at-requires
-quad-at-requires c κs = search needs
-
-returns-3 : tie.Need-returns-3
-returns-3 c = search (needs, number-cases)
-
 pub quad-or-spec : {M : Type 1} → statement M
-quad-or-spec = tie.close (tie.spec returns sub-if2 returns-2 quad-at-requires returns-3)
+quad-or-spec = tie.close (tie.spec (λ c. search (needs, number-cases)) (λ c. search needs) (λ c. search (needs, number-cases)) (λ c κs. search needs) (λ c. search (needs, number-cases)))

@@ -14,49 +14,19 @@ Inv-loop bytes table₀ i₀ table i = (i ≤ length table₀) × (length table 
 abbrev μ-loop : tie.MeasureT-loop
 μ-loop bytes table₀ i₀ table i = length table₀ - i
 
-loop-holds : tie.Need-loop-holds Inv-loop μ-loop
-loop-holds c = search (needs, fill-cases)
-
-mul-word-or : tie.Need-mul-word-or Inv-loop μ-loop
-mul-word-or c = search (needs, fill-cases)
-
-word-or-requires : tie.Need-word-or-requires Inv-loop μ-loop
-word-or-requires c κs = search (needs, fill-cases)
-
-mul-table : tie.Need-mul-table Inv-loop μ-loop
-mul-table c = search (needs, fill-cases)
-
-slice-write-table : tie.Need-slice-write-table Inv-loop μ-loop
-slice-write-table c = search (needs, fill-cases)
-
-add-i : tie.Need-add-i Inv-loop μ-loop
-add-i c = search (needs, fill-cases)
-
-loop-less : tie.Need-loop-less Inv-loop μ-loop
-loop-less c = search (needs, fill-cases)
-
-loop-again : tie.Need-loop-again Inv-loop μ-loop
-loop-again c = search (needs, fill-cases)
-
-same-length : tie.Need-same-length Inv-loop μ-loop
-same-length c = search (needs, fill-cases)
-
-returns : tie.Need-returns Inv-loop μ-loop
-returns c = search (needs, fill-cases)
-
 pub unpack-spec : {M : Type 1} → statement M
 unpack-spec =
     tie.close
     (tie.spec
     Inv-loop
     μ-loop
-    loop-holds
-    mul-word-or
-    word-or-requires
-    mul-table
-    slice-write-table
-    add-i
-    loop-less
-    loop-again
-    same-length
-    returns)
+    (λ c. search (needs, fill-cases))
+    (λ c. search (needs, fill-cases))
+    (λ c κs. search (needs, fill-cases))
+    (λ c. search (needs, fill-cases))
+    (λ c. search (needs, fill-cases))
+    (λ c. search (needs, fill-cases))
+    (λ c. search (needs, fill-cases))
+    (λ c. search (needs, fill-cases))
+    (λ c. search (needs, fill-cases))
+    (λ c. search (needs, fill-cases)))

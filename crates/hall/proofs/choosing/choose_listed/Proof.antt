@@ -22,35 +22,8 @@ Inv-loop a cols list map₀ used₀ left₀ map used left =
 abbrev μ-loop : tie.MeasureT-loop
 μ-loop a cols list map₀ used₀ left₀ map used left = left
 
-loop-holds : tie.Need-loop-holds Inv-loop μ-loop
-loop-holds c = (search needs, search needs, search list-cases, search list-cases)
-
-sub-left : tie.Need-sub-left Inv-loop μ-loop
-sub-left c = search needs
-
-mul-j : tie.Need-mul-j Inv-loop μ-loop
-mul-j c = search needs
-
-shared-slice-read-j : tie.Need-shared-slice-read-j Inv-loop μ-loop
-shared-slice-read-j c = search needs
-
 cast-j : tie.Need-cast-j Inv-loop μ-loop
 cast-j c = omega (arith, c .shared-slice-known2 .given (c .before .before .loop .left - 1))
-
-add-if-allowed-requires : tie.Need-add-if-allowed-requires Inv-loop μ-loop
-add-if-allowed-requires c κs = search (needs, turn-inside)
-
-loop-less : tie.Need-loop-less Inv-loop μ-loop
-loop-less c = search needs
-
-loop-again : tie.Need-loop-again Inv-loop μ-loop
-loop-again c = (search needs, search needs, search needs, search list-cases)
-
-same-length : tie.Need-same-length Inv-loop μ-loop
-same-length c = search needs
-
-returns : tie.Need-returns Inv-loop μ-loop
-returns c = (search list-cases, search needs)
 
 pub choose-listed-spec : {M : Type 1} → statement M
 choose-listed-spec =
@@ -58,13 +31,13 @@ choose-listed-spec =
     (tie.spec
     Inv-loop
     μ-loop
-    loop-holds
-    sub-left
-    mul-j
-    shared-slice-read-j
+    (λ c. (search needs, search needs, search list-cases, search list-cases))
+    (λ c. search needs)
+    (λ c. search needs)
+    (λ c. search needs)
     cast-j
-    add-if-allowed-requires
-    loop-less
-    loop-again
-    same-length
-    returns)
+    (λ c κs. search (needs, turn-inside))
+    (λ c. search needs)
+    (λ c. (search needs, search needs, search needs, search list-cases))
+    (λ c. search needs)
+    (λ c. (search list-cases, search needs)))

@@ -12,45 +12,18 @@ Inv-loop vehicles most last sum₀ v₀ sum v = SummedBests most vehicles v sum 
 abbrev μ-loop : tie.MeasureT-loop
 μ-loop vehicles most last sum₀ v₀ sum v = vehicles - v
 
-loop-holds : tie.Need-loop-holds Inv-loop μ-loop
-loop-holds c = search (needs, sum-cases)
-
-add-v : tie.Need-add-v Inv-loop μ-loop
-add-v c = search (needs, sum-cases)
-
-mul-wide : tie.Need-mul-wide Inv-loop μ-loop
-mul-wide c = search (needs, sum-cases)
-
-element-copy-out-wide : tie.Need-element-copy-out-wide Inv-loop μ-loop
-element-copy-out-wide c = search (needs, sum-cases)
-
-wide-requires : tie.Need-wide-requires Inv-loop μ-loop
-wide-requires c κs = search (needs, sum-cases)
-
-add-sum : tie.Need-add-sum Inv-loop μ-loop
-add-sum c = search (needs, sum-cases)
-
-loop-less : tie.Need-loop-less Inv-loop μ-loop
-loop-less c = search (needs, sum-cases)
-
-loop-again : tie.Need-loop-again Inv-loop μ-loop
-loop-again c = search (needs, sum-cases)
-
-returns : tie.Need-returns Inv-loop μ-loop
-returns c = search (needs, sum-cases)
-
 pub bests-sum-spec : {M : Type 1} → statement M
 bests-sum-spec =
     tie.close
     (tie.spec
     Inv-loop
     μ-loop
-    loop-holds
-    add-v
-    mul-wide
-    element-copy-out-wide
-    wide-requires
-    add-sum
-    loop-less
-    loop-again
-    returns)
+    (λ c. search (needs, sum-cases))
+    (λ c. search (needs, sum-cases))
+    (λ c. search (needs, sum-cases))
+    (λ c. search (needs, sum-cases))
+    (λ c κs. search (needs, sum-cases))
+    (λ c. search (needs, sum-cases))
+    (λ c. search (needs, sum-cases))
+    (λ c. search (needs, sum-cases))
+    (λ c. search (needs, sum-cases)))

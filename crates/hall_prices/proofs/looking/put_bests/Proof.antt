@@ -12,25 +12,7 @@ Inv-loop h cols counts most₀ taken₀ t₀ most taken t = Bests (hallFor h col
 abbrev μ-loop : tie.MeasureT-loop
 μ-loop h cols counts most₀ taken₀ t₀ most taken t = h .size .count - t
 
-loop-holds : tie.Need-loop-holds Inv-loop μ-loop
-loop-holds c = search (needs, bests-cases)
-
-put-window-requires : tie.Need-put-window-requires Inv-loop μ-loop
-put-window-requires c κs = search (needs, bests-cases)
-
-add-t : tie.Need-add-t Inv-loop μ-loop
-add-t c = search (needs, bests-cases)
-
-loop-less : tie.Need-loop-less Inv-loop μ-loop
-loop-less c = search (needs, bests-cases)
-
-loop-again : tie.Need-loop-again Inv-loop μ-loop
-loop-again c = search (needs, bests-cases)
-
-returns : tie.Need-returns Inv-loop μ-loop
-returns c = search (needs, bests-cases)
-
 pub put-bests-spec : {M : Type 1} → statement M
 put-bests-spec =
     tie.close
-    (tie.spec Inv-loop μ-loop loop-holds put-window-requires add-t loop-less loop-again returns)
+    (tie.spec Inv-loop μ-loop (λ c. search (needs, bests-cases)) (λ c κs. search (needs, bests-cases)) (λ c. search (needs, bests-cases)) (λ c. search (needs, bests-cases)) (λ c. search (needs, bests-cases)) (λ c. search (needs, bests-cases)))

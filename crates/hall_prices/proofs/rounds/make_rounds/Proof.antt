@@ -20,21 +20,6 @@ Inv-loop t cols list₀ best₀ h ranks prices₀ change₀ limit₀ worth₀ ma
 abbrev μ-loop : tie.MeasureT-loop
 μ-loop t cols list₀ best₀ h ranks prices₀ change₀ limit₀ worth₀ made₀ list best prices change limit worth made = t .rounds - made
 
-array-borrow-prefix-places : tie.Need-array-borrow-prefix-places Inv-loop μ-loop
-array-borrow-prefix-places c = search (needs, start-cases)
-
-slice-aggregate-ranks : tie.Need-slice-aggregate-ranks Inv-loop μ-loop
-slice-aggregate-ranks c = search (needs, start-cases, rank-cases)
-
-put-ranks-requires : tie.Need-put-ranks-requires Inv-loop μ-loop
-put-ranks-requires c κs = search (needs, start-cases, rank-cases)
-
-first-change-requires : tie.Need-first-change-requires Inv-loop μ-loop
-first-change-requires c κs = search needs
-
-loop-holds : tie.Need-loop-holds Inv-loop μ-loop
-loop-holds c = (search start-cases, search needs, search needs, search needs)
-
 array-borrow-prefix-map : tie.Need-array-borrow-prefix-map Inv-loop μ-loop
 array-borrow-prefix-map c =
     let start = c .before .before .before .before .before .before .before .before .before .before in
@@ -71,18 +56,6 @@ keep-better-requires c κs =
     let head = seen .before .before .before .before in
     let start = head .before .before .before .before .before .before .before .before .before .before in
     ((start .pre .posed, head .loop .inv .3, seen .look-at .ensures .1 .0), head .loop .inv .0 .clean)
-
-is-over-requires : tie.Need-is-over-requires Inv-loop μ-loop
-is-over-requires c κs = search needs
-
-ended-requires : tie.Need-ended-requires Inv-loop μ-loop
-ended-requires c κs = search needs
-
-same-length : tie.Need-same-length Inv-loop μ-loop
-same-length c = search needs
-
-same-length-2 : tie.Need-same-length-2 Inv-loop μ-loop
-same-length-2 c = search needs
 
 returns : tie.Need-returns Inv-loop μ-loop
 returns c =
@@ -138,11 +111,11 @@ make-rounds-spec =
     (tie.spec
     Inv-loop
     μ-loop
-    array-borrow-prefix-places
-    slice-aggregate-ranks
-    put-ranks-requires
-    first-change-requires
-    loop-holds
+    (λ c. search (needs, start-cases))
+    (λ c. search (needs, start-cases, rank-cases))
+    (λ c κs. search (needs, start-cases, rank-cases))
+    (λ c κs. search needs)
+    (λ c. (search start-cases, search needs, search needs, search needs))
     array-borrow-prefix-map
     slice-aggregate-relaxed
     slice-aggregate-look-at
@@ -150,10 +123,10 @@ make-rounds-spec =
     slice-aggregate-keep-lower
     keep-lower-requires
     keep-better-requires
-    is-over-requires
-    ended-requires
-    same-length
-    same-length-2
+    (λ c κs. search needs)
+    (λ c κs. search needs)
+    (λ c. search needs)
+    (λ c. search needs)
     returns
     slice-aggregate-move-minutes
     move-minutes-requires

@@ -16,45 +16,18 @@ Inv-loop out₀ p cols map groomers to₀ passed₀ out to passed = (passed ≤ 
 abbrev μ-loop : tie.MeasureT-loop
 μ-loop out₀ p cols map groomers to₀ passed₀ out to passed = groomers - passed
 
-loop-holds : tie.Need-loop-holds Inv-loop μ-loop
-loop-holds c = search (needs, parts-cases)
-
-cast-put-groomer : tie.Need-cast-put-groomer Inv-loop μ-loop
-cast-put-groomer c = search (needs, parts-cases)
-
-add-put-groomer : tie.Need-add-put-groomer Inv-loop μ-loop
-add-put-groomer c = search (needs, parts-cases)
-
-put-groomer-requires : tie.Need-put-groomer-requires Inv-loop μ-loop
-put-groomer-requires c κs = search (needs, parts-cases)
-
-add-passed : tie.Need-add-passed Inv-loop μ-loop
-add-passed c = search (needs, parts-cases)
-
-loop-less : tie.Need-loop-less Inv-loop μ-loop
-loop-less c = search (needs, parts-cases)
-
-loop-again : tie.Need-loop-again Inv-loop μ-loop
-loop-again c = search (needs, parts-cases)
-
-same-length : tie.Need-same-length Inv-loop μ-loop
-same-length c = search (needs, parts-cases)
-
-returns : tie.Need-returns Inv-loop μ-loop
-returns c = search (needs, parts-cases)
-
 pub put-groomers-spec : {M : Type 1} → statement M
 put-groomers-spec =
     tie.close
     (tie.spec
     Inv-loop
     μ-loop
-    loop-holds
-    cast-put-groomer
-    add-put-groomer
-    put-groomer-requires
-    add-passed
-    loop-less
-    loop-again
-    same-length
-    returns)
+    (λ c. search (needs, parts-cases))
+    (λ c. search (needs, parts-cases))
+    (λ c. search (needs, parts-cases))
+    (λ c κs. search (needs, parts-cases))
+    (λ c. search (needs, parts-cases))
+    (λ c. search (needs, parts-cases))
+    (λ c. search (needs, parts-cases))
+    (λ c. search (needs, parts-cases))
+    (λ c. search (needs, parts-cases)))

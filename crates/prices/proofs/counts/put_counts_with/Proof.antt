@@ -12,29 +12,8 @@ Inv-loop e cols orders prices sums counts₀ n t₀ counts t = (t ≤ e .size .c
 abbrev μ-loop : tie.MeasureT-loop
 μ-loop e cols orders prices sums counts₀ n t₀ counts t = e .size .count - t
 
-loop-holds : tie.Need-loop-holds Inv-loop μ-loop
-loop-holds c = (search needs, search (needs, counts-cases))
-
 count-of-requires : tie.Need-count-of-requires Inv-loop μ-loop
 count-of-requires c κs = ((search needs, search needs, search needs), search needs)
-
-mul-counts : tie.Need-mul-counts Inv-loop μ-loop
-mul-counts c = search (needs, counts-cases)
-
-element-write-counts : tie.Need-element-write-counts Inv-loop μ-loop
-element-write-counts c = search (needs, counts-cases)
-
-add-t : tie.Need-add-t Inv-loop μ-loop
-add-t c = search (needs, counts-cases)
-
-loop-less : tie.Need-loop-less Inv-loop μ-loop
-loop-less c = search (needs, counts-cases)
-
-loop-again : tie.Need-loop-again Inv-loop μ-loop
-loop-again c = (search needs, search (needs, counts-cases))
-
-returns : tie.Need-returns Inv-loop μ-loop
-returns c = search (needs, counts-cases)
 
 pub put-counts-with-spec : {M : Type 1} → statement M
 put-counts-with-spec =
@@ -42,11 +21,11 @@ put-counts-with-spec =
     (tie.spec
     Inv-loop
     μ-loop
-    loop-holds
+    (λ c. (search needs, search (needs, counts-cases)))
     count-of-requires
-    mul-counts
-    element-write-counts
-    add-t
-    loop-less
-    loop-again
-    returns)
+    (λ c. search (needs, counts-cases))
+    (λ c. search (needs, counts-cases))
+    (λ c. search (needs, counts-cases))
+    (λ c. search (needs, counts-cases))
+    (λ c. (search needs, search (needs, counts-cases)))
+    (λ c. search (needs, counts-cases)))

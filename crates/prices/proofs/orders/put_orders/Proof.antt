@@ -3,18 +3,9 @@ use borrow.Author.Needs.{needs}
 use Rattle.prices.proofs.orders.put_orders.Statement.{statement}
 use Rattle.prices.proofs.orders.put_orders.Tie as tie
 
-put-places-requires : tie.Need-put-places-requires
-put-places-requires c κs = search needs
-
-put-by-drivers-requires : tie.Need-put-by-drivers-requires
-put-by-drivers-requires c κs = search needs
-
 put-drivers-requires : tie.Need-put-drivers-requires
 put-drivers-requires c κs = (room-held _ _ _ (c .before .before .put-by-drivers .ensures .0) (c .before .before .before .before .before .before .before .pre .0) (c .before .before .put-by-drivers .ensures .1), room-numbered _ _ _ (c .before .before .put-by-drivers .ensures .0) (c .before .before .before .before .before .before .before .pre .2), search needs)
 
-returns : tie.Need-returns
-returns c = (search orders-held, search needs)
-
 pub put-orders-spec : {M : Type 1} → statement M
 put-orders-spec =
-    tie.close (tie.spec put-places-requires put-by-drivers-requires put-drivers-requires returns)
+    tie.close (tie.spec (λ c κs. search needs) (λ c κs. search needs) put-drivers-requires (λ c. (search orders-held, search needs)))

@@ -13,49 +13,19 @@ Inv-loop p cols order orders₀ from₀ i₀ orders from i = (i ≤ p .count) ×
 abbrev μ-loop : tie.MeasureT-loop
 μ-loop p cols order orders₀ from₀ i₀ orders from i = p .count - i
 
-loop-holds : tie.Need-loop-holds Inv-loop μ-loop
-loop-holds c = (search needs, search (needs, runs-cases), search runs-cases)
-
-run-start-requires : tie.Need-run-start-requires Inv-loop μ-loop
-run-start-requires c κs = (search needs, search needs, search needs, search needs)
-
-run-of-requires : tie.Need-run-of-requires Inv-loop μ-loop
-run-of-requires c κs = (search needs, search needs, search needs, search needs)
-
-mul-put-run : tie.Need-mul-put-run Inv-loop μ-loop
-mul-put-run c = search (needs, runs-cases)
-
-shared-slice-read-put-run : tie.Need-shared-slice-read-put-run Inv-loop μ-loop
-shared-slice-read-put-run c = search (needs, runs-cases)
-
-put-run-requires : tie.Need-put-run-requires Inv-loop μ-loop
-put-run-requires c κs = (search (needs, runs-cases), search (needs, runs-cases), search (needs, runs-cases))
-
-add-i : tie.Need-add-i Inv-loop μ-loop
-add-i c = search (needs, runs-cases)
-
-loop-less : tie.Need-loop-less Inv-loop μ-loop
-loop-less c = search (needs, runs-cases)
-
-loop-again : tie.Need-loop-again Inv-loop μ-loop
-loop-again c = (search needs, runs-more _ _ (c .before .before .before .before .before .before .before .before .before .pre .0) _ (c .before .before .before .before .before .before .before .before .before .pre .1) _ _ _ (search needs) (c .before .before .before .before .before .before .before .loop .inv .1) (search needs) (c .put-run .ensures), search before-more)
-
-returns : tie.Need-returns Inv-loop μ-loop
-returns c = search (needs, runs-cases)
-
 pub put-runs-spec : {M : Type 1} → statement M
 put-runs-spec =
     tie.close
     (tie.spec
     Inv-loop
     μ-loop
-    loop-holds
-    run-start-requires
-    run-of-requires
-    mul-put-run
-    shared-slice-read-put-run
-    put-run-requires
-    add-i
-    loop-less
-    loop-again
-    returns)
+    (λ c. (search needs, search (needs, runs-cases), search runs-cases))
+    (λ c κs. (search needs, search needs, search needs, search needs))
+    (λ c κs. (search needs, search needs, search needs, search needs))
+    (λ c. search (needs, runs-cases))
+    (λ c. search (needs, runs-cases))
+    (λ c κs. (search (needs, runs-cases), search (needs, runs-cases), search (needs, runs-cases)))
+    (λ c. search (needs, runs-cases))
+    (λ c. search (needs, runs-cases))
+    (λ c. (search needs, runs-more _ _ (c .before .before .before .before .before .before .before .before .before .pre .0) _ (c .before .before .before .before .before .before .before .before .before .pre .1) _ _ _ (search needs) (c .before .before .before .before .before .before .before .loop .inv .1) (search needs) (c .put-run .ensures), search before-more))
+    (λ c. search (needs, runs-cases)))

@@ -11,49 +11,19 @@ Inv-loop slopes payers change prices₀ k₀ prices k = SlopesMoved change slope
 abbrev μ-loop : tie.MeasureT-loop
 μ-loop slopes payers change prices₀ k₀ prices k = slopes - k
 
-loop-holds : tie.Need-loop-holds Inv-loop μ-loop
-loop-holds c = search (needs, slopes-moved-cases)
-
-add-move-price : tie.Need-add-move-price Inv-loop μ-loop
-add-move-price c = search (needs, slopes-moved-cases)
-
-mul-move-price : tie.Need-mul-move-price Inv-loop μ-loop
-mul-move-price c = search (needs, slopes-moved-cases)
-
-element-copy-out-move-price : tie.Need-element-copy-out-move-price Inv-loop μ-loop
-element-copy-out-move-price c = search (needs, slopes-moved-cases)
-
-move-price-requires : tie.Need-move-price-requires Inv-loop μ-loop
-move-price-requires c κs = search (needs, slopes-moved-cases)
-
-add-k : tie.Need-add-k Inv-loop μ-loop
-add-k c = search (needs, slopes-moved-cases)
-
-loop-less : tie.Need-loop-less Inv-loop μ-loop
-loop-less c = search (needs, slopes-moved-cases)
-
-loop-again : tie.Need-loop-again Inv-loop μ-loop
-loop-again c = search (needs, slopes-moved-cases)
-
-same-length : tie.Need-same-length Inv-loop μ-loop
-same-length c = search (needs, slopes-moved-cases)
-
-returns : tie.Need-returns Inv-loop μ-loop
-returns c = search (needs, slopes-moved-cases)
-
 pub move-slope-prices-spec : {M : Type 1} → statement M
 move-slope-prices-spec =
     tie.close
     (tie.spec
     Inv-loop
     μ-loop
-    loop-holds
-    add-move-price
-    mul-move-price
-    element-copy-out-move-price
-    move-price-requires
-    add-k
-    loop-less
-    loop-again
-    same-length
-    returns)
+    (λ c. search (needs, slopes-moved-cases))
+    (λ c. search (needs, slopes-moved-cases))
+    (λ c. search (needs, slopes-moved-cases))
+    (λ c. search (needs, slopes-moved-cases))
+    (λ c κs. search (needs, slopes-moved-cases))
+    (λ c. search (needs, slopes-moved-cases))
+    (λ c. search (needs, slopes-moved-cases))
+    (λ c. search (needs, slopes-moved-cases))
+    (λ c. search (needs, slopes-moved-cases))
+    (λ c. search (needs, slopes-moved-cases)))

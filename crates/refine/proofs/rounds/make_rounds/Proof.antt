@@ -21,27 +21,6 @@ Inv-loop t cols orders list₀ best₀ room₀ e p ranks prices₀ change₀ lim
 abbrev μ-loop : tie.MeasureT-loop
 μ-loop t cols orders list₀ best₀ room₀ e p ranks prices₀ change₀ limit₀ worth₀ made₀ list best room prices change limit worth made = t .rounds - made
 
-array-borrow-prefix-places : tie.Need-array-borrow-prefix-places Inv-loop μ-loop
-array-borrow-prefix-places c = search needs
-
-slice-aggregate-ranks : tie.Need-slice-aggregate-ranks Inv-loop μ-loop
-slice-aggregate-ranks c = search (needs, rank-cases)
-
-put-ranks-requires : tie.Need-put-ranks-requires Inv-loop μ-loop
-put-ranks-requires c κs = search (needs, rank-cases)
-
-array-borrow-prefix-space : tie.Need-array-borrow-prefix-space Inv-loop μ-loop
-array-borrow-prefix-space c = search (needs, start-cases)
-
-slice-aggregate-prices : tie.Need-slice-aggregate-prices Inv-loop μ-loop
-slice-aggregate-prices c = search (needs, start-cases)
-
-first-change-requires : tie.Need-first-change-requires Inv-loop μ-loop
-first-change-requires c κs = search needs
-
-loop-holds : tie.Need-loop-holds Inv-loop μ-loop
-loop-holds c = (search start-cases, search needs, search needs, search needs, search needs)
-
 array-borrow-prefix-map : tie.Need-array-borrow-prefix-map Inv-loop μ-loop
 array-borrow-prefix-map c = map-fits (c .loop .inv .0 .priced .few) (c .loop .inv .0 .clean)
 
@@ -64,18 +43,6 @@ keep-better-requires c κs =
     let head = seen .before .before .before .before in
     let start = head .before .before .before .before .before .before .before .before .before .before .before .before in
     ((start .pre .0 .held, head .loop .inv .4, seen .look .ensures .1 .0), (head .loop .inv .0 .clean, head .loop .inv .3))
-
-is-over-requires : tie.Need-is-over-requires Inv-loop μ-loop
-is-over-requires c κs = search needs
-
-come-to-requires : tie.Need-come-to-requires Inv-loop μ-loop
-come-to-requires c κs = search needs
-
-same-length : tie.Need-same-length Inv-loop μ-loop
-same-length c = search needs
-
-same-length-2 : tie.Need-same-length-2 Inv-loop μ-loop
-same-length-2 c = search needs
 
 returns : tie.Need-returns Inv-loop μ-loop
 returns c =
@@ -130,22 +97,22 @@ make-rounds-spec =
     (tie.spec
     Inv-loop
     μ-loop
-    array-borrow-prefix-places
-    slice-aggregate-ranks
-    put-ranks-requires
-    array-borrow-prefix-space
-    slice-aggregate-prices
-    first-change-requires
-    loop-holds
+    (λ c. search needs)
+    (λ c. search (needs, rank-cases))
+    (λ c κs. search (needs, rank-cases))
+    (λ c. search (needs, start-cases))
+    (λ c. search (needs, start-cases))
+    (λ c κs. search needs)
+    (λ c. (search start-cases, search needs, search needs, search needs, search needs))
     array-borrow-prefix-map
     slice-aggregate-relaxed
     look-requires
     keep-lower-requires
     keep-better-requires
-    is-over-requires
-    come-to-requires
-    same-length
-    same-length-2
+    (λ c κs. search needs)
+    (λ c κs. search needs)
+    (λ c. search needs)
+    (λ c. search needs)
     returns
     move-prices-requires
     next-change-requires

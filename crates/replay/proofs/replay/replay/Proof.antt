@@ -18,53 +18,20 @@ Inv-loop rest₀ p cols places steps m sum₀ closed₀ i₀ rest sum closed i =
 abbrev μ-loop : tie.MeasureT-loop
 μ-loop rest₀ p cols places steps m sum₀ closed₀ i₀ rest sum closed i = m - i
 
-loop-holds : tie.Need-loop-holds Inv-loop μ-loop
-loop-holds c = (search needs, search needs, search replay-cases, search needs, search replay-cases, search replay-cases, search replay-cases)
-
-move-at-requires : tie.Need-move-at-requires Inv-loop μ-loop
-move-at-requires c κs = search needs
-
-replay-one-requires : tie.Need-replay-one-requires Inv-loop μ-loop
-replay-one-requires c κs = search needs
-
-add-sum : tie.Need-add-sum Inv-loop μ-loop
-add-sum c = search needs
-
-add-i : tie.Need-add-i Inv-loop μ-loop
-add-i c = search needs
-
-loop-less : tie.Need-loop-less Inv-loop μ-loop
-loop-less c = search needs
-
-loop-again : tie.Need-loop-again Inv-loop μ-loop
-loop-again c = (search needs, search needs, search needs, search needs, search replay-cases, search replay-cases, search replay-cases)
-
-same-length : tie.Need-same-length Inv-loop μ-loop
-same-length c = search needs
-
-returns : tie.Need-returns Inv-loop μ-loop
-returns c = (search replay-cases, λ e. never e, λ e. never e, search needs)
-
-same-length-2 : tie.Need-same-length-2 Inv-loop μ-loop
-same-length-2 c = search needs
-
-returns-2 : tie.Need-returns-2 Inv-loop μ-loop
-returns-2 c = (search replay-cases, λ e. search replay-cases, λ e. search replay-cases, search needs)
-
 pub replay-spec : {M : Type 1} → statement M
 replay-spec =
     tie.close
     (tie.spec
     Inv-loop
     μ-loop
-    loop-holds
-    move-at-requires
-    replay-one-requires
-    add-sum
-    add-i
-    loop-less
-    loop-again
-    same-length
-    returns
-    same-length-2
-    returns-2)
+    (λ c. (search needs, search needs, search replay-cases, search needs, search replay-cases, search replay-cases, search replay-cases))
+    (λ c κs. search needs)
+    (λ c κs. search needs)
+    (λ c. search needs)
+    (λ c. search needs)
+    (λ c. search needs)
+    (λ c. (search needs, search needs, search needs, search needs, search replay-cases, search replay-cases, search replay-cases))
+    (λ c. search needs)
+    (λ c. (search replay-cases, λ e. never e, λ e. never e, search needs))
+    (λ c. search needs)
+    (λ c. (search replay-cases, λ e. search replay-cases, λ e. search replay-cases, search needs)))

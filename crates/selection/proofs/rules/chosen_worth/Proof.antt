@@ -14,37 +14,16 @@ Inv-loop p cols map n sum₀ t₀ sum t = (t ≤ p .count) × (sum ≤ 65535 * t
 abbrev μ-loop : tie.MeasureT-loop
 μ-loop p cols map n sum₀ t₀ sum t = p .count - t
 
-loop-holds : tie.Need-loop-holds Inv-loop μ-loop
-loop-holds c = (search needs, search needs, search all-cases)
-
-worth-if-chosen-requires : tie.Need-worth-if-chosen-requires Inv-loop μ-loop
-worth-if-chosen-requires c κs = search needs
-
-add-sum : tie.Need-add-sum Inv-loop μ-loop
-add-sum c = search needs
-
-add-t : tie.Need-add-t Inv-loop μ-loop
-add-t c = search needs
-
-loop-less : tie.Need-loop-less Inv-loop μ-loop
-loop-less c = search needs
-
-loop-again : tie.Need-loop-again Inv-loop μ-loop
-loop-again c = (search needs, search needs, search all-cases)
-
-returns : tie.Need-returns Inv-loop μ-loop
-returns c = search all-cases
-
 pub chosen-worth-spec : {M : Type 1} → statement M
 chosen-worth-spec =
     tie.close
     (tie.spec
     Inv-loop
     μ-loop
-    loop-holds
-    worth-if-chosen-requires
-    add-sum
-    add-t
-    loop-less
-    loop-again
-    returns)
+    (λ c. (search needs, search needs, search all-cases))
+    (λ c κs. search needs)
+    (λ c. search needs)
+    (λ c. search needs)
+    (λ c. search needs)
+    (λ c. (search needs, search needs, search all-cases))
+    (λ c. search all-cases))

@@ -18,18 +18,6 @@ Inv-loop p cols map taken₀ n flags₀ c₀ x₀ taken flags c x =
 abbrev μ-loop : tie.MeasureT-loop
 μ-loop p cols map taken₀ n flags₀ c₀ x₀ taken flags c x = p .count - x
 
-loop-holds : tie.Need-loop-holds Inv-loop μ-loop
-loop-holds c = (search needs, search (needs, all-cases), search all-cases)
-
-is-chosen-requires : tie.Need-is-chosen-requires Inv-loop μ-loop
-is-chosen-requires c κs = search needs
-
-row-at-requires : tie.Need-row-at-requires Inv-loop μ-loop
-row-at-requires c κs = search needs
-
-take-if-room-requires : tie.Need-take-if-room-requires Inv-loop μ-loop
-take-if-room-requires c κs = (search lent-cases, search lent-cases, λ f. search lent-cases)
-
 returns : tie.Need-returns Inv-loop μ-loop
 returns c =
     let call = c .before in
@@ -40,15 +28,6 @@ returns c =
           (not-true (call .take-if-room .result) (c .if2 .taken)),
       taken-places (head .loop .taken) (head .loop .c) (call .before .row-at .result) (call .take-if-room .result) (call .take-if-room .ensures .1 .0) (head .loop .inv .1 .places),
     )
-
-add-c : tie.Need-add-c Inv-loop μ-loop
-add-c c = search lent-cases
-
-add-x : tie.Need-add-x Inv-loop μ-loop
-add-x c = search needs
-
-loop-less : tie.Need-loop-less Inv-loop μ-loop
-loop-less c = search needs
 
 loop-again : tie.Need-loop-again Inv-loop μ-loop
 loop-again c =
@@ -65,34 +44,22 @@ loop-again c =
           (head .loop .inv .2),
     )
 
-add-x-2 : tie.Need-add-x-2 Inv-loop μ-loop
-add-x-2 c = search needs
-
-loop-less-2 : tie.Need-loop-less-2 Inv-loop μ-loop
-loop-less-2 c = search needs
-
-loop-again-2 : tie.Need-loop-again-2 Inv-loop μ-loop
-loop-again-2 c = (search needs, search one-cases, search next-cases)
-
-returns-2 : tie.Need-returns-2 Inv-loop μ-loop
-returns-2 c = (search all-cases, search needs)
-
 pub is-independent-spec : {M : Type 1} → statement M
 is-independent-spec =
     tie.close
     (tie.spec
     Inv-loop
     μ-loop
-    loop-holds
-    is-chosen-requires
-    row-at-requires
-    take-if-room-requires
+    (λ c. (search needs, search (needs, all-cases), search all-cases))
+    (λ c κs. search needs)
+    (λ c κs. search needs)
+    (λ c κs. (search lent-cases, search lent-cases, λ f. search lent-cases))
     returns
-    add-c
-    add-x
-    loop-less
+    (λ c. search lent-cases)
+    (λ c. search needs)
+    (λ c. search needs)
     loop-again
-    add-x-2
-    loop-less-2
-    loop-again-2
-    returns-2)
+    (λ c. search needs)
+    (λ c. search needs)
+    (λ c. (search needs, search one-cases, search next-cases))
+    (λ c. (search all-cases, search needs)))

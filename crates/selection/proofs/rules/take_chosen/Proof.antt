@@ -13,27 +13,6 @@ Inv-loop p cols map taken₀ flags₀ c₀ x₀ taken flags c x = (x ≤ p .coun
 abbrev μ-loop : tie.MeasureT-loop
 μ-loop p cols map taken₀ flags₀ c₀ x₀ taken flags c x = p .count - x
 
-loop-holds : tie.Need-loop-holds Inv-loop μ-loop
-loop-holds c = (search needs, search all-cases)
-
-is-chosen-requires : tie.Need-is-chosen-requires Inv-loop μ-loop
-is-chosen-requires c κs = search needs
-
-row-at-requires : tie.Need-row-at-requires Inv-loop μ-loop
-row-at-requires c κs = search needs
-
-take-row-requires : tie.Need-take-row-requires Inv-loop μ-loop
-take-row-requires c κs = search lent-cases
-
-add-c : tie.Need-add-c Inv-loop μ-loop
-add-c c = search lent-cases
-
-add-x : tie.Need-add-x Inv-loop μ-loop
-add-x c = search needs
-
-loop-less : tie.Need-loop-less Inv-loop μ-loop
-loop-less c = search needs
-
 loop-again : tie.Need-loop-again Inv-loop μ-loop
 loop-again c =
     let chosen = c .before .before .before .before in
@@ -45,33 +24,21 @@ loop-again c =
           (c .take-row .ensures .1),
     )
 
-add-x-2 : tie.Need-add-x-2 Inv-loop μ-loop
-add-x-2 c = search needs
-
-loop-less-2 : tie.Need-loop-less-2 Inv-loop μ-loop
-loop-less-2 c = search needs
-
-loop-again-2 : tie.Need-loop-again-2 Inv-loop μ-loop
-loop-again-2 c = (search needs, search one-cases)
-
-returns : tie.Need-returns Inv-loop μ-loop
-returns c = search all-cases
-
 pub take-chosen-spec : {M : Type 1} → statement M
 take-chosen-spec =
     tie.close
     (tie.spec
     Inv-loop
     μ-loop
-    loop-holds
-    is-chosen-requires
-    row-at-requires
-    take-row-requires
-    add-c
-    add-x
-    loop-less
+    (λ c. (search needs, search all-cases))
+    (λ c κs. search needs)
+    (λ c κs. search needs)
+    (λ c κs. search lent-cases)
+    (λ c. search lent-cases)
+    (λ c. search needs)
+    (λ c. search needs)
     loop-again
-    add-x-2
-    loop-less-2
-    loop-again-2
-    returns)
+    (λ c. search needs)
+    (λ c. search needs)
+    (λ c. (search needs, search one-cases))
+    (λ c. search all-cases))

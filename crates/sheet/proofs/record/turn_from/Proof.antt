@@ -11,22 +11,13 @@ add-p2 : tie.Need-add-p2
 unfolding widthOf
 add-p2 c = search needs
 
-mul-p3 : tie.Need-mul-p3
-mul-p3 c = search needs
-
 add-p3 : tie.Need-add-p3
 unfolding widthOf
 add-p3 c = search needs
 
-mul-p4 : tie.Need-mul-p4
-mul-p4 c = search needs
-
 add-p4 : tie.Need-add-p4
 unfolding widthOf
 add-p4 c = search needs
-
-mul-p5 : tie.Need-mul-p5
-mul-p5 c = search needs
 
 add-p5 : tie.Need-add-p5
 unfolding widthOf
@@ -66,11 +57,11 @@ turn-from-spec =
     (tie.spec
     add-p1
     add-p2
-    mul-p3
+    (λ c. search needs)
     add-p3
-    mul-p4
+    (λ c. search needs)
     add-p4
-    mul-p5
+    (λ c. search needs)
     add-p5
     byte-field-requires
     byte-field-requires-2

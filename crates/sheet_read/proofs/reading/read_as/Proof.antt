@@ -4,27 +4,6 @@ use borrow.Author.Needs.{needs}
 use Rattle.sheet_read.proofs.reading.read_as.Statement.{statement}
 use Rattle.sheet_read.proofs.reading.read_as.Tie as tie
 
-slice-aggregate-read-table-of : tie.Need-slice-aggregate-read-table-of
-slice-aggregate-read-table-of c = search needs
-
-read-table-of-requires : tie.Need-read-table-of-requires
-read-table-of-requires c κs = search needs
-
-returns : tie.Need-returns
-returns c = search (needs, read-cases)
-
-cast-end : tie.Need-cast-end
-cast-end c = search needs
-
-mul-end : tie.Need-mul-end
-mul-end c = search needs
-
-refused-requires : tie.Need-refused-requires
-refused-requires c κs = search needs
-
-returns-2 : tie.Need-returns-2
-returns-2 c = search (needs, read-cases)
-
 array-share-prefix-own : tie.Need-array-share-prefix-own
 array-share-prefix-own c =
     let fine = c .before .before .before in
@@ -44,9 +23,6 @@ put-numbers-requires c κs =
     let read = fine .before .before .before in
     rw (whole-rows-for _ _ (read .read-table-of .ensures .0) (fine .if1 .left) _ (read .read-table-of .ensures .1)) (long .if2 .left)
 
-same-length : tie.Need-same-length
-same-length c = search needs
-
 returns-3 : tie.Need-returns-3
 returns-3 c =
     let put = c .before .before in
@@ -59,15 +35,15 @@ pub read-as-spec : {M : Type 1} → statement M
 read-as-spec =
     tie.close
     (tie.spec
-    slice-aggregate-read-table-of
-    read-table-of-requires
-    returns
-    cast-end
-    mul-end
-    refused-requires
-    returns-2
+    (λ c. search needs)
+    (λ c κs. search needs)
+    (λ c. search (needs, read-cases))
+    (λ c. search needs)
+    (λ c. search needs)
+    (λ c κs. search needs)
+    (λ c. search (needs, read-cases))
     array-share-prefix-own
     slice-aggregate-put-numbers
     put-numbers-requires
-    same-length
+    (λ c. search needs)
     returns-3)
