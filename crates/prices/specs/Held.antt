@@ -81,6 +81,10 @@ withRun orders i t from to = set (set (set orders (2 * mostTurns + i) t) (3 * mo
 pub record Driven (p : Size) (cols : List ℕ) : Type 0 where
   pub drivers : (t : ℕ) → t < p .count → turnsBy p cols .driver t ≤ mostDriver
 
+-- the first i turns name no driver above a number
+unfoldable pub DriversUpTo : Turns → ℕ → ℕ → Type 0
+DriversUpTo T i most = (t : ℕ) → t < i → T .driver t ≤ most
+
 -- the first i groomers of some columns are the drivers, and the rest is as it was
 pub record DriversPut (cols room : List ℕ) (i : ℕ) : Type 0 where
   pub places : length room ≡ length cols
