@@ -11,6 +11,9 @@ use instance::Size;
 pub use looking::limit_at;
 pub use looking::look;
 pub use orders::put_orders;
+pub use runs::DRIVERS;
+pub use runs::FROMS;
+pub use runs::TOS;
 pub use undriven::greatest_driver;
 pub use undriven::limit_undriven;
 
