@@ -3,9 +3,9 @@
 
 mod both;
 
-use both::{check, plan};
+use both::{check, planned, sheet_of};
 use slopeboard_reference::boards::Draft;
-use slopeboard_reference::gen::{self, Rng, Row, Shift};
+use slopeboard_reference::gen::Row;
 use slopeboard_reference::naive::best_worth;
 use slopeboard_reference::naive::turns::{conflict, turns_of};
 
@@ -15,22 +15,6 @@ fn pairs(minutes: u16, groomers: [u16; 2]) -> [[Row; 2]; 2] {
     let first = [1, groomers[0], 100, 50, 70, 0];
     let second = [2, groomers[1], 150 + minutes, 40, 100, 0];
     [[first, second], [second, first]]
-}
-
-fn sheet_of(turns: &[Row]) -> Vec<u8> {
-    let shift = Shift {
-        groomers: 2,
-        slopes: 3,
-        turns: turns.to_vec(),
-    };
-    gen::encode(&mut Rng::new(0), &shift, 0).bytes
-}
-
-fn planned(sheet: &[u8]) -> Vec<u8> {
-    let mut board = vec![0; 64];
-    let len = plan(sheet, &mut board).unwrap();
-    board.truncate(len);
-    board
 }
 
 #[test]

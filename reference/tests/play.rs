@@ -5,11 +5,11 @@ mod both;
 
 use both::{check, planned, play, read};
 use slopeboard_reference::boards;
-use slopeboard_reference::gen::{self, Rng, Row, Shift};
+use slopeboard_reference::gen::{self, Rng, Row};
 use slopeboard_reference::naive::play::{spans, Span};
 use slopeboard_reference::naive::turns::turns_of;
 use slopeboard_reference::naive::Standing;
-use slopeboard_reference::shapes;
+use slopeboard_reference::{shapes, worked};
 
 const NO_TURN: u16 = 65_535;
 
@@ -22,12 +22,7 @@ const KEPT: Standing = Standing {
 };
 
 fn sheet_of(groomers: u8, turns: &[Row]) -> Vec<u8> {
-    let shift = Shift {
-        groomers,
-        slopes: 120,
-        turns: turns.to_vec(),
-    };
-    gen::encode(&mut Rng::new(0), &shift, 0).bytes
+    worked::sheet_of(groomers, 120, turns)
 }
 
 /// The standings of all groomers, with a place more than there are groomers.

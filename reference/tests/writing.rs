@@ -7,14 +7,7 @@ use both::{read, write};
 use slopeboard_reference::gen::{self, Rng, Row, Shift};
 use slopeboard_reference::limits::NUMBERS_PER_TURN;
 use slopeboard_reference::shapes;
-
-/// The worked example's turns.
-const TURNS: [Row; 4] = [
-    [1, 1, 0, 60, 100, 0],
-    [2, 1, 30, 60, 150, 0],
-    [1, 2, 0, 120, 80, 0],
-    [3, 2, 120, 60, 90, 0],
-];
+use slopeboard_reference::worked::TURNS;
 
 /// The sheet of the example as the writer has it: turns 0, 2, 1, 3.
 const SHEET: [u8; 38] = [

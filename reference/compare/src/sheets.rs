@@ -3,7 +3,7 @@
 
 use slopeboard_reference::gen::{self, Rng};
 use slopeboard_reference::naive::turns::{same_driver, Turn};
-use slopeboard_reference::shapes;
+use slopeboard_reference::{handmade, shapes};
 
 use crate::report::Report;
 
@@ -77,9 +77,12 @@ pub fn refused(rng: &mut Rng, run: &mut impl FnMut(&mut Rng, &[u8])) {
     }
 }
 
-/// Sheets without turns, headers at their bounds, marks, tails, and every
-/// length of some sheets.
+/// Sheets made by hand, sheets without turns, headers at their bounds, marks,
+/// tails, and every length of some sheets.
 pub fn edges(rng: &mut Rng, run: &mut impl FnMut(&mut Rng, &[u8])) {
+    for sheet in handmade::sheets() {
+        run(rng, &sheet);
+    }
     for groomers in 0..=17 {
         for slopes in [0, 1, 2, 119, 120, 121, 255] {
             for turns in [0, 1] {

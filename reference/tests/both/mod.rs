@@ -4,18 +4,13 @@
 // Each test file uses some of these.
 #![allow(dead_code)]
 
-use slopeboard_reference::gen::{self, Rng, Row, Shift};
+use slopeboard_reference::gen::Row;
 use slopeboard_reference::naive::{ChargeRefined, Counts, Improved, Refined, Standing, Sums};
-use slopeboard_reference::{fast, naive};
+use slopeboard_reference::{fast, naive, worked};
 
 /// A sheet of as many groomers and slopes as there can be, with these turns.
 pub fn sheet_of(turns: &[Row]) -> Vec<u8> {
-    let shift = Shift {
-        groomers: 16,
-        slopes: 120,
-        turns: turns.to_vec(),
-    };
-    gen::encode(&mut Rng::new(0), &shift, 0).bytes
+    worked::sheet_of(16, 120, turns)
 }
 
 /// The board that both versions plan.
