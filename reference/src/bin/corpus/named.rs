@@ -29,6 +29,27 @@ pub fn add(corpus: &mut Corpus) {
     charging_halls(corpus);
 }
 
+/// The lines of a table: the refusal that is due, 0 if none, a name, and lists of
+/// numbers with commas between them.
+fn table(text: &str) -> impl Iterator<Item = (u8, &str, Vec<Vec<u16>>)> {
+    let number = |word: &str| word.parse().expect("a number");
+    text.lines()
+        .filter(|line| !line.is_empty())
+        .map(move |line| {
+            let (refusal, line) = line.split_once(' ').expect("a refusal");
+            let (name, lists) = line.split_once(": ").expect("a name");
+            let list = |list: &str| list.split_whitespace().map(number).collect();
+            let refusal = refusal.parse().expect("a number");
+            (refusal, name, lists.split(',').map(list).collect())
+        })
+}
+
+/// The lists as turns or windows.
+fn turns(lists: Vec<Vec<u16>>) -> Vec<Row> {
+    let row = |list: Vec<u16>| list.try_into().expect("six numbers");
+    lists.into_iter().map(row).collect()
+}
+
 /// An entry that takes a sheet alone: what it is lent for a sheet, numbers or
 /// bytes, and its call.
 struct Taker {
@@ -100,10 +121,11 @@ impl Corpus {
         self.add(taker.entry, name, input, call)
     }
 
-    /// A sheet that every entry refuses with this number.
+    /// A sheet that every entry refuses with this number, whatever is lent.
     fn refused(&mut self, number: u8, name: &str, sheet: &[u8]) {
         for taker in &TAKERS {
-            let found = self.take(taker, name, sheet, (taker.needs)(sheet));
+            let few = (taker.needs)(sheet).map(|places| places.min(9));
+            let found = self.take(taker, name, sheet, few);
             let for_short = taker.entry == SHORT && turns_of(sheet) > 96;
             let due = match number {
                 1 | 4 if for_short => 20,
@@ -272,94 +294,43 @@ fn boards_opened(corpus: &mut Corpus) {
     }
 }
 
-/// Boards for the worked shift: each cause, and orders of steps that pass.
+/// Boards for the worked shift, each cause and orders of steps that pass: choice
+/// map, tally, worth, then the steps.
+const BOARDS: &str = "
+0 the shift's board: 10 240 240, 0 100, 1 50, 3 90
+0 another order of steps: 10 240 240, 0 100, 3 90, 1 50
+0 steps from turn 2 on: 10 240 240, 2 80, 0 20, 1 130, 3 10
+13 turns that touch: 14 240 320, 0 100, 1 50, 3 90
+13 one slope twice: 5 240 180, 0 100, 1 50, 3 90
+14 a turn that fits left out: 8 240 90, 0 100, 1 50, 3 90
+15 a step of turn 4: 10 240 240, 0 100, 1 50, 4 90
+15 a step of a closed turn: 10 240 240, 0 100, 1 50, 1 90
+15 another amount: 10 240 240, 0 99, 1 51, 3 90
+15 an earlier end is open: 10 240 240, 1 150, 2 80, 3 10
+16 a step too few: 10 150 240, 0 100, 1 50
+16 no step: 10 0 240
+17 another tally: 10 241 240, 0 100, 1 50, 3 90
+17 another worth: 10 240 241, 0 100, 1 50, 3 90
+17 turns 0 and 3, worth below tally: 9 240 190, 0 100, 1 50, 3 90
+";
+
 fn boards_checked(corpus: &mut Corpus) {
-    const STEPS: [(u16, u16); 3] = [(0, 100), (1, 50), (3, 90)];
-    let mut check = |number, name: &str, map, sums, steps: &[(u16, u16)]| {
-        corpus.check(number, name, &SHEET, &board_with(map, sums, steps));
-    };
-    check(0, "the shift's board", 0x0A, [240, 240], &STEPS);
-    check(
-        0,
-        "another order of steps",
-        0x0A,
-        [240, 240],
-        &[(0, 100), (3, 90), (1, 50)],
-    );
-    check(
-        0,
-        "steps from turn 2 on",
-        0x0A,
-        [240, 240],
-        &[(2, 80), (0, 20), (1, 130), (3, 10)],
-    );
-    check(13, "turns that touch", 0x0E, [240, 320], &STEPS);
-    check(13, "one slope twice", 0x05, [240, 180], &STEPS);
-    check(14, "a turn that fits left out", 0x08, [240, 90], &STEPS);
-    check(
-        15,
-        "a step of turn 4",
-        0x0A,
-        [240, 240],
-        &[(0, 100), (1, 50), (4, 90)],
-    );
-    check(
-        15,
-        "a step of a closed turn",
-        0x0A,
-        [240, 240],
-        &[(0, 100), (1, 50), (1, 90)],
-    );
-    check(
-        15,
-        "another amount",
-        0x0A,
-        [240, 240],
-        &[(0, 99), (1, 51), (3, 90)],
-    );
-    check(
-        15,
-        "an earlier end is open",
-        0x0A,
-        [240, 240],
-        &[(1, 150), (2, 80), (3, 10)],
-    );
-    check(16, "a step too few", 0x0A, [150, 240], &STEPS[..2]);
-    check(16, "no step", 0x0A, [0, 240], &[]);
-    check(17, "another tally", 0x0A, [241, 240], &STEPS);
-    check(17, "another worth", 0x0A, [240, 241], &STEPS);
-    check(
-        17,
-        "turns 0 and 3, worth below tally",
-        0x09,
-        [240, 190],
-        &STEPS,
-    );
-    corpus.check(
-        12,
-        "a board of no turns",
-        &SHEET,
-        &planned(b"GRM\x02\x03\0\0"),
-    );
-    corpus.check(
-        12,
-        "a bit past the last turn",
-        &SHEET,
-        &with(&BOARD, 15, &[0x1A]),
-    );
-    corpus.check(
-        0,
-        "no turns",
-        b"GRM\x02\x03\0\0",
-        b"GRB\0\0\0\0\0\0\0\0\0\0\0\0",
-    );
+    for (number, name, lists) in table(BOARDS) {
+        let &[map, tally, worth] = &lists[0][..] else {
+            panic!("{name}");
+        };
+        let steps: Vec<(u16, u16)> = lists[1..].iter().map(|step| (step[0], step[1])).collect();
+        let board = board_with(map as u8, [tally.into(), worth.into()], &steps);
+        corpus.check(number, name, &SHEET, &board);
+    }
+    let none = b"GRB\0\0\0\0\0\0\0\0\0\0\0\0";
+    corpus.check(12, "a board of no turns", &SHEET, none);
+    let past_last = with(&BOARD, 15, &[0x1A]);
+    corpus.check(12, "a bit past the last turn", &SHEET, &past_last);
+    corpus.check(0, "no turns", b"GRM\x02\x03\0\0", none);
     corpus.check(1, "no bytes", b"", b"");
-    corpus.check(
-        10,
-        "a sheet with a byte more",
-        &[&SHEET[..], &[0]].concat(),
-        &BOARD[..27],
-    );
+    let longer = [&SHEET[..], &[0]].concat();
+    corpus.check(10, "a sheet with a byte more", &longer, &BOARD[..27]);
 }
 
 /// What an entry is asked: a number of eight bytes, three of four.
@@ -423,178 +394,70 @@ fn tables_written(corpus: &mut Corpus) {
 }
 
 /// Where a planner goes astray, one sheet each; turns close to each other, equal
-/// ends, and drivers. Each is planned, and its plan is checked.
+/// ends, and drivers.
+const PLANS: &str = "
+0 a turn that only the fill chooses: 1 1 0 60 10 0, 1 2 0 90 15 0, 2 2 30 70 4 0
+0 choosing from the last step back: 1 1 0 10 5 0, 2 1 5 10 20 0, 3 1 12 10 9 0
+0 other groomers at one time: 1 1 0 60 50 0, 2 2 0 60 60 0
+0 the earliest end, not the earliest start: 1 1 0 200 10 0, 2 1 10 20 9 0, 3 1 60 20 9 0
+0 0 minutes after the end: 1 1 100 50 70 0, 2 1 150 40 100 0
+0 9 minutes after the end: 1 1 100 50 70 0, 2 1 159 40 100 0
+0 10 minutes after the end: 1 1 100 50 70 0, 2 1 160 40 100 0
+0 9 minutes after, two groomers: 1 1 100 50 70 0, 2 2 159 40 100 0
+0 9 minutes after, one driver: 1 1 100 50 70 7, 2 2 159 40 100 7
+0 9 minutes after, two drivers: 1 1 100 50 70 7, 2 2 159 40 100 8
+0 one end, the second richer: 1 1 0 60 50 0, 2 1 30 30 51 0
+0 one end, equally rich: 1 1 0 60 50 0, 2 1 30 30 50 0
+0 one end, poorer by what remains: 1 1 0 30 60 0, 4 1 20 70 109 0, 3 2 30 60 50 0
+0 three groups: 1 1 3 1 5 1, 1 2 3 2 5 0, 2 1 3 2 5 2, 3 3 3 3 5 1
+";
+
+/// Each is planned, and its plan is checked.
 fn plans(corpus: &mut Corpus) {
-    let sheets: [(&str, &[Row]); 14] = [
-        (
-            "a turn that only the fill chooses",
-            &[
-                [1, 1, 0, 60, 10, 0],
-                [1, 2, 0, 90, 15, 0],
-                [2, 2, 30, 70, 4, 0],
-            ],
-        ),
-        (
-            "choosing from the last step back",
-            &[
-                [1, 1, 0, 10, 5, 0],
-                [2, 1, 5, 10, 20, 0],
-                [3, 1, 12, 10, 9, 0],
-            ],
-        ),
-        (
-            "other groomers at one time",
-            &[[1, 1, 0, 60, 50, 0], [2, 2, 0, 60, 60, 0]],
-        ),
-        (
-            "the earliest end, not the earliest start",
-            &[
-                [1, 1, 0, 200, 10, 0],
-                [2, 1, 10, 20, 9, 0],
-                [3, 1, 60, 20, 9, 0],
-            ],
-        ),
-        (
-            "0 minutes after the end",
-            &[[1, 1, 100, 50, 70, 0], [2, 1, 150, 40, 100, 0]],
-        ),
-        (
-            "9 minutes after the end",
-            &[[1, 1, 100, 50, 70, 0], [2, 1, 159, 40, 100, 0]],
-        ),
-        (
-            "10 minutes after the end",
-            &[[1, 1, 100, 50, 70, 0], [2, 1, 160, 40, 100, 0]],
-        ),
-        (
-            "9 minutes after, two groomers",
-            &[[1, 1, 100, 50, 70, 0], [2, 2, 159, 40, 100, 0]],
-        ),
-        (
-            "9 minutes after, one driver",
-            &[[1, 1, 100, 50, 70, 7], [2, 2, 159, 40, 100, 7]],
-        ),
-        (
-            "9 minutes after, two drivers",
-            &[[1, 1, 100, 50, 70, 7], [2, 2, 159, 40, 100, 8]],
-        ),
-        (
-            "one end, the second richer",
-            &[[1, 1, 0, 60, 50, 0], [2, 1, 30, 30, 51, 0]],
-        ),
-        (
-            "one end, equally rich",
-            &[[1, 1, 0, 60, 50, 0], [2, 1, 30, 30, 50, 0]],
-        ),
-        (
-            "one end, poorer by what remains",
-            &[
-                [1, 1, 0, 30, 60, 0],
-                [4, 1, 20, 70, 109, 0],
-                [3, 2, 30, 60, 50, 0],
-            ],
-        ),
-        (
-            "slope, groomer and driver in three groups",
-            &[
-                [1, 1, 3, 1, 5, 1],
-                [1, 2, 3, 2, 5, 0],
-                [2, 1, 3, 2, 5, 2],
-                [3, 3, 3, 3, 5, 1],
-            ],
-        ),
-    ];
-    for (name, turns) in sheets {
-        let sheet = sheet_of(3, 4, turns);
+    for (number, name, rows) in table(PLANS) {
+        let sheet = sheet_of(3, 4, &turns(rows));
         let plan = &TAKERS[3];
         corpus.take(plan, name, &sheet, (plan.needs)(&sheet));
-        corpus.check(0, name, &sheet, &planned(&sheet));
+        corpus.check(number, name, &sheet, &planned(&sheet));
     }
 }
 
-/// A groomer free again while a lower one is not, equal starts, starts that fall,
-/// and more at once than a sheet has groomers.
+/// Starts and lengths: a groomer free again while a lower one is not, equal starts,
+/// and starts that fall.
+const TIMES: &str = "
+0 ten minutes between: 0 90, 10 20, 20 60, 40 10, 60 10
+0 nine minutes between: 0 90, 10 20, 20 60, 39 10, 59 10
+0 equal starts: 5 900, 5 1, 5 30, 0 2
+0 starts that fall: 900 60, 800 90, 700 90, 600 91, 500 89
+";
+
+/// These, and more turns at once than a sheet has groomers.
 fn groomers_for_all(corpus: &mut Corpus) {
-    let lists: [(&str, &[(u16, u16)]); 5] = [
-        (
-            "ten minutes between",
-            &[(0, 90), (10, 20), (20, 60), (40, 10), (60, 10)],
-        ),
-        (
-            "nine minutes between",
-            &[(0, 90), (10, 20), (20, 60), (39, 10), (59, 10)],
-        ),
-        ("equal starts", &[(5, 900), (5, 1), (5, 30), (0, 2)]),
-        (
-            "starts that fall",
-            &[(900, 60), (800, 90), (700, 90), (600, 91), (500, 89)],
-        ),
-        ("17 at once", &[(0, 960); 17]),
-    ];
-    for (name, times) in lists {
-        let turns: Vec<Row> = times
-            .iter()
-            .map(|&(start, length)| [1, 1, start, length, 1, 0])
-            .collect();
-        corpus.take(
-            &TAKERS[2],
-            name,
-            &sheet_of(1, 1, &turns),
-            [turns.len() + 1, 0],
-        );
+    let assign = &TAKERS[2];
+    for (_, name, times) in table(TIMES) {
+        let turn = |time: &Vec<u16>| [1, 1, time[0], time[1], 1, 0];
+        let turns: Vec<Row> = times.iter().map(turn).collect();
+        corpus.take(assign, name, &sheet_of(1, 1, &turns), [turns.len() + 1, 0]);
     }
+    let seventeen = sheet_of(1, 1, &[[1, 1, 0, 960, 1, 0]; 17]);
+    corpus.take(assign, "17 at once", &seventeen, [17, 0]);
 }
 
-/// One turn against two, equal worths, and what is no such sheet.
+/// One turn against two, equal worths, and what is no sheet with one turn a slope.
+const SINGLE: &str = "
+0 ten minutes between: 1 1 0 10 5 0, 2 1 20 10 6 0
+0 nine minutes between: 1 1 0 10 5 0, 2 1 19 11 6 0
+0 one against two: 1 1 0 10 5 0, 2 1 5 20 11 0, 3 1 20 10 5 0
+0 one as good as two: 1 1 0 10 5 0, 2 1 5 20 10 0, 3 1 20 10 5 0
+0 the later end left out: 1 1 5 15 5 0, 2 1 0 10 5 0
+0 the higher number left out: 1 1 5 5 5 0, 2 1 0 10 5 0
+21 a slope twice: 1 1 0 10 5 0, 1 2 500 10 5 0
+21 a driver: 1 1 0 10 5 1
+";
+
 fn one_turn_a_slope(corpus: &mut Corpus) {
-    let sheets: [(u8, &str, &[Row]); 8] = [
-        (
-            0,
-            "ten minutes between",
-            &[[1, 1, 0, 10, 5, 0], [2, 1, 20, 10, 6, 0]],
-        ),
-        (
-            0,
-            "nine minutes between",
-            &[[1, 1, 0, 10, 5, 0], [2, 1, 19, 11, 6, 0]],
-        ),
-        (
-            0,
-            "one against two",
-            &[
-                [1, 1, 0, 10, 5, 0],
-                [2, 1, 5, 20, 11, 0],
-                [3, 1, 20, 10, 5, 0],
-            ],
-        ),
-        (
-            0,
-            "one as good as two",
-            &[
-                [1, 1, 0, 10, 5, 0],
-                [2, 1, 5, 20, 10, 0],
-                [3, 1, 20, 10, 5, 0],
-            ],
-        ),
-        (
-            0,
-            "the later end left out",
-            &[[1, 1, 5, 15, 5, 0], [2, 1, 0, 10, 5, 0]],
-        ),
-        (
-            0,
-            "the higher number left out",
-            &[[1, 1, 5, 5, 5, 0], [2, 1, 0, 10, 5, 0]],
-        ),
-        (
-            21,
-            "a slope twice",
-            &[[1, 1, 0, 10, 5, 0], [1, 2, 500, 10, 5, 0]],
-        ),
-        (21, "a driver", &[[1, 1, 0, 10, 5, 1]]),
-    ];
-    for (number, name, turns) in sheets {
-        let found = corpus.take(&TAKERS[5], name, &sheet_of(2, 9, turns), [0, 2]);
+    for (number, name, rows) in table(SINGLE) {
+        let found = corpus.take(&TAKERS[5], name, &sheet_of(2, 9, &turns(rows)), [0, 2]);
         assert_eq!(found, number, "{name}");
     }
 }
@@ -626,20 +489,16 @@ fn better_with_patience(corpus: &mut Corpus) {
         0,
     );
     improve(0, "no turns", b"GRM\x02\x03\0\0", 0, 0);
-    let better = [
-        [1, 1, 0, 10, 5, 0],
-        [2, 1, 5, 20, 9, 0],
-        [2, 2, 0, 10, 8, 0],
-        [3, 1, 20, 10, 5, 0],
+    // the first turn's step closes the other two, which are worth more together
+    let rows = [
+        [1, 1, 0, 10, 10, 0],
+        [1, 2, 50, 10, 10, 0],
+        [2, 1, 5, 10, 10, 0],
     ];
-    for visits in 0..12 {
-        improve(
-            0,
-            &format!("better than planned, {visits} visits"),
-            &sheet_of(2, 3, &better),
-            visits,
-            1,
-        );
+    let better = sheet_of(2, 3, &rows);
+    for visits in 0..9 {
+        let name = format!("better than planned, {visits} visits");
+        improve(0, &name, &better, visits, 1);
     }
     let on_one_slope = |turns: u16| {
         let row = |turn: u16| [1, 1, 13 * turn, 5, 7 + turn, 0];
@@ -720,8 +579,26 @@ fn kept_forms(corpus: &mut Corpus) {
     );
 }
 
-/// Windows of both kinds, parts that are rounded up, equal plans, touching
-/// windows; each cause that a charging sheet has.
+/// Units and windows of each hall: both kinds, parts that are rounded up, equal
+/// plans, touching windows, and each cause that a window has.
+const HALLS: &str = "
+0 both kinds: 10, 1 5 0 60 100 0, 2 4 30 60 90 0, 1 3 100 20 50 0, 3 6 0 30 70 0, 4 10 20 30 80 0
+0 a part that is whole: 3, 1 1 0 10 9 0, 2 1 5 10 7 0
+0 a part rounded up: 3, 1 1 0 10 10 0, 2 1 5 10 7 0
+0 plans of one worth: 48, 1 48 0 60 50 0, 2 1 0 60 50 0
+0 the large draw worth more: 48, 1 48 0 60 51 0, 2 1 0 60 50 0
+0 large draws that touch: 48, 1 48 0 10 10 0, 2 48 10 10 9 0
+0 half the units is small: 48, 1 24 0 60 10 0, 2 25 0 60 9 0
+0 filled while the units last: 48, 1 24 0 60 10 0, 2 24 0 60 9 0, 3 24 0 60 8 0
+0 a vehicle's windows: 48, 1 1 0 10 10 0, 1 1 5 10 30 0, 1 1 500 10 15 0
+6 vehicle 61, no draw: 10, 61 0 900 61 0 0
+25 no draw: 10, 60 0 900 61 0 0
+25 a draw above the units: 10, 60 11 900 61 0 0
+8 end 961: 10, 60 10 900 61 0 0
+9 worth 0: 10, 60 10 900 60 0 0
+";
+
+/// These halls, and sheets that are none.
 fn charging_halls(corpus: &mut Corpus) {
     let mut charge = |number, name: &str, sheet: &[u8], room| {
         let input = Input {
@@ -734,94 +611,28 @@ fn charging_halls(corpus: &mut Corpus) {
         });
         assert_eq!(found, number, "{name}");
     };
-    let hall = |units: u8, windows: &[Row]| {
+    let mut sheets = table(HALLS).map(|(number, name, mut rows)| {
+        let units = rows.remove(0)[0] as u8;
         let hall = Hall {
             units,
             vehicles: 60,
-            windows: windows.to_vec(),
+            windows: turns(rows),
         };
-        halls::encode(&mut Rng::new(0), &hall, 0).bytes
-    };
-    let five = hall(
-        10,
-        &[
-            [1, 5, 0, 60, 100, 0],
-            [2, 4, 30, 60, 90, 0],
-            [1, 3, 100, 20, 50, 0],
-            [3, 6, 0, 30, 70, 0],
-            [4, 10, 20, 30, 80, 0],
-        ],
-    );
-    charge(0, "both kinds", &five, 2);
-    charge(11, "both kinds, a byte too few", &five, 0);
-    charge(0, "no windows", &hall(1, &[]), 0);
-    let planned: [(&str, u8, &[Row]); 8] = [
-        (
-            "a part that is whole",
-            3,
-            &[[1, 1, 0, 10, 9, 0], [2, 1, 5, 10, 7, 0]],
-        ),
-        (
-            "a part rounded up",
-            3,
-            &[[1, 1, 0, 10, 10, 0], [2, 1, 5, 10, 7, 0]],
-        ),
-        (
-            "plans of one worth",
-            48,
-            &[[1, 48, 0, 60, 50, 0], [2, 1, 0, 60, 50, 0]],
-        ),
-        (
-            "the large draw worth more",
-            48,
-            &[[1, 48, 0, 60, 51, 0], [2, 1, 0, 60, 50, 0]],
-        ),
-        (
-            "large draws that touch",
-            48,
-            &[[1, 48, 0, 10, 10, 0], [2, 48, 10, 10, 9, 0]],
-        ),
-        (
-            "half the units is small",
-            48,
-            &[[1, 24, 0, 60, 10, 0], [2, 25, 0, 60, 9, 0]],
-        ),
-        (
-            "filled while the units last",
-            48,
-            &[
-                [1, 24, 0, 60, 10, 0],
-                [2, 24, 0, 60, 9, 0],
-                [3, 24, 0, 60, 8, 0],
-            ],
-        ),
-        (
-            "a vehicle's windows, once each",
-            48,
-            &[
-                [1, 1, 0, 10, 10, 0],
-                [1, 1, 5, 10, 30, 0],
-                [1, 1, 500, 10, 15, 0],
-            ],
-        ),
-    ];
-    for (name, units, windows) in planned {
-        charge(0, name, &hall(units, windows), 1);
+        let sheet = halls::encode(&mut Rng::new(0), &hall, 0).bytes;
+        (number, name, sheet)
+    });
+    let (_, _, both) = sheets.next().expect("there are halls");
+    charge(0, "both kinds", &both, 2);
+    charge(11, "both kinds, a byte too few", &both, 0);
+    charge(5, "bit 5", &with(&both, 7, &[0x3F]), 1);
+    charge(10, "a byte behind", &[&both[..], &[0]].concat(), 1);
+    for (number, name, sheet) in sheets {
+        charge(number, name, &sheet, 1);
     }
+    charge(0, "no windows", b"GRE\x01\x01\0\0", 0);
     charge(1, "six bytes", b"GRE\x30\x3C\0", 0);
     charge(2, "a sheet", &SHEET, 1);
     charge(3, "49 units", b"GRE\x31\x3C\x01\x91", 0);
     charge(3, "61 vehicles", b"GRE\x30\x3D\x01\x91", 0);
     charge(4, "401 windows", b"GRE\x30\x3C\x01\x91", 0);
-    charge(5, "bit 5", &with(&five, 7, &[0x3F]), 1);
-    charge(10, "a byte behind", &[&five[..], &[0]].concat(), 1);
-    for (number, name, window) in [
-        (6, "vehicle 61, no draw", [61, 0, 900, 61, 0, 0]),
-        (25, "no draw", [60, 0, 900, 61, 0, 0]),
-        (25, "a draw above the units", [60, 11, 900, 61, 0, 0]),
-        (8, "end 961", [60, 10, 900, 61, 0, 0]),
-        (9, "worth 0", [60, 10, 900, 60, 0, 0]),
-    ] {
-        charge(number, name, &hall(10, &[window]), 1);
-    }
 }
