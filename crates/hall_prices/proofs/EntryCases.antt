@@ -25,8 +25,8 @@ use Rattle.price_spec.specs.declared.LimitAnswer.{LimitAnswer}
 use Rattle.price_spec.specs.Limit.{limitIs, limitRefused}
 use Rattle.hall_price_spec.specs.Prices.{hallLimit}
 use Rattle.hall_price_spec.specs.Limit.{chargeLimitCauses, sheetHallLimit, chargeLimitOf}
-use Rattle.hall_prices.specs.declared.HallSize.{HallSize}
-use Rattle.hall_prices.specs.Held.{hallFor, HallPosed}
+use Rattle.hall_look.specs.declared.HallSize.{HallSize}
+use Rattle.hall_look.specs.Look.{hallFor, HallPosed}
 
 -- ---- a sheet that is not refused
 

@@ -1,11 +1,11 @@
 -- The rounds' entry by its cases, each premise in the form in which the code's calls and tests leave it. Assumes nothing.
 use Prim.Native.Nat.{ℕ, _≤_, _<_}
-use mathlib.Core.Path.{_≡_, sym, ap, _∙_}
+use mathlib.Core.Path.{_≡_, refl, sym, ap, _∙_}
 use mathlib.Core.Bool.{Bool, false, cond, _||_}
 use mathlib.Core.List.{List, [], _∷_, _++_}
 use native.Mathlib.Omega.{arith}
 use lib.Dec.{ltb}
-use lib.ListN.{length, take, drop}
+use lib.ListN.{length, take, drop, replicate}
 use lib.Seq.{length-take-le}
 use borrow.Author.Tests.{lt-ltb, le-ltb, ne-eqb}
 use Rattle.lists.proofs.Bools.{or-1, or-2}
@@ -20,6 +20,7 @@ use Rattle.sheet.proofs.Readings.{causes-numbered}
 use Rattle.sheet.proofs.Whole.{whole-refusal-for}
 use Rattle.choice_map.specs.Choice.{mapBytes, choiceIn, mapOf, Clean}
 use Rattle.choice_map.proofs.Clean.{clean-map, map-choice, map-clean}
+use Rattle.instance.specs.Columns.{columnPlaces, turnsBy}
 use Rattle.instance.specs.Load.{PosedFor}
 use Rattle.instance.proofs.Rows.{count-is}
 use Rattle.hall_spec.specs.Hall.{hallGap}
@@ -28,16 +29,18 @@ use Rattle.hall_spec.proofs.Halls.{plan-length}
 use Rattle.hall_spec.specs.Charge.{chargingSheet}
 use Rattle.hall_spec.proofs.ChargingSheets.{charging-sound, charging-given}
 use Rattle.hall.proofs.Charges.{accepted, count}
-use Rattle.refine_spec.specs.Rounds.{Stage}
-use Rattle.price_rounds.specs.declared.lowest.Reached.{Reached}
-use Rattle.price_rounds.specs.Held.{Reaches}
+use Rattle.refine_spec.specs.Rounds.{Rule, Stage, startFrom, refined, firstChange}
+use Rattle.refine_spec.specs.Shift.{greatestWorth}
+use Rattle.price_rule.specs.declared.RuleFor.the-variants.{Hall}
+use Rattle.price_rule.specs.Rules.{sizeOf, pricesOf, changeOf, limitOf, relaxedOf, fitsOf, movedOf, choiceOf, worthOf, ruleOf, RulePosed}
+use Rattle.price_rounds.specs.declared.Reached.{Reached}
+use Rattle.price_rounds.specs.Rounds.{roundsFrom, Reaches, RoundsStart}
 use Rattle.hall_price_spec.specs.declared.ChargeRefineAnswer.{ChargeRefineAnswer}
-use Rattle.hall_price_spec.specs.Hall.{hallStart, hallRefined}
+use Rattle.hall_price_spec.specs.Hall.{hallRule, hallStart, hallRefined}
 use Rattle.hall_price_spec.specs.Refine.{chargeRefineCauses, chargeRefinement, notChargeRefined, chargeRefineOf}
 use Rattle.hall_price_spec.specs.Answer.{chargeRefinedBy, chargeRefineRefused}
-use Rattle.hall_prices.specs.declared.HallSize.{HallSize}
-use Rattle.hall_prices.specs.Held.{hallFor, HallPosed}
-use Rattle.hall_prices.specs.Stages.{roundsFrom, HallStarts}
+use Rattle.hall_look.specs.declared.HallSize.{HallSize}
+use Rattle.hall_look.specs.Look.{hallFor, HallPosed}
 use Rattle.hall_prices.proofs.EntryCases.{own, vehicles-are, hall-posed, hall-for}
 
 -- ---- the rounds from the hall's plan
@@ -52,14 +55,24 @@ module _ (h : HallSize) (cols : List ℕ) {map : List ℕ} (m : map ≡ mapOf (h
   plan-clean : Clean (h .size .count) map
   plan-clean = let c : Clean (length (hallChoice (hallFor h cols))) (mapOf (hallChoice (hallFor h cols))) = map-clean (hallChoice (hallFor h cols)) in rw m (rw plan-size at c)
 
-  pub plan-starts : (rounds : ℕ) (list : List ℕ) {worth : ℕ} → HallPosed h cols → worth ≡ hallWorth (hallFor h cols) → length list ≡ shiftMinutes → HallStarts (record { hall = h; rounds = rounds; worth = worth }) cols list map
-  unfolding hallWorth
-  plan-starts rounds list q w l = record { posed = q; places = l; clean = plan-clean; worth-is = w ∙ ap (worthIn (hallFor h cols)) (sym plan-choice) }
+  pub plan-starts : (rounds : ℕ) (list room : List ℕ) {worth : ℕ} → HallPosed h cols → worth ≡ hallWorth (hallFor h cols) → length list ≡ shiftMinutes → length room ≡ columnPlaces
+      → RoundsStart (record { rule = Hall h; rounds = rounds; worth = worth }) cols list map room
+  unfolding hallWorth worthIn worthOf sizeOf pricesOf RulePosed
+  plan-starts rounds list room q w l p = record { posed = q; prices = l; clean = plan-clean; worth-is = w ∙ ap (worthIn (hallFor h cols)) (sym plan-choice); places = p }
 
-  pub plan-reaches : (rounds : ℕ) {r : Reached} {list map′ : List ℕ} → Reaches (h .size .count) (roundsFrom (hallFor h cols) (h .vehicles) rounds (choiceIn (h .size .count) map)) r list map′
+  -- the rule that the functions compute is the hall's
+  rule-is : ruleOf (Hall h) cols ≡ hallRule (hallFor h cols) (h .vehicles)
+  unfolding ruleOf limitOf relaxedOf fitsOf movedOf choiceOf worthOf sizeOf hallRule worthIn
+  rule-is = refl
+
+  rounds-are : (rounds : ℕ) → roundsFrom (Hall h) cols rounds (hallChoice (hallFor h cols)) ≡ hallRefined (hallFor h cols) (h .vehicles) rounds
+  unfolding roundsFrom changeOf pricesOf hallRefined hallStart greatestWorth
+  rounds-are rounds = ap (λ (R : Rule). refined R rounds (startFrom R (firstChange 8 (greatestWorth (turnsBy (h .size) cols))) (replicate shiftMinutes 0) (hallChoice (hallFor h cols)))) rule-is
+
+  pub plan-reaches : (rounds : ℕ) {r : Reached} {list map′ : List ℕ} → Reaches (sizeOf (Hall h) .count) (roundsFrom (Hall h) cols rounds (choiceIn (sizeOf (Hall h) .count) map)) r list map′
       → Reaches (h .size .count) (hallRefined (hallFor h cols) (h .vehicles) rounds) r list map′
-  unfolding roundsFrom hallRefined hallStart
-  plan-reaches rounds z = rw plan-choice at z
+  unfolding sizeOf
+  plan-reaches rounds z = rw (sym (rounds-are rounds)) (rw plan-choice at z)
 
 pub ruleset plan-cases = (plan-starts, plan-reaches)
 

@@ -1,0 +1,157 @@
+// The rule of rounds as a value, for a shift or for a hall: what no price changes, a look at the prices, the
+// choice made from a relaxed set, how a round moves the prices, and the first change.
+ghost use mathlib.Core.Path.{_≡_};
+ghost use mathlib.Core.Bool.{false};
+ghost use Prim.Native.Nat.{_≤_};
+ghost use lib.ListN.{length, replicate};
+ghost use Rattle.turn.specs.Turn.{mostWorth};
+ghost use Rattle.model.specs.Choice.{chooseEach};
+ghost use Rattle.choice_map.specs.Choice.{choiceIn, Clean};
+ghost use Rattle.instance.specs.Columns.{columnPlaces, turnsBy};
+ghost use Rattle.selection.specs.Asked.{NumbersOf};
+ghost use Rattle.prices.specs.Held.{orderPlaces};
+ghost use Rattle.refine_spec.specs.Selection.{byWorth};
+ghost use Rattle.price_rule.specs.Rules.{sizeOf, pricesOf, changeOf, limitOf, relaxedOf, fitsOf, choiceOf, worthOf, movedOf, RulePosed, Tabled};
+use hall_look::HallSize;
+use hall_steps::Among;
+use instance::PLACES;
+use instance::Size;
+use prices::Extent;
+use prices::ORDERS;
+use prices::look;
+use round_parts::greatest_worth;
+use selection::ASKED;
+
+pub enum RuleFor {
+    Shift(Extent),
+    Hall(HallSize),
+}
+
+// How many turns or windows there are, and the gap between them.
+pub fn size_of(r: RuleFor) -> Size
+    ensures { λ p. ⌜ p ≡ sizeOf r ⌝ }
+{
+    match r {
+        RuleFor::Shift(e) => e.size,
+        RuleFor::Hall(h) => h.size,
+    }
+}
+
+// What no price changes: the orders of a shift's turns. For a hall there is nothing to put down.
+pub fn put_tables(
+    r: RuleFor,
+    cols: &[u16; PLACES],
+    tables: &mut [u16; ORDERS],
+    room: &mut [u16; PLACES],
+)
+    requires { ⌜ RulePosed r (now cols) × (length (now tables) ≡ orderPlaces) × (length (now room) ≡ columnPlaces) ⌝ }
+    ensures { λ _. ⌜ Tabled r (now (cols .entry)) (now (tables .exit)) × (length (now (room .exit)) ≡ columnPlaces) ⌝ }
+{
+    if let RuleFor::Shift(e) = r {
+        prices::put_orders(e, cols, &mut *tables, &mut *room);
+    }
+}
+
+// The change of the first round.
+pub fn first_change(r: RuleFor, cols: &[u16; PLACES]) -> u32
+    requires { ⌜ RulePosed r (now cols) ⌝ }
+    ensures { λ c. ⌜ (c ≡ changeOf r (now (cols .entry))) × (c ≤ mostWorth) ⌝ }
+{
+    match r {
+        RuleFor::Shift(e) => (greatest_worth(e.size, cols) + 3) / 4,
+        RuleFor::Hall(h) => (greatest_worth(h.size, cols) + 7) / 8,
+    }
+}
+
+// The limit at some prices, and their relaxed set into a map that has none chosen.
+pub fn look_at(
+    r: RuleFor,
+    cols: &[u16; PLACES],
+    tables: &[u16; ORDERS],
+    prices: &[u16],
+    relaxed: &mut [u8],
+) -> u32
+    requires { ⌜ RulePosed r (now cols) × Tabled r (now cols) (now tables) × (length (now prices) ≡ pricesOf r) ⌝ }
+    requires { ⌜ Clean (sizeOf r .count) (now relaxed) × (choiceIn (sizeOf r .count) (now relaxed) ≡ replicate (sizeOf r .count) false) ⌝ }
+    ensures { λ x. ⌜ x ≡ limitOf r (now (cols .entry)) (now (prices .entry)) ⌝ }
+    ensures { λ _. ⌜ Clean (sizeOf r .count) (now (relaxed .exit))
+        × (choiceIn (sizeOf r .count) (now (relaxed .exit)) ≡ relaxedOf r (now (cols .entry)) (now (prices .entry))) ⌝ }
+{
+    match r {
+        RuleFor::Shift(e) => look(e, cols, tables, prices, &mut *relaxed),
+        RuleFor::Hall(h) => hall_look::look_at(h, cols, prices, &mut *relaxed),
+    }
+}
+
+// Chooses from a list of numbers, from its last to its first, each that fits, into a map that has none chosen.
+fn choose_listed(
+    r: RuleFor,
+    cols: &[u16; PLACES],
+    list: &[u16],
+    map: &mut [u8],
+    room: &mut [u16; PLACES],
+)
+    requires { ⌜ RulePosed r (now cols) × NumbersOf (sizeOf r .count) (now list) × (length (now room) ≡ columnPlaces) ⌝ }
+    requires { ⌜ Clean (sizeOf r .count) (now map) × (choiceIn (sizeOf r .count) (now map) ≡ replicate (sizeOf r .count) false) ⌝ }
+    ensures { λ _. ⌜ choiceIn (sizeOf r .count) (now (map .exit))
+        ≡ chooseEach (fitsOf r (now (cols .entry))) (now (list .entry)) (replicate (sizeOf r .count) false) ⌝ }
+    ensures { λ _. ⌜ Clean (sizeOf r .count) (now (map .exit)) × (length (now (room .exit)) ≡ columnPlaces) ⌝ }
+{
+    match r {
+        RuleFor::Shift(e) => selection::choose_each(e.size, cols, list, &mut *map, &mut *room),
+        RuleFor::Hall(h) => {
+            let p = h.size;
+            let all = Among {
+                units: h.units,
+                size: p,
+                wide: false,
+            };
+            hall::choose_listed(all, cols, list, &mut *map);
+        }
+    }
+}
+
+// The choice made from a relaxed set, into a map that has none chosen; returns what it is worth. The room is
+// for what is put down on the way.
+pub fn choose_from(
+    r: RuleFor,
+    cols: &[u16; PLACES],
+    ranks: &[u16],
+    relaxed: &[u8],
+    map: &mut [u8],
+    room: &mut [u16; PLACES],
+) -> u32
+    requires { ⌜ RulePosed r (now cols) × (now ranks ≡ byWorth (turnsBy (sizeOf r) (now cols))) × Clean (sizeOf r .count) (now relaxed) ⌝ }
+    requires { ⌜ Clean (sizeOf r .count) (now map) × (choiceIn (sizeOf r .count) (now map) ≡ replicate (sizeOf r .count) false) ⌝ }
+    requires { ⌜ length (now room) ≡ columnPlaces ⌝ }
+    ensures { λ x. ⌜ x ≡ worthOf r (now (cols .entry)) (choiceOf r (now (cols .entry)) (choiceIn (sizeOf r .count) (now (relaxed .entry)))) ⌝ }
+    ensures { λ _. ⌜ choiceIn (sizeOf r .count) (now (map .exit)) ≡ choiceOf r (now (cols .entry)) (choiceIn (sizeOf r .count) (now (relaxed .entry))) ⌝ }
+    ensures { λ _. ⌜ Clean (sizeOf r .count) (now (map .exit)) × (length (now (room .exit)) ≡ columnPlaces) ⌝ }
+{
+    let mut numbers = [0u16; ASKED];
+    let count = round_parts::put_list(ranks, relaxed, &mut numbers);
+    choose_listed(r, cols, &numbers[..count], &mut *map, &mut *room);
+    selection::chosen_worth(size_of(r), cols, &*map)
+}
+
+// Moves the prices by a relaxed set.
+pub fn move_prices(
+    r: RuleFor,
+    cols: &[u16; PLACES],
+    tables: &[u16; ORDERS],
+    relaxed: &[u8],
+    change: u32,
+    prices: &mut [u16],
+)
+    requires { ⌜ RulePosed r (now cols) × Tabled r (now cols) (now tables) × (length (now prices) ≡ pricesOf r) ⌝ }
+    requires { ⌜ Clean (sizeOf r .count) (now relaxed) × (change ≤ mostWorth) ⌝ }
+    ensures { λ _. ⌜ now (prices .exit)
+        ≡ movedOf r (now (cols .entry)) (choiceIn (sizeOf r .count) (now (relaxed .entry))) change (now (prices .entry)) ⌝ }
+{
+    match r {
+        RuleFor::Shift(e) => {
+            shift_moves::move_prices(e, cols, tables, relaxed, change, &mut *prices);
+        }
+        RuleFor::Hall(h) => hall_moves::move_minutes(h, cols, relaxed, change, &mut *prices),
+    }
+}

@@ -1,0 +1,12 @@
+// What rounds are made of, whatever their rule: the turns by worth, the list that a choice is made from, the
+// lowest limit, the change.
+mod change;
+mod lowest;
+mod ranking;
+
+pub use change::greatest_worth;
+pub use change::next_change;
+pub use lowest::is_over;
+pub use lowest::keep_lower;
+pub use ranking::put_list;
+pub use ranking::put_ranks;
