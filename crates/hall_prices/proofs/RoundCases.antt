@@ -40,7 +40,7 @@ use Rattle.hall_prices.specs.Stages.{windowsMade, roundsFrom, SetKept, H
 -- ---- the choice made from a relaxed set
 
 module _ (h : HallSize) (cols : List ℕ) (q : HallPosed h cols) where
-  pub posed-among : HallHeld (record { units = h .units; size = h .size; wide = false }) cols
+  pub posed-among : HallHeld (h .units) (h .size) cols
   posed-among = q .held
 
   pub posed-held : Held (h .size) cols

@@ -8,7 +8,8 @@ use Rattle.turn.specs.Turn.{shiftMinutes, mostWorth}
 use Rattle.sheet.specs.Kind.{mostTurns}
 use Rattle.instance.specs.declared.ways.Row.{Row}
 use Rattle.hall_spec.specs.Hall.{mostUnits, mostVehicles, Hall}
-use Rattle.hall.specs.OneKind.{hallIn, HeldHall}
+use Rattle.shares.specs.Taking.{hallBy}
+use Rattle.hall_steps.specs.Bounds.{HallHeld}
 use Rattle.hall_price_spec.specs.Prices.{priceParts, minutePrice, windowCounts, richestOf, vehicleBest}
 use Rattle.hall_prices.specs.declared.HallSize.{HallSize}
 
@@ -26,7 +27,7 @@ vehiclePlaces = mostVehicles + 1
 
 -- the hall in the columns
 abbrev pub hallFor : HallSize → List ℕ → Hall
-hallFor h cols = hallIn (h .units) (h .size) cols
+hallFor h cols = hallBy (h .units) (h .size) cols
 
 -- the prices of the minutes before m together
 unfoldable pub pricesBelow : List ℕ → ℕ → ℕ
@@ -57,7 +58,7 @@ windowBefore (suc t) = t ∷ []
 
 -- the columns hold the windows of a hall with so many vehicles
 pub record HallPosed (h : HallSize) (cols : List ℕ) : Type 0 where
-  pub held : HeldHall (h .units) (h .size) cols
+  pub held : HallHeld (h .units) (h .size) cols
   pub vehicles : h .vehicles ≤ mostVehicles
 
 -- the sums of the prices
