@@ -9,7 +9,8 @@ use Rattle.sheet.specs.Kind.{mostTurns}
 use Rattle.choice_map.specs.Choice.{withTurn}
 use Rattle.instance.specs.declared.ways.Row.{Row}
 use Rattle.hall_spec.specs.Hall.{mostUnits, mostVehicles, Hall}
-use Rattle.hall.specs.OneKind.{hallIn, HeldHall}
+use Rattle.shares.specs.Taking.{hallBy}
+use Rattle.hall_steps.specs.Bounds.{HallHeld}
 use Rattle.hall_price_spec.specs.Prices.{priceParts, minutePrice, windowCounts, richestOf, vehicleBest}
 use Rattle.hall_look.specs.declared.HallSize.{HallSize}
 
@@ -27,7 +28,7 @@ vehiclePlaces = mostVehicles + 1
 
 -- the hall in the columns
 abbrev pub hallFor : HallSize → List ℕ → Hall
-hallFor h cols = hallIn (h .units) (h .size) cols
+hallFor h cols = hallBy (h .units) (h .size) cols
 
 -- the prices of the minutes before m together
 unfoldable pub pricesBelow : List ℕ → ℕ → ℕ
@@ -63,7 +64,7 @@ withBefore (suc t) map = withTurn map t
 
 -- the columns hold the windows of a hall with so many vehicles
 pub record HallPosed (h : HallSize) (cols : List ℕ) : Type 0 where
-  pub held : HeldHall (h .units) (h .size) cols
+  pub held : HallHeld (h .units) (h .size) cols
   pub vehicles : h .vehicles ≤ mostVehicles
 
 -- the sums of the prices

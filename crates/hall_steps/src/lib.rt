@@ -1,8 +1,7 @@
-// The engine's first half for the charging hall: the windows of one kind as turns in columns, what a
-// step on a small window takes, and the steps of either kind.
+// The engine's first half for the charging hall: the windows of one kind as turns in columns, and the steps
+// of either kind.
 mod among;
 mod running;
-mod taking;
 
 pub use among::Among;
 pub use among::is_of_kind;

@@ -134,7 +134,7 @@ module _ (r : RuleFor) (h : HallSize) (g : r ≡ Hall h) where
       pub hall-held : Held (h .size) cols
       hall-held = hall-posed .held .held
 
-      pub hall-among : HallHeld (record { units = h .units; size = h .size; wide = false }) cols
+      pub hall-among : HallHeld (h .units) (h .size) cols
       hall-among = hall-posed .held
 
     pub hall-tabled : (tables : List ℕ) → length tables ≡ orderPlaces → Tabled r cols tables
