@@ -12,19 +12,18 @@ use Rattle.lists.specs.Lists.{tab}
 use Rattle.lists.proofs.Sums.{tab-length}
 use Rattle.refusal.specs.Written.{Written}
 use Rattle.sheet.specs.declared.answer.ReadAnswer.{ReadAnswer}
-use Rattle.sheet.specs.Read.{Outcome, outcome}
+use Rattle.sheet.specs.Read.{Reading}
 use Rattle.write_spec.specs.Write.{countsOf, writeOf}
 use Rattle.trial_spec.specs.Trial.{drawOf}
 use Rattle.board_open.specs.Open.{openOf, stepsPart}
 use Rattle.check_spec.specs.declared.CheckAnswer.{CheckAnswer}
 use Rattle.check_spec.specs.Check.{checkOf}
 use Rattle.assign_spec.specs.declared.PartitionAnswer.{PartitionAnswer}
-use Rattle.assign_spec.specs.Partition.{Partition, partitioned, partitionOf}
+use Rattle.assign_spec.specs.Partition.{partitionOf}
 use Rattle.best_spec.specs.Exact.{Earned}
 use Rattle.search_spec.specs.Improve.{Improvement, improveOf}
 use Rattle.hall_spec.specs.Charge.{Charged}
 use Rattle.search_spec.specs.declared.Improved.{Improved}
-use Rattle.search_spec.specs.Answer.{improved}
 use Rattle.corpus.specs.declared.tools.Counts.{Counts}
 use Rattle.corpus.specs.declared.tools.Draw.{Draw}
 use Rattle.corpus.specs.declared.entries.Line.{Line}
@@ -32,6 +31,10 @@ use Rattle.corpus.specs.declared.entries.ReadLine.{ReadLine}
 use Rattle.corpus.specs.declared.entries.CheckLine.{CheckLine}
 use Rattle.corpus.specs.declared.entries.ImproveLine.{ImproveLine}
 use Rattle.corpus.specs.Line.{numberOr, longHeld, countsHeld, drawHeld, drawnBy, unpacked, heldBefore, mixed, sumFrom, sumOf, writtenLine, readLine, partitionLine, earnedLine, checkLine, improvedLine, chargedLine}
+use Rattle.refusal.specs.Outcome.{beside, Outcome}
+use Rattle.refusal.specs.declared.WriteAnswer.{WriteAnswer}
+use Rattle.best_spec.specs.declared.BestAnswer.{BestAnswer}
+use Rattle.hall_spec.specs.declared.ChargeAnswer.{ChargeAnswer}
 
 -- ---- a number that may not be there
 
@@ -143,8 +146,8 @@ pub held-draw : (bytes : List ℕ) {s a b c : ℕ} → s ≡ longHeld bytes → 
 unfolding drawHeld
 held-draw bytes e f g h = rw (e, f, g, h)
 
-module _ (w : Written) {a b : ℕ} {l : List ℕ} (e : _≡_ {A = Written} (record { refusal = a; bytes = b; lent = l }) w) where
-  pub line-is : {sum : ℕ} → sum ≡ sumOf l → _≡_ {A = Line} (record { refusal = a; value = b; last = sum }) (writtenLine w)
+module _ (w : Written) {a : WriteAnswer} {l : List ℕ} (e : beside a l ≡ w) where
+  pub line-is : {sum : ℕ} → sum ≡ sumOf l → _≡_ {A = Line} (record { refusal = a .refusal; value = a .bytes; last = sum }) (writtenLine w)
   unfolding writtenLine
   line-is s = rw (s, ← e)
 
@@ -152,32 +155,32 @@ module _ (w : Written) {a b : ℕ} {l : List ℕ} (e : _≡_ {A = Written} (reco
   lent-is = ap (λ (x : Written). x .lent) e
 
 -- of any reader's outcome
-module _ (o : Outcome) {a : ReadAnswer} {t : List ℕ} (e : outcome a t ≡ o) where
+module _ (o : Reading) {a : ReadAnswer} {t : List ℕ} (e : beside a t ≡ o) where
   pub read-line : {sum : ℕ} → sum ≡ sumOf t → _≡_ {A = ReadLine} (record { refusal = a .refusal; groomers = a .groomers; slopes = a .slopes; turns = a .turns; last = sum }) (readLine o)
   unfolding readLine
   read-line f = rw (f, ← e)
 
-  pub read-table : t ≡ o .table
-  read-table = ap (λ (o : Outcome). o .table) e
+  pub read-table : t ≡ o .lent
+  read-table = ap (λ (o : Reading). o .lent) e
 
-module _ (s lent : List ℕ) {a : PartitionAnswer} {l : List ℕ} (e : partitioned a l ≡ partitionOf s lent) where
+module _ (s lent : List ℕ) {a : PartitionAnswer} {l : List ℕ} (e : beside a l ≡ partitionOf s lent) where
   pub partition-line : {sum : ℕ} → sum ≡ sumOf l → _≡_ {A = Line} (record { refusal = a .refusal; value = a .groomers; last = sum }) (partitionLine (partitionOf s lent))
   unfolding partitionLine
   partition-line f = rw (f, ← e)
 
-  pub partition-places : l ≡ partitionOf s lent .places
-  partition-places = ap (λ (o : Partition). o .places) e
+  pub partition-places : l ≡ partitionOf s lent .lent
+  partition-places = ap (λ (o : Outcome PartitionAnswer (List ℕ)). o .lent) e
 
-module _ (o : Earned) {a b : ℕ} {l : List ℕ} (e : _≡_ {A = Earned} (record { refusal = a; worth = b; lent = l }) o) where
-  pub earned-line : {sum : ℕ} → sum ≡ sumOf l → _≡_ {A = Line} (record { refusal = a; value = b; last = sum }) (earnedLine o)
+module _ (o : Earned) {a : BestAnswer} {l : List ℕ} (e : beside a l ≡ o) where
+  pub earned-line : {sum : ℕ} → sum ≡ sumOf l → _≡_ {A = Line} (record { refusal = a .refusal; value = a .worth; last = sum }) (earnedLine o)
   unfolding earnedLine
   earned-line s = rw (s, ← e)
 
   pub earned-lent : l ≡ o .lent
   earned-lent = ap (λ (x : Earned). x .lent) e
 
-module _ (o : Charged) {a b : ℕ} {l : List ℕ} (e : _≡_ {A = Charged} (record { refusal = a; worth = b; lent = l }) o) where
-  pub charged-line : {sum : ℕ} → sum ≡ sumOf l → _≡_ {A = Line} (record { refusal = a; value = b; last = sum }) (chargedLine o)
+module _ (o : Charged) {a : ChargeAnswer} {l : List ℕ} (e : beside a l ≡ o) where
+  pub charged-line : {sum : ℕ} → sum ≡ sumOf l → _≡_ {A = Line} (record { refusal = a .refusal; value = a .worth; last = sum }) (chargedLine o)
   unfolding chargedLine
   charged-line s = rw (s, ← e)
 
@@ -185,8 +188,8 @@ module _ (o : Charged) {a b : ℕ} {l : List ℕ} (e : _≡_ {A = Charged} (reco
   charged-lent = ap (λ (x : Charged). x .lent) e
 
 -- of any limit of visits that the input gives
-module _ (limit sheet lent : List ℕ) {v : ℕ} (f : v ≡ longHeld limit) {a : Improved} {l : List ℕ} (e : improved a l ≡ improveOf sheet v lent) where
-  same-limit : improved a l ≡ improveOf sheet (longHeld limit) lent
+module _ (limit sheet lent : List ℕ) {v : ℕ} (f : v ≡ longHeld limit) {a : Improved} {l : List ℕ} (e : beside a l ≡ improveOf sheet v lent) where
+  same-limit : beside a l ≡ improveOf sheet (longHeld limit) lent
   same-limit = rw f at e
 
   pub improved-line : {sum : ℕ} → sum ≡ sumOf l
@@ -206,22 +209,22 @@ pub check-line : (s b : List ℕ) {a : CheckAnswer} → a ≡ checkOf s b → _�
 unfolding checkLine
 check-line s b e = rw e
 
-module _ (counts table lent : List ℕ) {c : Counts} (f : c ≡ countsHeld counts) {a b : ℕ} {l : List ℕ} (e : _≡_ {A = Written} (record { refusal = a; bytes = b; lent = l }) (writeOf (countsOf (c .groomers) (c .slopes)) table lent)) where
-  same : _≡_ {A = Written} (record { refusal = a; bytes = b; lent = l }) (writeOf (countsOf (countsHeld counts .groomers) (countsHeld counts .slopes)) table lent)
+module _ (counts table lent : List ℕ) {c : Counts} (f : c ≡ countsHeld counts) {a : WriteAnswer} {l : List ℕ} (e : beside a l ≡ (writeOf (countsOf (c .groomers) (c .slopes)) table lent)) where
+  same : beside a l ≡ (writeOf (countsOf (countsHeld counts .groomers) (countsHeld counts .slopes)) table lent)
   same = rw f at e
 
-  pub write-line : {sum : ℕ} → sum ≡ sumOf l → _≡_ {A = Line} (record { refusal = a; value = b; last = sum }) (writtenLine (writeOf (countsOf (countsHeld counts .groomers) (countsHeld counts .slopes)) table lent))
+  pub write-line : {sum : ℕ} → sum ≡ sumOf l → _≡_ {A = Line} (record { refusal = a .refusal; value = a .bytes; last = sum }) (writtenLine (writeOf (countsOf (countsHeld counts .groomers) (countsHeld counts .slopes)) table lent))
   write-line s = line-is (writeOf (countsOf (countsHeld counts .groomers) (countsHeld counts .slopes)) table lent) same s
 
   pub write-lent : l ≡ writeOf (countsOf (countsHeld counts .groomers) (countsHeld counts .slopes)) table lent .lent
   write-lent = lent-is (writeOf (countsOf (countsHeld counts .groomers) (countsHeld counts .slopes)) table lent) same
 
-module _ (asked lent : List ℕ) {d : Draw} (f : d ≡ drawHeld asked) {a b : ℕ} {l : List ℕ} (e : _≡_ {A = Written} (record { refusal = a; bytes = b; lent = l }) (drawOf (d .seed) (countsOf (d .groomers) (d .slopes)) (d .turns) lent)) where
-  drawn : _≡_ {A = Written} (record { refusal = a; bytes = b; lent = l }) (drawnBy (drawHeld asked) lent)
+module _ (asked lent : List ℕ) {d : Draw} (f : d ≡ drawHeld asked) {a : WriteAnswer} {l : List ℕ} (e : beside a l ≡ (drawOf (d .seed) (countsOf (d .groomers) (d .slopes)) (d .turns) lent)) where
+  drawn : beside a l ≡ (drawnBy (drawHeld asked) lent)
   unfolding drawnBy
   drawn = rw f at e
 
-  pub draw-line : {sum : ℕ} → sum ≡ sumOf l → _≡_ {A = Line} (record { refusal = a; value = b; last = sum }) (writtenLine (drawnBy (drawHeld asked) lent))
+  pub draw-line : {sum : ℕ} → sum ≡ sumOf l → _≡_ {A = Line} (record { refusal = a .refusal; value = a .bytes; last = sum }) (writtenLine (drawnBy (drawHeld asked) lent))
   draw-line s = line-is (drawnBy (drawHeld asked) lent) drawn s
 
   pub draw-lent : l ≡ drawnBy (drawHeld asked) lent .lent

@@ -7,10 +7,11 @@ use lib.Dec.{ltb}
 use Rattle.wire.specs.Number.{valueAt}
 use Rattle.lists.specs.Lists.{tab}
 use Rattle.refusal.specs.Written.{Written}
-use Rattle.sheet.specs.Read.{Outcome}
+use Rattle.sheet.specs.Read.{Reading}
 use Rattle.turn.specs.Turn.{countsOf}
 use Rattle.trial_spec.specs.Trial.{drawOf}
-use Rattle.assign_spec.specs.Partition.{Partition}
+use Rattle.assign_spec.specs.declared.PartitionAnswer.{PartitionAnswer}
+use Rattle.refusal.specs.Outcome.{Outcome}
 use Rattle.best_spec.specs.Exact.{Earned}
 use Rattle.search_spec.specs.Improve.{Improvement}
 use Rattle.hall_spec.specs.Charge.{Charged}
@@ -71,28 +72,28 @@ sumOf vs = sumFrom 1 vs
 
 -- the line of an entry that writes bytes: the refusal, the bytes written, the checksum of what was lent
 unfoldable pub writtenLine : Written → Line
-writtenLine w = record { refusal = w .refusal; value = w .bytes; last = sumOf (w .lent) }
+writtenLine w = record { refusal = w .answer .refusal; value = w .answer .bytes; last = sumOf (w .lent) }
 
 -- the reader's line: the refusal, the counts, the checksum of the lent table
-unfoldable pub readLine : Outcome → ReadLine
-readLine o = record { refusal = o .answer .refusal; groomers = o .answer .groomers; slopes = o .answer .slopes; turns = o .answer .turns; last = sumOf (o .table) }
+unfoldable pub readLine : Reading → ReadLine
+readLine o = record { refusal = o .answer .refusal; groomers = o .answer .groomers; slopes = o .answer .slopes; turns = o .answer .turns; last = sumOf (o .lent) }
 
 -- the check's line: the refusal, and the three sums
 unfoldable pub checkLine : CheckAnswer → CheckLine
 checkLine a = record { refusal = a .refusal; tally = a .tally; worth = a .worth; ceiling = a .ceiling }
 
 -- the line of the groomers for all turns: the refusal, how many are used, the checksum of the lent places
-unfoldable pub partitionLine : Partition → Line
-partitionLine o = record { refusal = o .answer .refusal; value = o .answer .groomers; last = sumOf (o .places) }
+unfoldable pub partitionLine : Outcome PartitionAnswer (List ℕ) → Line
+partitionLine o = record { refusal = o .answer .refusal; value = o .answer .groomers; last = sumOf (o .lent) }
 
 -- the line of the best worth: the refusal, the worth, the checksum of the lent map
 unfoldable pub earnedLine : Earned → Line
-earnedLine o = record { refusal = o .refusal; value = o .worth; last = sumOf (o .lent) }
+earnedLine o = record { refusal = o .answer .refusal; value = o .answer .worth; last = sumOf (o .lent) }
 
 -- the line of the search: the refusal, whether it ran whole, the worth, the ceiling less the worth, the visits, the checksum of the lent map
 unfoldable pub improvedLine : Improvement → ImproveLine
-improvedLine o = record { refusal = o .refusal; whole = o .whole; worth = o .worth; above = o .above; visits = o .visits; last = sumOf (o .lent) }
+improvedLine o = record { refusal = o .answer .refusal; whole = o .answer .whole; worth = o .answer .worth; above = o .answer .above; visits = o .answer .visits; last = sumOf (o .lent) }
 
 -- the line of a hall's plan: the refusal, the worth, the checksum of the lent map
 unfoldable pub chargedLine : Charged → Line
-chargedLine o = record { refusal = o .refusal; value = o .worth; last = sumOf (o .lent) }
+chargedLine o = record { refusal = o .answer .refusal; value = o .answer .worth; last = sumOf (o .lent) }

@@ -57,7 +57,7 @@ pub struct ImproveLine {
 // Reading a sheet into the lent table.
 pub fn read(sheet: &[u8], table: &mut [u16]) -> ReadLine
     ensures { λ r. ⌜ (r ≡ readLine (readOf (now (sheet .entry)) (now (table .entry))))
-        × (now (table .exit) ≡ readOf (now (sheet .entry)) (now (table .entry)) .table) ⌝ }
+        × (now (table .exit) ≡ readOf (now (sheet .entry)) (now (table .entry)) .lent) ⌝ }
 {
     let answer = sheet_read::read(sheet, &mut *table);
     ReadLine {
@@ -72,7 +72,7 @@ pub fn read(sheet: &[u8], table: &mut [u16]) -> ReadLine
 // Reading a sheet for the short screen, likewise.
 pub fn short(sheet: &[u8], table: &mut [u16]) -> ReadLine
     ensures { λ r. ⌜ (r ≡ readLine (readShortOf (now (sheet .entry)) (now (table .entry))))
-        × (now (table .exit) ≡ readShortOf (now (sheet .entry)) (now (table .entry)) .table) ⌝ }
+        × (now (table .exit) ≡ readShortOf (now (sheet .entry)) (now (table .entry)) .lent) ⌝ }
 {
     let answer = sheet_read_short::read_short(sheet, &mut *table);
     ReadLine {
@@ -188,7 +188,7 @@ pub fn list(sheet: &[u8], text: &mut [u8]) -> Line
 // The groomers of all turns of a sheet, into the lent places.
 pub fn assign(sheet: &[u8], places: &mut [u16]) -> Line
     ensures { λ r. ⌜ (r ≡ partitionLine (partitionOf (now (sheet .entry)) (now (places .entry))))
-        × (now (places .exit) ≡ partitionOf (now (sheet .entry)) (now (places .entry)) .places) ⌝ }
+        × (now (places .exit) ≡ partitionOf (now (sheet .entry)) (now (places .entry)) .lent) ⌝ }
 {
     let answer = assign::assign(sheet, &mut *places);
     Line {

@@ -14,25 +14,22 @@ use Rattle.refusal.specs.Cause.{Cause, _when_, firstOf}
 use Rattle.refusal.proofs.Order.{first-stops, first-goes}
 use Rattle.wire.specs.Number.{bytesOf, puts}
 use Rattle.wire.proofs.Puts.{puts-length}
-use Rattle.turn.specs.Turn.{mostDriver}
 use Rattle.model.specs.Turns.{Turns}
 use Rattle.model.specs.Choice.{chosen, choice}
 use Rattle.sheet.specs.declared.answer.ReadAnswer.{ReadAnswer}
-use Rattle.sheet.specs.Kind.{mostTurns, garage}
-use Rattle.sheet.specs.Read.{countsIn, turnCount, sheetCauses, answerOf}
-use Rattle.sheet.proofs.SoundKinds.{garage-sound}
+use Rattle.sheet.specs.Kind.{mostTurns}
+use Rattle.sheet.specs.Read.{countsIn, turnCount, sheetCauses}
 use Rattle.sheet.proofs.Readings.{sheet-numbered}
 use Rattle.sheet.proofs.Unrefused.{few-slopes, few-groomers}
-use Rattle.sheet.proofs.Whole.{whole-refusal, whole-accepted, whole-answer, whole-turns}
 use Rattle.best_spec.specs.Table.{bestWorth, bestChoice}
 use Rattle.choice_map.specs.Choice.{mapBytes, choiceIn, mapOf, Clean}
 use Rattle.choice_map.proofs.Clean.{choice-length, clean-map}
 use Rattle.board.specs.Board.{worthPlace, boardHeader, boardLength}
 use Rattle.instance.specs.declared.columns.Size.{Size}
 use Rattle.instance.specs.Columns.{turnsBy, Held}
-use Rattle.instance_spec.specs.Problem.{problemOf, shiftGap, sheetTurns}
-use Rattle.instance.specs.Load.{shiftSize, Posed}
-use Rattle.instance_spec.proofs.SheetTurns.{sheet-range-for, sheet-count, sheet-slopes, sheet-groomers}
+use Rattle.instance_spec.specs.Problem.{sheetTurns}
+use Rattle.instance.specs.Load.{shiftSize, Loaded}
+use Rattle.instance_spec.proofs.SheetTurns.{sheet-count, sheet-slopes, sheet-groomers, sheet-drivers}
 use Rattle.instance.proofs.Rows.{count-is}
 use Rattle.selection.proofs.Unchosen.{zeros-size}
 use Rattle.plan_spec.specs.Plan.{boardFor}
@@ -54,6 +51,7 @@ use Rattle.refine.specs.declared.rounds.Reached.{Reached}
 use Rattle.refine.specs.Stages.{tableRule, tableRefined, choiceMade, choiceWorth, PlannedIn, Reaches}
 use Rattle.refine_spec.specs.Answer.{refinedBy, refineRefused}
 use Rattle.refine.proofs.BoardCases.{changed-size, board-changed}
+use Rattle.instance.proofs.Posed.{loaded-held, loaded-turns}
 
 -- ---- the rule by one table over all turns is the shift's
 
@@ -143,7 +141,7 @@ pub ruleset written-cases = (map-given, list-within, start-worth, write-room, re
 pub refine-room : (n : ℕ) (board : List ℕ) {p : Size} {size : ℕ} → p ≡ shiftSize n → size ≡ boardLength n n → size ≤ length board → boardLength (p .count) (p .count) ≤ length board
 refine-room n board q h l = rw q (omega (arith, h))
 
-module _ (s : List ℕ) (rounds : ℕ) (board prices : List ℕ) {r : ReadAnswer} (g : r ≡ answerOf s) where
+module _ (s cols : List ℕ) (rounds : ℕ) (board prices : List ℕ) {r : ReadAnswer} (g : Loaded s r cols) where
   abbrev after : List Cause
   after = bufferTooSmall when (ltb (length board) (boardLength (turnCount s) (turnCount s)) || ltb (length prices) (priceCount s)) ∷ []
 
@@ -153,17 +151,17 @@ module _ (s : List ℕ) (rounds : ℕ) (board prices : List ℕ) {r : ReadAnswer
 
   pub refine-fault : {x : RefineAnswer} → (r .refusal ≡ 0 → ⊥) → x ≡ refineRefused (r .refusal) → refinedBy x board prices ≡ refineOf s rounds board prices
   unfolding refineCauses
-  refine-fault f h = rw h (sym (declines (r .refusal) (first-stops (sheetCauses s) after (r .refusal) (sym (whole-refusal s g)) f) f))
+  refine-fault f h = rw h (sym (declines (r .refusal) (first-stops (sheetCauses s) after (r .refusal) (sym (g .refusal)) f) f))
 
   module _ (f : r .refusal ≡ 0) where
     sound : firstOf (sheetCauses s) ≡ 0
-    sound = whole-accepted s g f
+    sound = g .posed f .sound
 
     turns-are : r .turns ≡ turnCount s
-    turns-are = whole-turns s g f
+    turns-are = g .posed f .count
 
     slopes-are : r .slopes ≡ countsIn s .slopes
-    slopes-are = ap (λ (x : ReadAnswer). x .slopes) (whole-answer s g f)
+    slopes-are = g .posed f .slopes
 
     later : {b : Bool} → (ltb (length board) (boardLength (turnCount s) (turnCount s)) || ltb (length prices) (priceCount s)) ≡ b → firstOf (refineCauses s (length board) (length prices)) ≡ cond b bufferTooSmall 0
     unfolding refineCauses firstOf
@@ -175,18 +173,15 @@ module _ (s : List ℕ) (rounds : ℕ) (board prices : List ℕ) {r : ReadAnswer
     pub refine-few : {x : RefineAnswer} → x ≡ refineRefused bufferTooSmall → length prices < r .slopes + r .turns → refinedBy x board prices ≡ refineOf s rounds board prices
     refine-few h l = rw h (sym (declines bufferTooSmall (later (or-2 (ltb (length board) (boardLength (turnCount s) (turnCount s))) (ltb (length prices) (priceCount s)) (lt-ltb (length prices) (priceCount s) (omega (arith, slopes-are, turns-are))))) (omega arith)))
 
-    module _ (cols : List ℕ) {p : Size} (w : r .refusal ≡ 0 → Posed s cols) (q : p ≡ shiftSize (r .turns)) where
-      size-is : p ≡ shiftSize (turnCount s)
-      size-is = q ∙ ap shiftSize turns-are
-
+    module _ {p : Size} (q : p ≡ shiftSize (r .turns)) where
       count-same : p .count ≡ r .turns
       count-same = ap (λ (x : Size). x .count) q
 
-      pub refine-held : Held p cols
-      refine-held = rw size-is (w f .held)
+      held : Held p cols
+      held = loaded-held s cols g f q
 
       posed : turnsBy p cols ≡ sheetTurns s
-      posed = rw size-is (w f .turns)
+      posed = loaded-turns s cols g f q
 
       inside : (t : ℕ) → t < p .count → t < turnCount s
       inside t h = omega (arith, count-same, turns-are)
@@ -194,19 +189,15 @@ module _ (s : List ℕ) (rounds : ℕ) (board prices : List ℕ) {r : ReadAnswer
       pub refine-ranged : Ranged p cols
       refine-ranged = record { groomers = λ t h. rw posed (omega (arith, sheet-groomers s sound t (inside t h), few-groomers s sound)) }
 
-      sheet-drivers : (t : ℕ) → t < turnCount s → sheetTurns s .driver t ≤ mostDriver
-      unfolding sheetTurns problemOf sheetCauses
-      sheet-drivers t h = sheet-range-for garage garage-sound shiftGap s sound t h .driver-to
-
       module _ (l : r .slopes + r .turns ≤ length prices) where
         pub refine-priced : Priced (record { size = p; slopes = r .slopes }) cols (take (r .slopes + p .count) prices)
         refine-priced =
             record {
-              places = refine-held .places;
-              few = refine-held .few;
+              places = held .places;
+              few = held .few;
               few-slopes = omega (arith, slopes-are, few-slopes s sound);
               numbers = λ t h. let z = sheet-slopes s sound t (inside t h) in rw posed (omega (arith, slopes-are, z .0), omega (arith, slopes-are, z .1));
-              drivers = λ t h. rw posed (sheet-drivers t (inside t h));
+              drivers = λ t h. rw posed (sheet-drivers s sound t (inside t h));
               list = length-take-le (r .slopes + p .count) prices (omega (arith, count-same));
             }
 
@@ -221,4 +212,4 @@ module _ (s : List ℕ) (rounds : ℕ) (board prices : List ℕ) {r : ReadAnswer
             rw (le-ltb (length board) (boardLength (turnCount s) (turnCount s)) (omega (arith, h, turns-are)), le-ltb (length prices) (priceCount s) (omega (arith, slopes-are, turns-are))) in
             z ∙ rw (later none, posed, slopes-are, refined-is (sheetTurns s) (countsIn s .groomers) (countsIn s .slopes) numbers rounds)
 
-pub ruleset answer-cases = (refine-fault, refine-short, refine-few, refine-held, refine-ranged, refine-priced, refine-room, refine-done)
+pub ruleset answer-cases = (refine-fault, refine-short, refine-few, loaded-held, refine-ranged, refine-priced, refine-room, refine-done)
