@@ -5,18 +5,18 @@ ghost use lib.ListN.{length};
 ghost use Rattle.wire.specs.Number.{puts};
 ghost use Rattle.turn.specs.Turn.{rowNumbers};
 ghost use Rattle.sheet.specs.Read.{headerBytes};
-ghost use Rattle.write_spec.specs.Answer.{written};
+ghost use Rattle.refusal.specs.Outcome.{beside};
 ghost use Rattle.archive_spec.specs.Column.{widths};
 ghost use Rattle.archive_spec.specs.Kept.{formSize, mapsFrom, keptTable, keptFirst};
 ghost use Rattle.archive_spec.specs.Archive.{keepOf};
 use super::form::put_front;
 use super::form::refused;
+use refusal::WriteAnswer;
 use sheet::HEADER_BYTES;
 use sheet::MOST_TURNS;
 use sheet::TABLE_PLACES;
 use sheet::width;
 use turn::ROW_NUMBERS;
-use write_spec::WriteAnswer;
 
 // The maps of a sheet's records, as many as there are places.
 fn fill_maps(s: &[u8], maps: &mut [u8])
@@ -57,7 +57,7 @@ fn keep_turns(s: &[u8], n: usize, table: &[u16], maps: &mut [u8], out: &mut [u8]
 
 // Keeps any bytes as a sheet by column in any lent bytes.
 pub fn keep(sheet: &[u8], kept: &mut [u8]) -> WriteAnswer
-    ensures { λ r. ⌜ written r (now (kept .exit)) ≡ keepOf (now (sheet .entry)) (now (kept .entry)) ⌝ }
+    ensures { λ r. ⌜ beside r (now (kept .exit)) ≡ keepOf (now (sheet .entry)) (now (kept .entry)) ⌝ }
 {
     let mut table = [0u16; TABLE_PLACES];
     let read = sheet_read::read_table(sheet, &mut table);

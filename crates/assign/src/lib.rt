@@ -6,8 +6,9 @@ ghost use lib.ListN.{length};
 ghost use Rattle.turn.specs.Turn.{shiftMinutes};
 ghost use Rattle.sheet.specs.Kind.{mostTurns};
 ghost use Rattle.instance.specs.Columns.{turnsBy, Held};
+ghost use Rattle.refusal.specs.Outcome.{beside};
 ghost use Rattle.assign_spec.specs.Numbering.{numbersOf, usedOf};
-ghost use Rattle.assign_spec.specs.Partition.{partitioned, partitionRefused, partitionOf};
+ghost use Rattle.assign_spec.specs.Partition.{partitionRefused, partitionOf};
 
 mod assigning;
 
@@ -50,7 +51,7 @@ fn refused(k: u8) -> PartitionAnswer
 
 // Takes any bytes as a sheet, and writes the number of each turn's groomer into any lent places.
 pub fn assign(s: &[u8], places: &mut [u16]) -> PartitionAnswer
-    ensures { λ r. ⌜ partitioned r (now (places .exit)) ≡ partitionOf (now (s .entry)) (now (places .entry)) ⌝ }
+    ensures { λ r. ⌜ beside r (now (places .exit)) ≡ partitionOf (now (s .entry)) (now (places .entry)) ⌝ }
 {
     let mut cols = [0u16; PLACES];
     let r = instance::load(s, &mut cols);

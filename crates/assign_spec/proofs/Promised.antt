@@ -6,7 +6,6 @@ use native.Mathlib.Omega.{arith}
 use native.Mathlib.Decide.{decLt, ℕ-discrete}
 use lib.ListN.{length, take, drop}
 use lib.Seq.{ext-getD, take-at}
-use Rattle.refusal.proofs.Written.{enough-iff}
 use Rattle.model.specs.Turns.{Turns, PositiveLengths}
 use Rattle.sheet.specs.Read.{turnCount, sheetCauses}
 use Rattle.sheet.proofs.Readings.{sheet-numbered}
@@ -17,6 +16,7 @@ use Rattle.assign_spec.specs.Partition.{partitionCauses, partitionOf}
 use Rattle.assign_spec.proofs.Numbers.{numbers-places, numbers-greedy, numbers-assignment}
 use Rattle.assign_spec.proofs.Fewest.{together-most, together-reached, fewest, used-different}
 use Rattle.assign_spec.proofs.PartitionCauses.{partition-number, answered}
+use Rattle.refusal.proofs.Outcome.{enough-iff}
 
 -- ---- for any turns, each at least a minute long
 
@@ -33,7 +33,7 @@ numbers-promised T lengths =
 
 -- ---- for any bytes as a sheet, where nothing is refused
 
-pub partition-promised : (s lent : List ℕ) → partitionOf s lent .answer .refusal ≡ 0 → PartitionPromises (sheetTurns s) (take (turnCount s) (partitionOf s lent .places)) (partitionOf s lent .answer .groomers)
+pub partition-promised : (s lent : List ℕ) → partitionOf s lent .answer .refusal ≡ 0 → PartitionPromises (sheetTurns s) (take (turnCount s) (partitionOf s lent .lent)) (partitionOf s lent .answer .groomers)
 unfolding partitionCauses
 partition-promised s lent z =
     let T = sheetTurns s in

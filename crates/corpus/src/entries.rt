@@ -6,11 +6,9 @@ use assign_spec::PartitionAnswer;
 use best_spec::BestAnswer;
 use check_spec::CheckAnswer;
 use hall_spec::ChargeAnswer;
-use listing_spec::ListAnswer;
-use plan_spec::PlanAnswer;
+use refusal::WriteAnswer;
 use search_spec::Improved;
 use sheet::ReadAnswer;
-use write_spec::WriteAnswer;
 
 // Bytes of the numbers that an entry is asked with: one of eight bytes, three of four.
 const ASKED: usize = 20;
@@ -126,12 +124,12 @@ pub fn check(sheet: &[u8], board: &[u8]) {
 }
 
 pub fn plan(sheet: &[u8], board: &mut [u8]) {
-    let a: PlanAnswer = plan::plan(sheet, &mut *board);
+    let a: WriteAnswer = plan::plan(sheet, &mut *board);
     print::pair(a.refusal, a.bytes as u64);
 }
 
 pub fn list(sheet: &[u8], text: &mut [u8]) {
-    let a: ListAnswer = listing::list(sheet, &mut *text);
+    let a: WriteAnswer = listing::list(sheet, &mut *text);
     print::pair(a.refusal, a.bytes as u64);
 }
 

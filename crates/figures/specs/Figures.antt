@@ -130,7 +130,7 @@ pub record Figures : Type 0 where
   pub step-bytes : stepSize ≡ 4
   pub board-bytes : (n m : ℕ) → boardLength n m ≡ 15 + (n + 7) / 8 + 4 * m
   -- the planner needs the bytes of a board with as many steps as turns
-  pub planner-need : {s : List ℕ} → Bytes s → (lent : List ℕ) → (planOf s lent .refusal ≡ 0) ↔ (Accepted s × (15 + (turnCount s + 7) / 8 + 4 * turnCount s ≤ length lent))
+  pub planner-need : {s : List ℕ} → Bytes s → (lent : List ℕ) → (planOf s lent .answer .refusal ≡ 0) ↔ (Accepted s × (15 + (turnCount s + 7) / 8 + 4 * turnCount s ≤ length lent))
   -- ---- the other parts
 
   -- the lift desk's screen shows 96 turns; 64 turns are searched

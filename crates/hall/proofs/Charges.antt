@@ -1,16 +1,13 @@
 -- The plans and the entry's answer by their cases, each premise in the form in which the code's calls and tests leave it. Assumes nothing.
 use Prim.Native.Nat.{ℕ, _+_, _*_, _<_, _≤_}
 use mathlib.Core.Path.{_≡_, refl, sym, ap, _∙_}
-use mathlib.Core.Bool.{Bool, true, false, cond}
-use mathlib.Core.List.{List, [], _∷_, _++_, append-nil}
+use mathlib.Core.Bool.{true, false}
+use mathlib.Core.List.{List, [], _++_, append-nil}
 use native.Mathlib.Omega.{arith}
-use lib.Dec.{ltb, eqb}
 use lib.ListN.{length, drop, take, replicate, length-replicate, drop-of-length-le}
 use lib.Seq.{length-take-le}
-use borrow.Author.Tests.{ne-eqb, lt-ltb, le-ltb}
 use Rattle.refusal.specs.Number.{bufferTooSmall}
-use Rattle.refusal.specs.Cause.{Cause, _when_, firstOf}
-use Rattle.refusal.proofs.Order.{first-stops, first-goes}
+use Rattle.refusal.specs.Cause.{firstOf}
 use Rattle.wire.specs.Number.{puts}
 use Rattle.wire.proofs.Puts.{puts-front, puts-length}
 use Rattle.sheet.specs.declared.kind.Kind.{Kind}
@@ -42,9 +39,10 @@ use Rattle.hall_steps.specs.Bounds.{HallHeld}
 use Rattle.hall_steps.proofs.Written.{written-few, written-read, written-inside}
 use Rattle.hall_spec.specs.declared.ChargeAnswer.{ChargeAnswer}
 use Rattle.hall.specs.OneKind.{kindChoice}
-use Rattle.hall_spec.specs.Charge.{chargingSheet, hallOf, chargeCauses, hallFound, hallRefused, chargeIn, chargeOf}
-use Rattle.hall_spec.specs.Answer.{charged, chargeRefused}
+use Rattle.hall_spec.specs.Charge.{chargingSheet, hallOf, chargeCauses, hallFound, chargeIn, chargeOf, chargeRefused}
 use Rattle.hall_spec.proofs.ChargingSheets.{charging-sound, charging-given, units-of, vehicle-of, draw-of}
+use Rattle.refusal.specs.Outcome.{beside, unless, thenRoom}
+use Rattle.refusal.proofs.Outcome.{room-stopped, room-short, room-enough, room-left}
 
 -- ---- the plan of one kind
 
@@ -149,9 +147,9 @@ pub ruleset greater-cases = (size-of, wide-worth, small-worth, wide-map, small-m
 -- ---- a hall's answer
 
 module _ (units : ℕ) (p : Size) (cols lent : List ℕ) {size : ℕ} (m : size ≡ mapBytes (p .count)) where
-  pub hall-small : {x : ChargeAnswer} → length lent < size → x ≡ chargeRefused bufferTooSmall → charged x lent ≡ chargeIn (hallBy units p cols) lent
-  unfolding chargeIn turnsBy
-  hall-small l h = rw (h, lt-ltb (length lent) (mapBytes (p .count)) (omega (arith, m)))
+  pub hall-small : {x : ChargeAnswer} → length lent < size → x ≡ chargeRefused bufferTooSmall → beside x lent ≡ chargeIn (hallBy units p cols) lent
+  unfolding chargeIn turnsBy firstOf
+  hall-small l h = rw h (sym (room-short [] (mapBytes (p .count)) (length lent) _ (λ k. beside (chargeRefused k) lent) refl refl (omega (arith, m))))
 
   pub hall-room : size ≤ length lent → length (take size lent) ≡ mapBytes (p .count)
   hall-room l = length-take-le size lent l ∙ m
@@ -160,9 +158,11 @@ module _ (units : ℕ) (p : Size) (cols lent : List ℕ) {size : ℕ} (m : size 
   plan-places = map-length (hallChoice (hallBy units p cols)) ∙ ap mapBytes (plan-length (hallBy units p cols) ∙ count-is p cols) ∙ sym m
 
   pub hall-done : {worth : ℕ} {map : List ℕ} → size ≤ length lent → worth ≡ hallWorth (hallBy units p cols) → map ≡ mapOf (hallChoice (hallBy units p cols))
-      → charged (record { refusal = 0; worth = worth }) (map ++ drop size lent) ≡ chargeIn (hallBy units p cols) lent
-  unfolding chargeIn
-  hall-done l h k = rw (le-ltb (length lent) (mapBytes (turnsBy p cols .count)) (omega (arith, m, ap mapBytes (count-is p cols))), h, k, plan-places)
+      → beside (record { refusal = 0; worth = worth }) (map ++ drop size lent) ≡ chargeIn (hallBy units p cols) lent
+  unfolding chargeIn firstOf
+  hall-done l h k =
+      let H = hallBy units p cols in
+      rw (h, k, ← plan-places) (sym (room-enough [] (mapBytes (windowCount H)) (length lent) (hallFound H lent) (λ k. beside (chargeRefused k) lent) refl refl (omega (arith, m, ap mapBytes (count-is p cols)))))
 
 pub ruleset charge-in-cases = (hall-small, hall-room, hall-done)
 
@@ -172,14 +172,9 @@ module _ (s lent : List ℕ) {K : Kind} {r : ReadAnswer} (k : K ≡ chargingShee
   own : r ≡ answerFor chargingSheet s
   own = e ∙ ap (λ (J : Kind). answerFor J s) k
 
-  abbrev after : List Cause
-  after = bufferTooSmall when ltb (length lent) (mapBytes (turnCount s)) ∷ []
-
-  pub charge-fault : {x : ChargeAnswer} → (r .refusal ≡ 0 → ⊥) → x ≡ chargeRefused (r .refusal) → charged x lent ≡ chargeOf s lent
+  pub charge-fault : {x : ChargeAnswer} → (r .refusal ≡ 0 → ⊥) → x ≡ chargeRefused (r .refusal) → beside x lent ≡ chargeOf s lent
   unfolding chargeOf chargeCauses
-  charge-fault f g =
-      let q : firstOf (causesFor chargingSheet s ++ after) ≡ r .refusal = first-stops (causesFor chargingSheet s) after (r .refusal) (sym (whole-refusal-for chargingSheet s own)) f in
-      rw (g, q, ne-eqb (r .refusal) 0 f)
+  charge-fault f g = rw g (sym (room-stopped (causesFor chargingSheet s) (mapBytes (turnCount s)) (length lent) _ (λ k. beside (chargeRefused k) lent) (r .refusal) (sym (whole-refusal-for chargingSheet s own)) f))
 
   module _ (f : r .refusal ≡ 0) where
     pub accepted : firstOf (causesFor chargingSheet s) ≡ 0
@@ -217,19 +212,13 @@ module _ (s lent : List ℕ) {K : Kind} {r : ReadAnswer} (k : K ≡ chargingShee
       unfolding hallOf
       window-count = sheet-count-for chargingSheet charging-sound hallGap s accepted
 
-      causes-first : firstOf (chargeCauses s (length lent)) ≡ cond (ltb (length lent) (mapBytes (turnCount s))) bufferTooSmall 0
-      unfolding chargeCauses firstOf
-      causes-first = first-goes (causesFor chargingSheet s) after (causes-numbered chargingSheet (charging-sound .numbers) s) accepted
-
       whole : chargeIn (hallOf s) lent ≡ chargeOf s lent
-      unfolding chargeIn chargeOf
-      whole = ap (λ (n : ℕ). cond (ltb (length lent) (mapBytes n)) (hallRefused bufferTooSmall lent) (hallFound (hallOf s) lent)) window-count ∙ rw causes-first (go (ltb (length lent) (mapBytes (turnCount s))))
-        where
-          go : (c : Bool) → cond c (hallRefused bufferTooSmall lent) (hallFound (hallOf s) lent) ≡ cond (eqb (cond c bufferTooSmall 0) 0) (hallFound (hallOf s) lent) (hallRefused (cond c bufferTooSmall 0) lent)
-          go true = refl
-          go false = refl
+      unfolding chargeIn chargeOf chargeCauses
+      whole =
+          ap (λ (n : ℕ). unless (thenRoom [] (mapBytes n) (length lent)) (hallFound (hallOf s) lent) (λ k. beside (chargeRefused k) lent)) window-count
+          ∙ room-left (causesFor chargingSheet s) (mapBytes (turnCount s)) (length lent) _ (λ k. beside (chargeRefused k) lent) (causes-numbered chargingSheet (charging-sound .numbers) s) accepted
 
-      pub charge-found : {x : ChargeAnswer} {lent′ : List ℕ} → charged x lent′ ≡ chargeIn (hallBy (r .groomers) (record { count = r .turns; gap = hallGap }) cols) lent → charged x lent′ ≡ chargeOf s lent
+      pub charge-found : {x : ChargeAnswer} {lent′ : List ℕ} → beside x lent′ ≡ chargeIn (hallBy (r .groomers) (record { count = r .turns; gap = hallGap }) cols) lent → beside x lent′ ≡ chargeOf s lent
       charge-found h = h ∙ ap (λ (H : Hall). chargeIn H lent) hall-is ∙ whole
 
 pub ruleset charge-cases = (charging-given, charge-fault, charge-held, charge-found)

@@ -9,8 +9,8 @@ ghost use Rattle.shares.specs.Taking.{hallBy};
 ghost use Rattle.hall_steps.specs.Among.{hallAmong};
 ghost use Rattle.hall_steps.specs.Bounds.{HallHeld};
 ghost use Rattle.hall.specs.OneKind.{kindChoice};
-ghost use Rattle.hall_spec.specs.Charge.{chargingSheet, chargeIn, chargeOf};
-ghost use Rattle.hall_spec.specs.Answer.{charged, chargeRefused};
+ghost use Rattle.refusal.specs.Outcome.{beside};
+ghost use Rattle.hall_spec.specs.Charge.{chargingSheet, chargeRefused, chargeIn, chargeOf};
 
 mod choosing;
 mod supply;
@@ -125,7 +125,7 @@ fn refused(k: u8) -> ChargeAnswer
 // The worth of a hall's plan, and its map into any lent bytes.
 fn answer(units: u16, p: Size, cols: &[u16; PLACES], map: &mut [u8]) -> ChargeAnswer
     requires { ⌜ HallHeld units p (now cols) ⌝ }
-    ensures { λ r. ⌜ charged r (now (map .exit)) ≡ chargeIn (hallBy units p (now (cols .entry))) (now (map .entry)) ⌝ }
+    ensures { λ r. ⌜ beside r (now (map .exit)) ≡ chargeIn (hallBy units p (now (cols .entry))) (now (map .entry)) ⌝ }
 {
     let size = choice_map::map_bytes(p.count as u16);
     if map.len() < size {
@@ -140,7 +140,7 @@ fn answer(units: u16, p: Size, cols: &[u16; PLACES], map: &mut [u8]) -> ChargeAn
 
 // Plans any bytes as a charging sheet: the worth of the hall's plan, and its choice map into any lent bytes.
 pub fn charge(s: &[u8], map: &mut [u8]) -> ChargeAnswer
-    ensures { λ r. ⌜ charged r (now (map .exit)) ≡ chargeOf (now (s .entry)) (now (map .entry)) ⌝ }
+    ensures { λ r. ⌜ beside r (now (map .exit)) ≡ chargeOf (now (s .entry)) (now (map .entry)) ⌝ }
 {
     let mut cols = [0u16; PLACES];
     let mut room = [0u16; PLACES];

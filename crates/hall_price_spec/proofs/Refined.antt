@@ -75,11 +75,11 @@ module _ (s : List ℕ) (rounds : ℕ) (map prices : List ℕ) (e : chargeRefine
   sound = clear .0
 
   -- the plan of the hall is not refused either
-  plan-worth : chargeOf s map .worth ≡ hallWorth H
+  plan-worth : chargeOf s map .answer .worth ≡ hallWorth H
   unfolding chargeCauses
   plan-worth =
       let few : ltb (length map) (mapBytes (turnCount s)) ≡ false = le-ltb (length map) (mapBytes (turnCount s)) (clear .1) in
-      ap (λ (x : Charged). x .worth) (charge-answers s map (charge-number s map ∙ clear-last s (bufferTooSmall when ltb (length map) (mapBytes (turnCount s))) sound few))
+      ap (λ (x : Charged). x .answer .worth) (charge-answers s map (charge-number s map ∙ clear-last s (bufferTooSmall when ltb (length map) (mapBytes (turnCount s))) sound few))
 
   -- ---- what is written
 

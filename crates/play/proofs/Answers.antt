@@ -16,18 +16,17 @@ use Rattle.refusal.proofs.Order.{first-stops, first-goes}
 use Rattle.turn.specs.Turn.{shiftMinutes}
 use Rattle.sheet.specs.Kind.{mostGroomers}
 use Rattle.sheet.specs.declared.answer.ReadAnswer.{ReadAnswer}
-use Rattle.sheet.specs.Read.{countsIn, turnCount, sheetCauses, answerOf}
+use Rattle.sheet.specs.Read.{countsIn, turnCount, sheetCauses}
 use Rattle.sheet.proofs.Readings.{sheet-numbered}
 use Rattle.sheet.proofs.Unrefused.{few-groomers}
-use Rattle.sheet.proofs.Whole.{whole-refusal, whole-accepted, whole-answer, whole-turns}
 use Rattle.model.specs.Turns.{Turns}
 use Rattle.choice_map.specs.Choice.{mapBytes, choiceIn}
 use Rattle.board.specs.Board.{boardTurns, boardMap, boardChoice}
 use Rattle.board_open.specs.Open.{malformed}
 use Rattle.instance.specs.declared.columns.Size.{Size}
-use Rattle.instance.specs.Columns.{turnsBy, Held}
+use Rattle.instance.specs.Columns.{turnsBy}
 use Rattle.instance_spec.specs.Problem.{sheetTurns}
-use Rattle.instance.specs.Load.{shiftSize, Posed}
+use Rattle.instance.specs.Load.{shiftSize, Loaded}
 use Rattle.instance.proofs.Rows.{count-is}
 use Rattle.replay.specs.declared.replay.Judgement.{Judgement}
 use Rattle.check_spec.specs.Check.{boardCauses, checkCauses}
@@ -46,6 +45,8 @@ use Rattle.play_spec.specs.Minutes.{minutesFrom}
 use Rattle.play.specs.Prepared.{PreparedBy, PreparedFor}
 use Rattle.play_spec.proofs.ListedStandings.{minutes-say, none-moved}
 use Rattle.play_spec.proofs.LentCauses.{by-delays, by-places, by-none}
+use Rattle.refusal.proofs.Outcome.{unless-first, unless-none}
+use Rattle.instance.proofs.Posed.{loaded-held, loaded-turns, loaded-count}
 
 -- ---- the delays' test
 
@@ -156,38 +157,35 @@ pub ruleset board-cases = (board-formed, board-size, board-refused, board-passes
 
 -- ---- for a sheet
 
-module _ (s b delays : List ℕ) (places : ℕ) {a : ReadAnswer} (e : a ≡ answerOf s) where
+module _ (s b delays cols : List ℕ) (places : ℕ) {a : ReadAnswer} (e : Loaded s a cols) where
   pub sheet-refused : (x : Prepared) → (a .refusal ≡ 0 → ⊥) → Refused x (a .refusal) → PreparedFor s b delays places x
   unfolding playCauses checkCauses
   sheet-refused x z r =
       given (playCauses s b delays places) (sheetTurns s) (countsIn s .groomers) (boardChoice b) delays places (a .refusal) x
-      (first-stops (sheetCauses s ++ boardCauses (sheetTurns s) b) _ (a .refusal) (first-stops (sheetCauses s) (boardCauses (sheetTurns s) b) (a .refusal) (sym (whole-refusal s e)) z) z) z r
+      (first-stops (sheetCauses s ++ boardCauses (sheetTurns s) b) _ (a .refusal) (first-stops (sheetCauses s) (boardCauses (sheetTurns s) b) (a .refusal) (sym (e .refusal)) z) z) z r
 
-module _ (s : List ℕ) {a : ReadAnswer} (e : a ≡ answerOf s) (y : a .refusal ≡ 0) where
+module _ (s cols : List ℕ) {a : ReadAnswer} (e : Loaded s a cols) (y : a .refusal ≡ 0) where
   groomers-of : a .groomers ≡ countsIn s .groomers
-  groomers-of = ap (λ (x : ReadAnswer). x .groomers) (whole-answer s e y)
+  groomers-of = e .posed y .groomers
 
   pub sheet-few : a .groomers ≤ mostGroomers
-  sheet-few = omega (arith, groomers-of, few-groomers s (whole-accepted s e y))
+  sheet-few = omega (arith, groomers-of, few-groomers s (e .posed y .sound))
 
-  module _ (cols : List ℕ) {p : Size} (w : a .refusal ≡ 0 → Posed s cols) (q : p ≡ shiftSize (a .turns)) where
-    pub sheet-held : Held p cols
-    sheet-held = rw (q, whole-turns s e y) (w y .held)
-
+  module _ {p : Size} (q : p ≡ shiftSize (a .turns)) where
     turns-are : turnsBy p cols ≡ sheetTurns s
-    turns-are = rw (q, whole-turns s e y) (w y .turns)
+    turns-are = loaded-turns s cols e y q
 
     size-is : p .count ≡ turnCount s
-    size-is = ap (λ (x : Size). x .count) q ∙ whole-turns s e y
+    size-is = loaded-count s cols e y q
 
     pub sheet-prepared : (b delays : List ℕ) (places : ℕ) (x : Prepared) → PreparedBy (boardCauses (turnsBy p cols) b ++ lentCauses (a .groomers) (p .count) delays places) (turnsBy p cols) (a .groomers) (boardChoice b) delays places x → PreparedFor s b delays places x
     unfolding playCauses checkCauses
     sheet-prepared b delays places x v =
         let v′ : PreparedBy (boardCauses (sheetTurns s) b ++ lentCauses (countsIn s .groomers) (turnCount s) delays places) (sheetTurns s) (countsIn s .groomers) (boardChoice b) delays places x = rw (turns-are, groomers-of, size-is) at v in
         carried ((sheetCauses s ++ boardCauses (sheetTurns s) b) ++ lentCauses (countsIn s .groomers) (turnCount s) delays places) _ (sheetTurns s) (countsIn s .groomers) (boardChoice b) delays places x
-        (ap firstOf (append-assoc (sheetCauses s) (boardCauses (sheetTurns s) b) (lentCauses (countsIn s .groomers) (turnCount s) delays places)) ∙ first-goes (sheetCauses s) _ (sheet-numbered s) (whole-accepted s e y)) v′
+        (ap firstOf (append-assoc (sheetCauses s) (boardCauses (sheetTurns s) b) (lentCauses (countsIn s .groomers) (turnCount s) delays places)) ∙ first-goes (sheetCauses s) _ (sheet-numbered s) (e .posed y .sound)) v′
 
-pub ruleset prepared-cases = (sheet-refused, sheet-few, sheet-held, sheet-prepared)
+pub ruleset prepared-cases = (sheet-refused, sheet-few, loaded-held, sheet-prepared)
 
 -- ---- the entry
 
@@ -198,11 +196,11 @@ standingsUpTo s b delays k = tab k (λ g. standingAfter (dayOf (sheetTurns s) (b
 module _ (s b delays : List ℕ) (lent : List Standing) where
   refused-is : (k : ℕ) → firstOf (playCauses s b delays (length lent)) ≡ k → (k ≡ 0 → ⊥) → played (playRefused k) lent ≡ playOf s b delays lent
   unfolding playOf
-  refused-is k e z = rw (e, ne-eqb k 0 z)
+  refused-is k e z = sym (unless-first (playCauses s b delays (length lent)) _ (λ k. played (playRefused k) lent) k e z)
 
   answered-is : firstOf (playCauses s b delays (length lent)) ≡ 0 → played (record { refusal = 0; groomers = countsIn s .groomers }) (standingsOf s b delays ++ drop (countsIn s .groomers) lent) ≡ playOf s b delays lent
   unfolding playOf
-  answered-is e = rw e
+  answered-is e = sym (unless-none (playCauses s b delays (length lent)) _ (λ k. played (playRefused k) lent) e)
 
   pub play-answer : (p : Prepared) → PreparedFor s b delays (length lent) p → {r : PlayAnswer} {zs : List Standing} → r ≡ record { refusal = p .refusal; groomers = p .groomers } → zs ≡ minutesFrom shiftMinutes 0 (p .moved) lent (p .table) → played r zs ≡ playOf s b delays lent
   unfolding standingsOf dayAt

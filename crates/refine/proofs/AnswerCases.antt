@@ -14,25 +14,22 @@ use Rattle.refusal.specs.Cause.{Cause, _when_, firstOf}
 use Rattle.refusal.proofs.Order.{first-stops, first-goes}
 use Rattle.wire.specs.Number.{bytesOf, puts}
 use Rattle.wire.proofs.Puts.{puts-length}
-use Rattle.turn.specs.Turn.{mostDriver}
 use Rattle.model.specs.Turns.{Turns}
 use Rattle.model.specs.Choice.{chosen, fits, choice}
 use Rattle.sheet.specs.declared.answer.ReadAnswer.{ReadAnswer}
-use Rattle.sheet.specs.Kind.{mostTurns, garage}
-use Rattle.sheet.specs.Read.{countsIn, turnCount, sheetCauses, answerOf}
-use Rattle.sheet.proofs.SoundKinds.{garage-sound}
+use Rattle.sheet.specs.Kind.{mostTurns}
+use Rattle.sheet.specs.Read.{countsIn, turnCount, sheetCauses}
 use Rattle.sheet.proofs.Readings.{sheet-numbered}
 use Rattle.sheet.proofs.Unrefused.{few-slopes, few-groomers}
-use Rattle.sheet.proofs.Whole.{whole-refusal, whole-accepted, whole-answer, whole-turns}
 use Rattle.best_spec.specs.Table.{bestWorth, bestChoice}
 use Rattle.choice_map.specs.Choice.{mapBytes, choiceIn, mapOf, Clean}
 use Rattle.choice_map.proofs.Clean.{choice-length, clean-map}
 use Rattle.board.specs.Board.{worthPlace, boardHeader, boardLength}
 use Rattle.instance.specs.declared.columns.Size.{Size}
 use Rattle.instance.specs.Columns.{columnPlaces, turnsBy, Held}
-use Rattle.instance_spec.specs.Problem.{problemOf, shiftGap, sheetTurns}
-use Rattle.instance.specs.Load.{shiftSize, Posed}
-use Rattle.instance_spec.proofs.SheetTurns.{sheet-range-for, sheet-slopes, sheet-groomers}
+use Rattle.instance_spec.specs.Problem.{sheetTurns}
+use Rattle.instance.specs.Load.{shiftSize, Loaded}
+use Rattle.instance_spec.proofs.SheetTurns.{sheet-slopes, sheet-groomers, sheet-drivers}
 use Rattle.instance.proofs.Rows.{count-is}
 use Rattle.selection.proofs.Unchosen.{zeros-size}
 use Rattle.plan_spec.specs.Plan.{boardFor}
@@ -58,6 +55,7 @@ use Rattle.price_rounds.specs.Rounds.{roundsFrom, Reaches, RoundsStart}
 use Rattle.refine.specs.Stages.{shiftRounds, choiceWorth, PlannedIn}
 use Rattle.refine_spec.specs.Answer.{refinedBy, refineRefused}
 use Rattle.refine.proofs.BoardCases.{changed-size, board-changed}
+use Rattle.instance.proofs.Posed.{loaded-held, loaded-turns}
 
 -- ---- the rule that the functions compute, by one table over all turns, is the shift's
 
@@ -170,7 +168,7 @@ refine-room n board q h l = rw q (omega (arith, h))
 pub refine-list : (n slopes : ℕ) (prices : List ℕ) {p : Size} → p ≡ shiftSize n → slopes + n ≤ length prices → slopes + p .count ≤ length prices
 refine-list n slopes prices q l = rw q l
 
-module _ (s : List ℕ) (rounds : ℕ) (board prices : List ℕ) {r : ReadAnswer} (g : r ≡ answerOf s) where
+module _ (s cols : List ℕ) (rounds : ℕ) (board prices : List ℕ) {r : ReadAnswer} (g : Loaded s r cols) where
   abbrev after : List Cause
   after = bufferTooSmall when (ltb (length board) (boardLength (turnCount s) (turnCount s)) || ltb (length prices) (priceCount s)) ∷ []
 
@@ -180,17 +178,17 @@ module _ (s : List ℕ) (rounds : ℕ) (board prices : List ℕ) {r : ReadAnswer
 
   pub refine-fault : {x : RefineAnswer} → (r .refusal ≡ 0 → ⊥) → x ≡ refineRefused (r .refusal) → refinedBy x board prices ≡ refineOf s rounds board prices
   unfolding refineCauses
-  refine-fault f h = rw h (sym (declines (r .refusal) (first-stops (sheetCauses s) after (r .refusal) (sym (whole-refusal s g)) f) f))
+  refine-fault f h = rw h (sym (declines (r .refusal) (first-stops (sheetCauses s) after (r .refusal) (sym (g .refusal)) f) f))
 
   module _ (f : r .refusal ≡ 0) where
     sound : firstOf (sheetCauses s) ≡ 0
-    sound = whole-accepted s g f
+    sound = g .posed f .sound
 
     turns-are : r .turns ≡ turnCount s
-    turns-are = whole-turns s g f
+    turns-are = g .posed f .count
 
     slopes-are : r .slopes ≡ countsIn s .slopes
-    slopes-are = ap (λ (x : ReadAnswer). x .slopes) (whole-answer s g f)
+    slopes-are = g .posed f .slopes
 
     later : {b : Bool} → (ltb (length board) (boardLength (turnCount s) (turnCount s)) || ltb (length prices) (priceCount s)) ≡ b → firstOf (refineCauses s (length board) (length prices)) ≡ cond b bufferTooSmall 0
     unfolding refineCauses firstOf
@@ -202,28 +200,21 @@ module _ (s : List ℕ) (rounds : ℕ) (board prices : List ℕ) {r : ReadAnswer
     pub refine-few : {x : RefineAnswer} → x ≡ refineRefused bufferTooSmall → length prices < r .slopes + r .turns → refinedBy x board prices ≡ refineOf s rounds board prices
     refine-few h l = rw h (sym (declines bufferTooSmall (later (or-2 (ltb (length board) (boardLength (turnCount s) (turnCount s))) (ltb (length prices) (priceCount s)) (lt-ltb (length prices) (priceCount s) (omega (arith, slopes-are, turns-are))))) (omega arith)))
 
-    module _ (cols : List ℕ) {p : Size} (w : r .refusal ≡ 0 → Posed s cols) (q : p ≡ shiftSize (r .turns)) where
-      size-is : p ≡ shiftSize (turnCount s)
-      size-is = q ∙ ap shiftSize turns-are
-
+    module _ {p : Size} (q : p ≡ shiftSize (r .turns)) where
       count-same : p .count ≡ r .turns
       count-same = ap (λ (x : Size). x .count) q
 
       refine-held : Held p cols
-      refine-held = rw size-is (w f .held)
+      refine-held = loaded-held s cols g f q
 
       posed : turnsBy p cols ≡ sheetTurns s
-      posed = rw size-is (w f .turns)
+      posed = loaded-turns s cols g f q
 
       inside : (t : ℕ) → t < p .count → t < turnCount s
       inside t h = omega (arith, count-same, turns-are)
 
       refine-ranged : Ranged p cols
       refine-ranged = record { groomers = λ t h. rw posed (omega (arith, sheet-groomers s sound t (inside t h), few-groomers s sound)) }
-
-      sheet-drivers : (t : ℕ) → t < turnCount s → sheetTurns s .driver t ≤ mostDriver
-      unfolding sheetTurns problemOf sheetCauses
-      sheet-drivers t h = sheet-range-for garage garage-sound shiftGap s sound t h .driver-to
 
       pub refine-posed : ShiftPosed (record { size = p; slopes = r .slopes }) cols
       refine-posed =
@@ -232,7 +223,7 @@ module _ (s : List ℕ) (rounds : ℕ) (board prices : List ℕ) {r : ReadAnswer
             ranged = refine-ranged;
             few-slopes = omega (arith, slopes-are, few-slopes s sound);
             numbers = λ t h. let z = sheet-slopes s sound t (inside t h) in rw posed (omega (arith, slopes-are, z .0), omega (arith, slopes-are, z .1));
-            drivers = λ t h. rw posed (sheet-drivers t (inside t h));
+            drivers = λ t h. rw posed (sheet-drivers s sound t (inside t h));
           }
 
       module _ (l : r .slopes + r .turns ≤ length prices) where

@@ -7,8 +7,9 @@ ghost use Rattle.wire.specs.Number.{puts};
 ghost use Rattle.turn.specs.Turn.{rowNumbers, rowOf, rows, Numbered};
 ghost use Rattle.sheet.specs.Kind.{tablePlaces, Sound};
 ghost use Rattle.sheet.specs.Record.{firstCursor};
-ghost use Rattle.sheet.specs.Read.{recordsCauses, turnsFrom, tableOf, readRefused, answerFor, answerOf, readFor, readOf, outcome};
+ghost use Rattle.sheet.specs.Read.{recordsCauses, turnsFrom, tableOf, readRefused, answerFor, answerOf, readFor, readOf};
 ghost use Rattle.refusal.specs.Written.{atFront};
+ghost use Rattle.refusal.specs.Outcome.{beside};
 use super::header::read_header;
 use super::kind::garage;
 use sheet::Cursor;
@@ -152,7 +153,7 @@ fn put_numbers(table: &mut [u16], numbers: &[u16])
 // refusal.
 pub fn read_as(kind: Kind, s: &[u8], table: &mut [u16]) -> ReadAnswer
     requires { ⌜ Sound kind ⌝ }
-    ensures { λ r. ⌜ outcome r (now (table .exit)) ≡ readFor kind (now (s .entry)) (now (table .entry)) ⌝ }
+    ensures { λ r. ⌜ beside r (now (table .exit)) ≡ readFor kind (now (s .entry)) (now (table .entry)) ⌝ }
 {
     let mut own = [0u16; TABLE_PLACES];
     let r = read_table_of(kind, s, &mut own);
@@ -169,7 +170,7 @@ pub fn read_as(kind: Kind, s: &[u8], table: &mut [u16]) -> ReadAnswer
 
 // Reads any bytes as the garage's sheet, likewise.
 pub fn read(s: &[u8], table: &mut [u16]) -> ReadAnswer
-    ensures { λ r. ⌜ outcome r (now (table .exit)) ≡ readOf (now (s .entry)) (now (table .entry)) ⌝ }
+    ensures { λ r. ⌜ beside r (now (table .exit)) ≡ readOf (now (s .entry)) (now (table .entry)) ⌝ }
 {
     read_as(garage(), s, &mut *table)
 }

@@ -12,11 +12,11 @@ ghost use Rattle.write_spec.specs.Key.{keysOf};
 ghost use Rattle.write_spec.specs.Answer.{written};
 ghost use Rattle.trial_spec.specs.Draw.{drawModulus, lengthPlaces, nextDraw, drawNumber, drawnLength, fromOne, turnDrawn, turnDraws, turnAfter, drawnTurns, drawnTable, Drawable};
 ghost use Rattle.trial_spec.specs.Trial.{seedCauses, drawOf};
+use refusal::WriteAnswer;
 use sheet::MOST_TURNS;
 use turn::Counts;
 use turn::MOST_WORTH;
 use turn::Turn;
-use write_spec::WriteAnswer;
 
 // The generator: a draw times the factor, modulo a prime.
 const DRAW_FACTOR: u64 = 16807;
