@@ -553,9 +553,12 @@ loop-first T S delay order table e = rw e (record {
   few = λ g l. omega (arith, filled-at keptPlaces 0 (countPlace g) (omega arith));
 })
 
-pub loop-same : (T : Turns) (S : List Bool) (delay : ℕ → ℕ) (us table kept table₀ : List ℕ) → table₀ ≡ blankTable → RowsPut T S delay us table kept → length table ≡ length table₀
+pub blank-places : {table : List ℕ} → table ≡ blankTable → length table ≡ dayTablePlaces
 unfolding blankTable
-loop-same T S delay us table kept table₀ e w = w .places ∙ sym (ap length e ∙ length-replicate {A = ℕ} dayTablePlaces shiftMinutes)
+blank-places e = ap length e ∙ length-replicate {A = ℕ} dayTablePlaces shiftMinutes
+
+pub loop-same : (T : Turns) (S : List Bool) (delay : ℕ → ℕ) (us table kept table₀ : List ℕ) → table₀ ≡ blankTable → RowsPut T S delay us table kept → length table ≡ length table₀
+loop-same T S delay us table kept table₀ e w = w .places ∙ sym (blank-places e)
 
 pub ruleset loop-cases = (loop-first, loop-same, order-place, loop-turn, loop-bit, loop-delays, loop-delay, loop-starts, loop-ends, loop-places, loop-open, loop-next, loop-done)
 
@@ -572,7 +575,7 @@ order-places p cols order zeros e = sym (ap length (order-made p cols order zero
 pub order-share : (p : Size) (cols order zeros : List ℕ) → order ≡ orderByStart (turnsBy p cols) → p .count ≤ length (order ++ zeros)
 order-share p cols order zeros e = omega (arith, length-append order zeros, ap length e ∙ order-length (turnsBy p cols) ∙ count-is p cols)
 
-pub ruleset days-cases = (zeros-few, few-zeros, blank-made, order-made, order-places, order-share)
+pub ruleset days-cases = (zeros-few, few-zeros, order-made, order-places, order-share)
 
 pub ruleset cut-cases = (cut-kept, cut-ended)
 

@@ -192,17 +192,21 @@ fn put_turns(
     }
 }
 
-// The days of a board's groomers, of chosen turns with a delay each, in a table of their own.
-pub fn days_of(p: Size, cols: &[u16; PLACES], map: &[u8], delays: &[u16]) -> [u16; DAY_TABLE_PLACES]
-    requires { ⌜ Held p (now cols) × (p .count ≤ 8 * length (now map)) × DelaysFit (now delays) (p .count) ⌝ }
-    ensures { λ r. ⌜ Days (turnsBy p (now (cols .entry))) (choiceIn (p .count) (now (map .entry))) (delayIn (now (delays .entry))) r ⌝ }
+// Puts the days of a board's groomers, of chosen turns with a delay each, into a blank table.
+pub fn put_days(
+    p: Size,
+    cols: &[u16; PLACES],
+    map: &[u8],
+    delays: &[u16],
+    table: &mut [u16; DAY_TABLE_PLACES],
+)
+    requires { ⌜ Held p (now cols) × (p .count ≤ 8 * length (now map)) × DelaysFit (now delays) (p .count) × (now table ≡ blankTable) ⌝ }
+    ensures { λ _. ⌜ Days (turnsBy p (now (cols .entry))) (choiceIn (p .count) (now (map .entry))) (delayIn (now (delays .entry))) (now (table .exit)) ⌝ }
 {
     let n = p.count;
     let mut places = [0u16; MOST_TURNS];
     instance_by_start::put_order(p, cols, &mut places[..n]);
-    let mut table = [MINUTES; DAY_TABLE_PLACES];
-    put_turns(p, cols, map, delays, &places[..n], &mut table);
-    table
+    put_turns(p, cols, map, delays, &places[..n], &mut *table);
 }
 
 // Whether each of the delays is within its limit.

@@ -1,10 +1,10 @@
 use Rattle.play_days.proofs.Rows.{days-cases}
 use borrow.Author.Needs.{needs}
-use Rattle.play_days.proofs.days_of.Statement.{statement}
-use Rattle.play_days.proofs.days_of.Tie as tie
+use Rattle.play_days.proofs.put_days.Statement.{statement}
+use Rattle.play_days.proofs.put_days.Tie as tie
 
-pub days-of-spec : {M : Type 1} → statement M
-days-of-spec =
+pub put-days-spec : {M : Type 1} → statement M
+put-days-spec =
     tie.close
     (tie.spec
     (λ c. search needs)
@@ -12,6 +12,5 @@ days-of-spec =
     (λ c κs. search (needs, days-cases))
     (λ c. search (needs, days-cases))
     (λ c. search (needs, days-cases))
-    (λ c. search needs)
     (λ c κs. search (needs, days-cases))
     (λ c. search needs))
