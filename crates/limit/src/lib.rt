@@ -26,11 +26,11 @@ fn limit_with(
     ensures { λ r. ⌜ r ≡ priceSum (turnsIn e (now (cols .entry))) (e .slopes) (now (prices .entry))
         + bestWorth (countedTurns (turnsIn e (now (cols .entry))) (e .slopes) (now (prices .entry))) ⌝ }
 {
-    if prices::greatest_driver(e.size, cols) == 0 {
-        return prices::limit_undriven(e, cols, prices, &mut *orders);
+    if 0 < prices::greatest_driver(e.size, cols) {
+        prices::put_orders(e, cols, &mut *orders, &mut *room);
+        return prices::limit_at(e, cols, &*orders, prices);
     }
-    prices::put_orders(e, cols, &mut *orders, &mut *room);
-    prices::limit_at(e, cols, &*orders, prices)
+    prices::limit_undriven(e, cols, prices, &mut *orders)
 }
 
 fn refused(k: u8) -> LimitAnswer

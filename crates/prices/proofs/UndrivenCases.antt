@@ -46,7 +46,7 @@ module _ (p : Size) (cols : List ℕ) where
 pub ruleset greatest-cases = (upto-start, upto-more, upto-done)
 
 -- where it is 0, no turn names one
-pub none-named : (e : Extent) (cols : List ℕ) {r : ℕ} → r ≡ 0 → DriversUpTo (turnsBy (e .size) cols) (e .size .count) r → NoDrivers (turnsIn e cols)
+pub none-named : (e : Extent) (cols : List ℕ) {r : ℕ} → r ≤ 0 → DriversUpTo (turnsBy (e .size) cols) (e .size .count) r → NoDrivers (turnsIn e cols)
 unfolding DriversUpTo
 none-named e cols z u t h = omega (arith, u t (omega (arith, count-is (e .size) cols)))
 
@@ -91,6 +91,10 @@ module _ (e : Extent) (cols prices : List ℕ) (none : NoDrivers (turnsIn e cols
 
       pub undriven-fits : a ≤ mostSlopes * mostPrice → Fits w32 (a + getD worths 0 0)
       undriven-fits l = omega (arith, f .most 0 (omega arith) (omega arith), w .few)
+
+-- the prices that the limit has in it are those of the slopes
+pub undriven-prices : (e : Extent) (cols prices : List ℕ) {r a : ℕ} → r ≤ 0 → DriversUpTo (turnsBy (e .size) cols) (e .size .count) r → a ≡ slopesSum prices (e .slopes) → a ≡ priceSum (turnsIn e cols) (e .slopes) prices
+undriven-prices e cols prices z u q = q ∙ sym (prices-slopes (turnsIn e cols) (e .slopes) prices (none-named e cols z u))
 
 pub ruleset slope-count-cases = (slope-counts, slope-above, slope-listed)
 

@@ -1,5 +1,5 @@
-// The limit of turns of which none names a driver. Each pays for its slope alone, so the drivers' order and
-// the sums along it are left out.
+// Turns of which none names a driver. Each pays for its slope alone, so the sums along the drivers' order are
+// left out, and for the limit that order too.
 ghost use mathlib.Core.Path.{_≡_};
 ghost use Prim.Native.Nat.{_+_, _≤_, _<_};
 ghost use lib.ListN.{length};
@@ -30,7 +30,7 @@ fn greater(x: u16, y: u16) -> u16
 
 // A number that no driver is above; 0 where no turn names one.
 pub fn greatest_driver(p: Size, cols: &[u16; PLACES]) -> u16
-    requires { ⌜ Held p (now cols) ⌝ }
+    requires { ⌜ p .count ≤ mostTurns ⌝ }
     ensures { λ r. ⌜ DriversUpTo (turnsBy p (now (cols .entry))) (p .count) r ⌝ }
 {
     let mut greatest: u16 = 0;
@@ -54,7 +54,12 @@ fn slope_count(e: Extent, cols: &[u16; PLACES], prices: &[u16], t: usize) -> u16
 }
 
 // What all turns count for.
-fn put_slope_counts(e: Extent, cols: &[u16; PLACES], prices: &[u16], counts: &mut [u16; MOST_TURNS])
+pub fn put_slope_counts(
+    e: Extent,
+    cols: &[u16; PLACES],
+    prices: &[u16],
+    counts: &mut [u16; MOST_TURNS],
+)
     requires { ⌜ Priced e (now cols) (now prices) × NoDrivers (turnsIn e (now cols)) × (length (now counts) ≡ mostTurns) ⌝ }
     ensures { λ _. ⌜ CountsTo (turnsIn e (now (cols .entry))) (e .slopes) (now (prices .entry)) (now (counts .exit)) (e .size .count) ⌝ }
 {

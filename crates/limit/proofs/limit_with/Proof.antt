@@ -8,8 +8,8 @@ limit-with-spec =
     tie.close
     (tie.spec
     (λ c κs. search needs)
-    (λ c κs. ((search needs, search needs, search needs, search none-named), search needs))
+    (λ c κs. search needs)
+    (λ c κs. search needs)
     (λ c. search needs)
-    (λ c κs. search needs)
-    (λ c κs. search needs)
+    (λ c κs. ((search needs, search needs, search needs, search none-named), search needs))
     (λ c. search needs))
