@@ -9,10 +9,6 @@ use slopeboard_reference::worked::{board_with, sheet_of, with, BOARD, SHEET, TUR
 
 use crate::{hex, lent, words, Corpus, Entry, Input};
 
-const READ: Entry = Entry(1, "read", 3);
-const SHORT: Entry = Entry(10, "short", 3);
-const BEST: Entry = Entry(11, "best", 1);
-
 /// Adds all cases.
 pub fn add(corpus: &mut Corpus) {
     sheets_refused(corpus);
@@ -71,43 +67,49 @@ fn counts(counts: naive::Counts) -> Vec<u64> {
     [groomers, slopes, turns].map(|count| count as u64).to_vec()
 }
 
-const TAKERS: [Taker; 7] = [
-    Taker {
-        entry: READ,
-        needs: |sheet| [6 * turns_of(sheet), 0],
-        call: |sheet, table, _| naive::read(sheet, table).map(counts),
-    },
-    Taker {
-        entry: SHORT,
-        needs: |sheet| [6 * turns_of(sheet), 0],
-        call: |sheet, table, _| naive::read_short(sheet, table).map(counts),
-    },
-    Taker {
-        entry: Entry(9, "assign", 1),
-        needs: |sheet| [turns_of(sheet), 0],
-        call: |sheet, places, _| naive::assign(sheet, places).map(|used| vec![used.into()]),
-    },
-    Taker {
-        entry: Entry(3, "plan", 1),
-        needs: |sheet| [0, 15 + turns_of(sheet).div_ceil(8) + 4 * turns_of(sheet)],
-        call: |sheet, _, board| naive::plan(sheet, board).map(|len| vec![len as u64]),
-    },
-    Taker {
-        entry: Entry(6, "list", 1),
-        needs: |sheet| [0, naive::listing(sheet, &mut [0; 4096]).unwrap_or(64)],
-        call: |sheet, _, text| naive::listing(sheet, text).map(|len| vec![len as u64]),
-    },
-    Taker {
-        entry: BEST,
-        needs: |sheet| [0, turns_of(sheet).div_ceil(8)],
-        call: |sheet, _, map| naive::best(sheet, map).map(|worth| vec![worth.into()]),
-    },
-    Taker {
-        entry: Entry(14, "keep", 1),
-        needs: |sheet| [0, sheet.len()],
-        call: |sheet, _, kept| naive::keep(sheet, kept).map(|len| vec![len as u64]),
-    },
-];
+const READ: Taker = Taker {
+    entry: Entry(1, "read", 3),
+    needs: |sheet| [6 * turns_of(sheet), 0],
+    call: |sheet, table, _| naive::read(sheet, table).map(counts),
+};
+
+const SHORT: Taker = Taker {
+    entry: Entry(10, "short", 3),
+    needs: |sheet| [6 * turns_of(sheet), 0],
+    call: |sheet, table, _| naive::read_short(sheet, table).map(counts),
+};
+
+const ASSIGN: Taker = Taker {
+    entry: Entry(9, "assign", 1),
+    needs: |sheet| [turns_of(sheet), 0],
+    call: |sheet, places, _| naive::assign(sheet, places).map(|used| vec![used.into()]),
+};
+
+const PLAN: Taker = Taker {
+    entry: Entry(3, "plan", 1),
+    needs: |sheet| [0, 15 + turns_of(sheet).div_ceil(8) + 4 * turns_of(sheet)],
+    call: |sheet, _, board| naive::plan(sheet, board).map(|len| vec![len as u64]),
+};
+
+const LIST: Taker = Taker {
+    entry: Entry(6, "list", 1),
+    needs: |sheet| [0, naive::listing(sheet, &mut [0; 4096]).unwrap_or(64)],
+    call: |sheet, _, text| naive::listing(sheet, text).map(|len| vec![len as u64]),
+};
+
+const BEST: Taker = Taker {
+    entry: Entry(11, "best", 1),
+    needs: |sheet| [0, turns_of(sheet).div_ceil(8)],
+    call: |sheet, _, map| naive::best(sheet, map).map(|worth| vec![worth.into()]),
+};
+
+const KEEP: Taker = Taker {
+    entry: Entry(14, "keep", 1),
+    needs: |sheet| [0, sheet.len()],
+    call: |sheet, _, kept| naive::keep(sheet, kept).map(|len| vec![len as u64]),
+};
+
+const TAKERS: [&Taker; 7] = [&READ, &SHORT, &ASSIGN, &PLAN, &LIST, &BEST, &KEEP];
 
 impl Corpus {
     /// The sheet with so many places lent; gives the refusal.
@@ -123,10 +125,10 @@ impl Corpus {
 
     /// A sheet that every entry refuses with this number, whatever is lent.
     fn refused(&mut self, number: u8, name: &str, sheet: &[u8]) {
-        for taker in &TAKERS {
+        for taker in TAKERS {
             let few = (taker.needs)(sheet).map(|places| places.min(9));
             let found = self.take(taker, name, sheet, few);
-            let for_short = taker.entry == SHORT && turns_of(sheet) > 96;
+            let for_short = taker.entry == SHORT.entry && turns_of(sheet) > 96;
             let due = match number {
                 1 | 4 if for_short => 20,
                 _ => number,
@@ -138,13 +140,15 @@ impl Corpus {
     /// A sheet that every entry takes, with all that it needs to be lent and, if it
     /// has few turns, with a place less. Two entries take fewer sheets than others.
     fn accepted(&mut self, name: &str, sheet: &[u8]) {
-        for taker in &TAKERS {
+        for taker in TAKERS {
             let lent = (taker.needs)(sheet);
             let found = self.take(taker, name, sheet, lent);
-            assert!(
-                matches!((found, taker.entry), (0, _) | (20, SHORT) | (21, BEST)),
-                "{name}"
-            );
+            let due = match found {
+                20 => taker.entry == SHORT.entry,
+                21 => taker.entry == BEST.entry,
+                _ => found == 0,
+            };
+            assert!(due, "{name}");
             if found == 0 && lent != [0, 0] && turns_of(sheet) < 9 {
                 let less = lent.map(|places| places.saturating_sub(1));
                 let found = self.take(taker, &format!("{name}, a place too few"), sheet, less);
@@ -416,8 +420,7 @@ const PLANS: &str = "
 fn plans(corpus: &mut Corpus) {
     for (number, name, rows) in table(PLANS) {
         let sheet = sheet_of(3, 4, &turns(rows));
-        let plan = &TAKERS[3];
-        corpus.take(plan, name, &sheet, (plan.needs)(&sheet));
+        corpus.take(&PLAN, name, &sheet, (PLAN.needs)(&sheet));
         corpus.check(number, name, &sheet, &planned(&sheet));
     }
 }
@@ -433,14 +436,13 @@ const TIMES: &str = "
 
 /// These, and more turns at once than a sheet has groomers.
 fn groomers_for_all(corpus: &mut Corpus) {
-    let assign = &TAKERS[2];
     for (_, name, times) in table(TIMES) {
         let turn = |time: &Vec<u16>| [1, 1, time[0], time[1], 1, 0];
         let turns: Vec<Row> = times.iter().map(turn).collect();
-        corpus.take(assign, name, &sheet_of(1, 1, &turns), [turns.len() + 1, 0]);
+        corpus.take(&ASSIGN, name, &sheet_of(1, 1, &turns), [turns.len() + 1, 0]);
     }
     let seventeen = sheet_of(1, 1, &[[1, 1, 0, 960, 1, 0]; 17]);
-    corpus.take(assign, "17 at once", &seventeen, [17, 0]);
+    corpus.take(&ASSIGN, "17 at once", &seventeen, [17, 0]);
 }
 
 /// One turn against two, equal worths, and what is no sheet with one turn a slope.
@@ -457,7 +459,7 @@ const SINGLE: &str = "
 
 fn one_turn_a_slope(corpus: &mut Corpus) {
     for (number, name, rows) in table(SINGLE) {
-        let found = corpus.take(&TAKERS[5], name, &sheet_of(2, 9, &turns(rows)), [0, 2]);
+        let found = corpus.take(&BEST, name, &sheet_of(2, 9, &turns(rows)), [0, 2]);
         assert_eq!(found, number, "{name}");
     }
 }

@@ -1,9 +1,7 @@
 //! The writer: one sheet for all orders of a table, and refusals by the
 //! table's own order.
 
-mod both;
-
-use both::{read, write};
+use crate::both::{read, write};
 use slopeboard_reference::gen::{self, Rng, Row, Shift};
 use slopeboard_reference::limits::NUMBERS_PER_TURN;
 use slopeboard_reference::shapes;

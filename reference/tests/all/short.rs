@@ -1,9 +1,7 @@
 //! The short reader: as the other reader up to 96 turns, and 20 for more. Shown
 //! for every limit as well.
 
-mod both;
-
-use both::{read, read_short};
+use crate::both::{read, read_short};
 use slopeboard_reference::gen::{self, Rng};
 use slopeboard_reference::naive::sheet::{read_within, Limit};
 use slopeboard_reference::naive::Counts;

@@ -2,9 +2,7 @@
 //! force on small sheets, what more rounds may do, and how close board and
 //! limit come.
 
-mod both;
-
-use both::{limit, planned, read, refine, sheet_of, sums, BYTE_KEPT};
+use crate::both::{limit, planned, read, refine, sheet_of, sums, BYTE_KEPT};
 use slopeboard_reference::expected::{self, KINDS};
 use slopeboard_reference::gen::{self, Rng, Row, Shift};
 use slopeboard_reference::naive::turns::turns_of;
@@ -26,7 +24,7 @@ fn sheet_on(slopes: u8, turns: &[Row]) -> Vec<u8> {
 
 fn drawn(seed: u64, groomers: u32, slopes: u32, turns: u32) -> Vec<u8> {
     let mut sheet = vec![0; 4007];
-    let len = both::draw(seed, [groomers, slopes, turns], &mut sheet).unwrap();
+    let len = crate::both::draw(seed, [groomers, slopes, turns], &mut sheet).unwrap();
     sheet.truncate(len);
     sheet
 }

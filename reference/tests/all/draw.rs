@@ -1,9 +1,7 @@
 //! Sheets drawn from a seed: the generator, the turns one by one, the refusals
 //! in their order.
 
-mod both;
-
-use both::{draw, plan, read, write};
+use crate::both::{draw, plan, read, write};
 use slopeboard_reference::gen::Rng;
 use slopeboard_reference::naive::draw::{drawn, length_of, next};
 

@@ -1,9 +1,7 @@
 //! Drivers: on the sheet, in the planner and the check, and what is left of the
 //! bounds on a sheet that names any.
 
-mod both;
-
-use both::{assign, check, listing, planned, read, sheet_of, write};
+use crate::both::{assign, check, listing, planned, read, sheet_of, write};
 use slopeboard_reference::boards::{self, Draft};
 use slopeboard_reference::gen::{self, Rng, Row, Shift};
 use slopeboard_reference::naive::planning::touched;

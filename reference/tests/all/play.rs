@@ -1,9 +1,7 @@
 //! A board played with delays: the standings by hand, by minutes, and the refusals
 //! in their order.
 
-mod both;
-
-use both::{check, planned, play, read};
+use crate::both::{check, planned, play, read};
 use slopeboard_reference::boards;
 use slopeboard_reference::gen::{self, Rng, Row};
 use slopeboard_reference::naive::play::{spans, Span};

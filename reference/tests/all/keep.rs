@@ -1,8 +1,6 @@
 //! The kept form of a sheet: there and back, and what is refused of it.
 
-mod both;
-
-use both::{keep, read, restore};
+use crate::both::{keep, read, restore};
 use slopeboard_reference::gen::{self, Rng, Shift};
 use slopeboard_reference::worked::SHEET;
 use slopeboard_reference::{kept, shapes};

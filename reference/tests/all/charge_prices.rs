@@ -2,9 +2,7 @@
 //! side, and brute force on small halls that no allowed set is worth more,
 //! whatever the prices are.
 
-mod both;
-
-use both::{charge, charge_limit, charge_refine, BYTE_KEPT};
+use crate::both::{charge, charge_limit, charge_refine, BYTE_KEPT};
 use slopeboard_reference::gen::{Rng, Row};
 use slopeboard_reference::halls::{self, Hall};
 use slopeboard_reference::naive::charge::{accept_hall, is_allowed};
@@ -67,14 +65,14 @@ fn refined(sheet: &[u8], rounds: u32) -> (ChargeRefined, Vec<usize>, Vec<u16>) {
     let windows = windows_of(sheet);
     let mut list = vec![PRICE_KEPT; 961];
     let call = |map: &mut [u8]| charge_refine(sheet, rounds, map, &mut list).unwrap();
-    let (found, set) = both::in_map(windows, call);
+    let (found, set) = crate::both::in_map(windows, call);
     assert_eq!(list.pop(), Some(PRICE_KEPT));
     let hall = accept_hall(sheet).unwrap_or_else(|_| unreachable!());
     let chosen: Vec<bool> = (0..windows).map(|window| set.contains(&window)).collect();
     assert!(is_allowed(&hall, &chosen));
     let worth: u32 = set.iter().map(|&window| hall.windows[window].worth).sum();
     assert_eq!(worth, found.worth);
-    let (plan, planned) = both::in_map(windows, |map| charge(sheet, map).unwrap());
+    let (plan, planned) = crate::both::in_map(windows, |map| charge(sheet, map).unwrap());
     assert!(plan <= worth && worth <= found.limit);
     // Only what is worth more takes the plan's place.
     assert!(worth > plan || set == planned);
@@ -168,7 +166,7 @@ fn a_list_of_another_length() {
         Err(10)
     );
     // A shift is no charging sheet.
-    assert_eq!(charge_limit(&both::sheet_of(&[]), &[0; 959]), Err(2));
+    assert_eq!(charge_limit(&crate::both::sheet_of(&[]), &[0; 959]), Err(2));
 }
 
 /// Two windows that take all units and twelve that do so together, one minute,

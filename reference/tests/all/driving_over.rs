@@ -1,9 +1,7 @@
 //! Ten minutes between two turns of a groomer: what 9, 10 and 11 minutes lead
 //! to, in the planner and in the check.
 
-mod both;
-
-use both::{check, planned, sheet_of};
+use crate::both::{check, planned, sheet_of};
 use slopeboard_reference::boards::Draft;
 use slopeboard_reference::gen::Row;
 use slopeboard_reference::naive::best_worth;

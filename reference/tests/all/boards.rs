@@ -1,8 +1,6 @@
 //! The seeded boards and shapes are what they are said to be.
 
-mod both;
-
-use both::{check, plan};
+use crate::both::{check, plan};
 use slopeboard_reference::boards::{self, Draft, Order};
 use slopeboard_reference::gen::{self, Rng, Row};
 use slopeboard_reference::naive::{count, is_chosen};

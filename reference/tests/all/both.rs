@@ -1,9 +1,6 @@
 //! What both versions do, called in both: they must agree in every answer and
 //! in every place that was lent. Gives the judge's answer.
 
-// Each test file uses some of these.
-#![allow(dead_code)]
-
 use slopeboard_reference::gen::Row;
 use slopeboard_reference::naive::{ChargeRefined, Counts, Improved, Refined, Standing, Sums};
 use slopeboard_reference::{fast, naive, worked};

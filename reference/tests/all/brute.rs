@@ -1,9 +1,7 @@
 //! Brute force on small sheets: every set, every choice, every list of steps.
 //! And both versions side by side on sheets and boards of every kind.
 
-mod both;
-
-use both::{check, listing, plan, read, write};
+use crate::both::{check, listing, plan, read, write};
 use slopeboard_reference::boards::{self, Draft};
 use slopeboard_reference::gen::{self, Rng, Shift};
 use slopeboard_reference::limits::NUMBERS_PER_TURN;

@@ -1,9 +1,7 @@
 //! A better choice than the planned one: the visits one by one, and brute
 //! force on small sheets.
 
-mod both;
-
-use both::{improve, in_map, plan, read, sheet_of, sums};
+use crate::both::{improve, in_map, plan, read, sheet_of, sums};
 use slopeboard_reference::gen::{self, Rng, Row};
 use slopeboard_reference::naive::turns::{conflict, turns_of, Turn};
 use slopeboard_reference::naive::{best_worth, Improved};

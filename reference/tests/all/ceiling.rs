@@ -1,9 +1,7 @@
 //! The ceiling: how often each step counts, and brute force that no set of
 //! turns without a conflict is worth more.
 
-mod both;
-
-use both::{listing, planned, sheet_of, sums};
+use crate::both::{listing, planned, sheet_of, sums};
 use slopeboard_reference::boards::{self, Draft};
 use slopeboard_reference::gen::{self, Rng, Row, Shift};
 use slopeboard_reference::naive::ceiling::fewest_groups;

@@ -1,9 +1,7 @@
 //! A limit by prices: cases by hand, both versions side by side, and brute
 //! force on small sheets that no set is worth more, whatever the prices are.
 
-mod both;
-
-use both::{best, limit, planned, read, sheet_of, sums};
+use crate::both::{best, limit, planned, read, sheet_of, sums};
 use slopeboard_reference::gen::{self, Rng, Row, Shift};
 use slopeboard_reference::naive::limit::{counts_for, look, paid, pays_for_driver};
 use slopeboard_reference::naive::sheet::{accept, Sheet};

@@ -1,9 +1,7 @@
 //! Groomers for all turns: the assignment word by word, and brute force on
 //! small sheets that none uses fewer.
 
-mod both;
-
-use both::{assign, sheet_of};
+use crate::both::{assign, sheet_of};
 use slopeboard_reference::gen::{self, Rng, Row};
 use slopeboard_reference::naive::partition::{assigned, most_at_once, used};
 use slopeboard_reference::naive::turns::{too_close, turns_of, Turn};
@@ -214,7 +212,7 @@ fn refused_sheets_agree() {
         let shift = gen::shift(&mut rng, turns);
         let faults = rng.between(1, 3);
         let sheet = gen::with_faults(&mut rng, &shift, faults);
-        let number = both::read(&sheet, &mut [0; 2400]).err();
+        let number = crate::both::read(&sheet, &mut [0; 2400]).err();
         let mut places = vec![KEPT; 402];
         assert_eq!(assign(&sheet, &mut places).err(), number);
         assert!(number.is_none() || places.iter().all(|&place| place == KEPT));

@@ -1,9 +1,7 @@
 //! The best worth where no slope has two turns and no turn names a driver:
 //! brute force, and the planned board beside it.
 
-mod both;
-
-use both::{best, check, in_map, plan, read, sheet_of};
+use crate::both::{best, check, in_map, plan, read, sheet_of};
 use slopeboard_reference::gen::{self, Rng, Row, Shift};
 use slopeboard_reference::naive::best::by_end;
 use slopeboard_reference::naive::best_worth;

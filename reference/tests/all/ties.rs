@@ -1,9 +1,7 @@
 //! Turns that end in the same minute: the one of which the most remains is
 //! picked first, then the lowest number. The check takes any of them first.
 
-mod both;
-
-use both::{check, planned, sheet_of};
+use crate::both::{check, planned, sheet_of};
 use slopeboard_reference::boards::{self, Draft, Order};
 use slopeboard_reference::gen::{self, Rng, Row};
 use slopeboard_reference::naive::planning::{pick, worths};

@@ -1,9 +1,7 @@
 //! The charging hall: steps by hand, both versions side by side, and brute
 //! force on small halls that no allowed set is worth more than promised.
 
-mod both;
-
-use both::{charge, in_map};
+use crate::both::{charge, in_map};
 use slopeboard_reference::gen::{Rng, Row};
 use slopeboard_reference::halls::{self, Hall};
 use slopeboard_reference::naive::charge::{accept_hall, is_allowed, kind, planned, Kind};

@@ -1,8 +1,6 @@
 //! The worked example and the named cases, refusal by refusal.
 
-mod both;
-
-use both::{check, listing, plan, read, write};
+use crate::both::{check, listing, plan, read, write};
 use slopeboard_reference::naive::{count, is_chosen, open, refused_line, steps, Counts};
 use slopeboard_reference::worked::{BOARD, SHEET};
 
