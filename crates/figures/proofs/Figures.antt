@@ -1,5 +1,7 @@
 -- The numbers are those: each equation is computed, or is a law with its number written out. Assumes nothing.
 use Prim.Native.Nat.{_%_}
+use native.Mathlib.Omega.{arith}
+use borrow.Author.Tests.{ne-eqb, lt-ltb}
 use mathlib.Core.Path.{refl, sym}
 use native.Mathlib.Numerals.{unary-clauses}
 use Rattle.turn.specs.Turn.{outsideRange}
@@ -17,10 +19,16 @@ use Rattle.trial_spec.proofs.Draws.{length-first, length-second, length-third, 
 use Rattle.hall_spec.specs.Hall.{isWide, wideDraw}
 use Rattle.hall_spec.specs.Plan.{roundedUp, smallTakes}
 use Rattle.hall_spec.specs.Charge.{chargingSheet}
+use Rattle.price_spec.proofs.LimitCauses.{limit-accepted-iff}
+use Rattle.refine_spec.specs.Rounds.{startFrom, firstChange, nextChange}
+use Rattle.refine_spec.specs.Shift.{movedPrice, turnChange, shiftStart}
+use Rattle.hall_price_spec.specs.Prices.{windowPays, supplyCost}
+use Rattle.hall_price_spec.specs.Hall.{movedMinute, hallStart}
+use Rattle.hall_price_spec.proofs.LimitCauses.{charge-limit-accepted-iff}
 use Rattle.figures.specs.Figures.{Figures}
 
 pub figures : Figures
-unfolding outsideRange garage withTurns widthOf field turnFrom liftDesk archive problemOf sheetTurns nextDraw turnDrawn isWide wideDraw roundedUp smallTakes chargingSheet
+unfolding outsideRange garage withTurns widthOf field turnFrom liftDesk archive problemOf sheetTurns nextDraw turnDrawn isWide wideDraw roundedUp smallTakes chargingSheet startFrom firstChange nextChange movedPrice turnChange shiftStart windowPays supplyCost movedMinute hallStart
 figures =
     record {
       groomers = refl;
@@ -95,6 +103,16 @@ figures =
       to-69 = λ counts a b c d e h k. sym (length-second (d % 100) h k);
       to-89 = λ counts a b c d e h k. sym (length-third (d % 100) h k);
       to-99 = λ counts a b c d e h. sym (length-fourth (d % 100) h);
+      shift-list = limit-accepted-iff;
+      hall-list = charge-limit-accepted-iff;
+      window-pays = λ H prices t. refl;
+      supply-costs = λ H prices. refl;
+      first-change = λ T groomers slopes. refl;
+      first-hall-change = λ H vehicles. refl;
+      next-change = λ change. refl;
+      turn-change = λ change. refl;
+      highest-price = λ change k price l. rw (ne-eqb k 0 (λ e. omega (arith, l, e)), ne-eqb k 1 (λ e. omega (arith, l, e)));
+      highest-minute = λ change units drawn price l. rw (lt-ltb units drawn l);
       factor = λ p. p .twice;
       driven-factor = λ p. p .thrice;
       driven-one-turn = λ p. p .twice-one-turn;

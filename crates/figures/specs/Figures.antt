@@ -1,5 +1,5 @@
--- The numbers that the format's description fixes, on one page: each is said of a definition with a literal, mostly as an equation (documents 01 and 02). Assumes nothing.
-use Prim.Native.Nat.{ℕ, _+_, _-_, _*_, _/_, _%_, _≤_}
+-- The numbers that the format's description fixes, on one page: each is said of a definition with a literal, mostly as an equation (documents 01, 02 and 03). Assumes nothing.
+use Prim.Native.Nat.{ℕ, _+_, _-_, _*_, _/_, _%_, _≤_, _<_, max, min}
 use mathlib.Core.Path.{_≡_}
 use mathlib.Core.Bool.{Bool, true, false}
 use mathlib.Core.Logic.{_↔_}
@@ -7,6 +7,7 @@ use mathlib.Core.List.{List, [], _∷_}
 use lib.Dec.{ltb}
 use lib.ListN.{length}
 use lib.IntN.{pos, negℤ}
+use Rattle.lists.specs.Lists.{sum, below}
 use Rattle.refusal.specs.Number.{truncated, badMagic, badCounts, tooManyTurns, badMap, badSlope, badGroomer, badTime, badWorth, trailingBytes, bufferTooSmall, malformedBoard, chosenConflict, notMaximal, wrongStep, turnLeftOpen, wrongSums, partialTurn, badDriver, tooManyForScreen, notSingleTurns, tooManyToSearch, badSeed, badDelays, badDraw, badPrices}
 use Rattle.wire.specs.Number.{valueAt, Bytes}
 use Rattle.wire.specs.Mark.{sheetMark, boardMark, keptMark, chargingMark}
@@ -31,10 +32,16 @@ use Rattle.search_spec.specs.Improve.{mostSearched}
 use Rattle.trial_spec.specs.Draw.{mostDraw, nextDraw, drawNumber, turnDraws, turnDrawn}
 use Rattle.play_spec.specs.Day.{overMinutes, mostDelay}
 use Rattle.play_spec.specs.Standing.{noTurnInHand}
-use Rattle.hall_spec.specs.Hall.{mostUnits, mostVehicles, hallGap, Hall, draw, sameVehicle, shareMinute, isWide, Allowed}
+use Rattle.hall_spec.specs.Hall.{mostUnits, mostVehicles, hallGap, Hall, windowCount, draw, sameVehicle, shareMinute, isWide, Allowed}
 use Rattle.hall_spec.specs.Plan.{smallTakes, smallSteps, hallWorth}
 use Rattle.hall_spec.specs.Promises.{worthOfWindows, HallPromises}
-use Rattle.hall_spec.specs.Charge.{chargingSheet}
+use Rattle.hall_spec.specs.Charge.{chargingSheet, AcceptedCharging}
+use Rattle.price_spec.specs.Limit.{limitOf}
+use Rattle.refine_spec.specs.Rounds.{nextChange, greatestOf}
+use Rattle.refine_spec.specs.Shift.{movedPrice, turnChange, greatestWorth, shiftStart}
+use Rattle.hall_price_spec.specs.Prices.{minutesCost, windowPays, minutePrice, supplyCost}
+use Rattle.hall_price_spec.specs.Hall.{movedMinute, hallStart}
+use Rattle.hall_price_spec.specs.Limit.{chargeLimitOf}
 
 pub record Figures : Type 0 where
   -- ---- turns
@@ -161,6 +168,23 @@ pub record Figures : Type 0 where
   pub to-69 : (counts : Counts) (a b c d e : ℕ) → 40 ≤ d % 100 → d % 100 ≤ 69 → turnDrawn counts a b c d e .length ≡ 45
   pub to-89 : (counts : Counts) (a b c d e : ℕ) → 70 ≤ d % 100 → d % 100 ≤ 89 → turnDrawn counts a b c d e .length ≡ 60
   pub to-99 : (counts : Counts) (a b c d e : ℕ) → 90 ≤ d % 100 → turnDrawn counts a b c d e .length ≡ 90
+  -- ---- prices
+
+  -- a price list of a shift has a number for each slope and each turn, one of a hall has 960
+  pub shift-list : {s : List ℕ} → Bytes s → (prices : List ℕ) → (limitOf s prices .refusal ≡ 0) ↔ (Accepted s × (length prices ≡ valueAt s 4 1 + valueAt s 5 2))
+  pub hall-list : {s : List ℕ} → Bytes s → (prices : List ℕ) → (chargeLimitOf s prices .refusal ≡ 0) ↔ (AcceptedCharging s × (length prices ≡ 960))
+  -- a hall's prices are sixteenths
+  pub window-pays : (H : Hall) (prices : List ℕ) (t : ℕ) → windowPays H prices t ≡ draw H t * minutesCost H prices t / 16
+  pub supply-costs : (H : Hall) (prices : List ℕ) → supplyCost H prices ≡ H .units * sum (minutePrice prices) (below 960) / 16
+  -- the first change is a quarter of the greatest worth, in a hall an eighth, rounded up; then it falls by a sixteenth of itself
+  pub first-change : (T : Turns) (groomers slopes : ℕ) → shiftStart T groomers slopes .change ≡ (greatestWorth T + 3) / 4
+  pub first-hall-change : (H : Hall) (vehicles : ℕ) → hallStart H vehicles .change ≡ (greatestOf (H .windows .worth) (below (windowCount H)) + 7) / 8
+  pub next-change : (change : ℕ) → nextChange change ≡ max 1 (15 * change / 16)
+  -- a turn's price changes by half of it, and at least by 1
+  pub turn-change : (change : ℕ) → turnChange change ≡ max 1 (change / 2)
+  -- a price that k turns pay, k above 1, rises to 60,000 at most; one of a minute in which more than the units is drawn, to 65,535
+  pub highest-price : (change k price : ℕ) → 2 ≤ k → movedPrice change k price ≡ min 60000 (price + (k - 1) * change)
+  pub highest-minute : (change units drawn price : ℕ) → units < drawn → movedMinute change units drawn price ≡ min 65535 (price + (change * (drawn - units) + (units - 1)) / units)
   -- ---- the factors in the promises
 
   -- without drivers no feasible set is worth more than twice the tally
