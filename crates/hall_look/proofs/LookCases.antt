@@ -10,7 +10,7 @@ use native.Mathlib.Numerals.{add-one}
 use native.Mathlib.Decide.{decLt, ℕ-discrete}
 use mir.Syntax.{w16, w32}
 use mir.Val.{Fits}
-use lib.Dec.{eqb}
+use lib.Dec.{ltb, eqb}
 use lib.ListN.{length, getD, set, replicate, length-set, length-replicate}
 use lib.Seq.{getD-set-same, getD-set-other}
 use borrow.Author.Tests.{eq-eqb, ne-eqb, lt-ltb, le-ltb, lt-leb, le-leb}
@@ -27,7 +27,7 @@ use Rattle.hall_spec.specs.Hall.{mostUnits, mostVehicles, Hall, vehicle, draw, 
 use Rattle.hall_spec.proofs.Windows.{in-charges}
 use Rattle.hall_price_spec.specs.Prices.{priceParts, minutePrice, minutesCost, windowPays, windowCounts, alone, richestOf, vehicleBest, supplyCost, hallLimit}
 use Rattle.hall_look.specs.declared.HallSize.{HallSize}
-use Rattle.hall_look.specs.Look.{mostPrice, vehiclePlaces, hallFor, pricesBelow, rowCounts, countAt, bestsSum, windowBefore, HallPosed, Summed, WindowRow, Counted, Bests, TakenBy}
+use Rattle.hall_look.specs.Look.{mostPrice, vehiclePlaces, hallFor, pricesBelow, rowCounts, bestsSum, windowBefore, HallPosed, Summed, WindowRow, Bests, TakenBy}
 use Rattle.hall_look.proofs.SumCases.{below-more}
 
 -- ---- what a window's minutes cost, by sums
@@ -99,11 +99,8 @@ module _ (h : HallSize) (cols : List ℕ) (q : HallPosed h cols) where
         vehicle = omega (arith, slope-at (h .size) cols t l e, q .held .vehicles t l);
       }
 
-  pub window-vehicle : (t : ℕ) {a : Row} → t < h .size .count → a ≡ rowIn cols t → a .slope < vehiclePlaces
-  window-vehicle t l e = omega (arith, slope-at (h .size) cols t l e, q .held .vehicles t l)
-
-  pub window-fits : {t : ℕ} → t < h .size .count → Fits w16 (t + 1)
-  window-fits l = omega (arith, few-windows)
+  pub window-vehicle : (t : ℕ) {a : Row} {v : ℕ} → t < h .size .count → a ≡ rowIn cols t → v ≡ a .slope → v ≤ mostVehicles
+  window-vehicle t l e f = omega (arith, f, slope-at (h .size) cols t l e, q .held .vehicles t l)
 
   row-counts : (prices : List ℕ) (t : ℕ) {a : Row} → t < h .size .count → a ≡ rowIn cols t → rowCounts prices a ≡ windowCounts (hallFor h cols) prices t
   unfolding rowCounts windowCounts windowPays
@@ -111,28 +108,8 @@ module _ (h : HallSize) (cols : List ℕ) (q : HallPosed h cols) where
       let c = cost-is (hallFor h cols) prices t (omega (arith, q .held .held .starts t l)) (q .held .held .ends t l) in
       rw (c, worth-at (h .size) cols t l e, groomer-at (h .size) cols t l e, start-at (h .size) cols t l e, end-at (h .size) cols t l e)
 
-  module _ (prices counts : List ℕ) where
-    pub counted-start : length counts ≡ mostTurns → Counted (hallFor h cols) prices 0 counts
-    counted-start l = record { places = l; values = λ t z. absurd (omega arith) }
-
-    pub counted-fits : {x : ℕ} → x ≤ mostWorth → Fits w16 x
-    counted-fits l = omega arith
-
-    pub counted-more : {t x : ℕ} {a : Row} → Counted (hallFor h cols) prices t counts → t < h .size .count → a ≡ rowIn cols t → x ≡ rowCounts prices a → Counted (hallFor h cols) prices (t + 1) (set counts t x)
-    counted-more {t} {x} {a} c l e f =
-        record {
-          places = length-set counts t x ∙ c .places;
-          values = λ k z. at k z (ℕ-discrete k t);
-        }
-      where
-        at : (k : ℕ) → k < t + 1 → Dec (k ≡ t) → getD (set counts t x) k 0 ≡ windowCounts (hallFor h cols) prices k
-        at k z (yes w) = rw w (getD-set-same counts t x 0 (omega (arith, c .places, few-windows)) ∙ f ∙ row-counts prices t l e)
-        at k z (no w) = getD-set-other counts t k x 0 w ∙ c .values k (omega arith)
-
-    pub counted-done : {t : ℕ} → Counted (hallFor h cols) prices t counts → h .size .count ≤ t → Counted (hallFor h cols) prices (h .size .count) counts
-    counted-done c l = record { places = c .places; values = λ k z. c .values k (omega arith) }
-
-pub ruleset counted-cases = (window-inside, window-row, counted-start, counted-fits, counted-more, counted-done)
+pub counted-fits : {x : ℕ} → x ≤ mostWorth → Fits w16 x
+counted-fits l = omega arith
 
 -- ---- the vehicles' best windows
 
@@ -158,17 +135,11 @@ window-next : {t : ℕ} → windowBefore (t + 1) ≡ t ∷ []
 unfolding windowBefore
 window-next {t} = rw (add-one t)
 
--- counts that agree give the same
-richest-same : (H : Hall) (f g : ℕ → ℕ) (v k : ℕ) → ((t : ℕ) → t < k → f t ≡ g t) → richestOf H f v k ≡ richestOf H g v k
-unfolding richestOf
-richest-same H f g v zero e = refl
-richest-same H f g v (suc k) e = rw (richest-same H f g v k (λ t l. e t (omega arith)), e k (omega arith))
-
-module _ (h : HallSize) (cols : List ℕ) (q : HallPosed h cols) (counts most taken : List ℕ) where
+module _ (h : HallSize) (cols : List ℕ) (q : HallPosed h cols) (prices most taken : List ℕ) where
   abbrev H : Hall
   H = hallFor h cols
 
-  pub bests-start : most ≡ replicate vehiclePlaces 0 → taken ≡ replicate vehiclePlaces 0 → Bests H counts 0 most taken
+  pub bests-start : most ≡ replicate vehiclePlaces 0 → taken ≡ replicate vehiclePlaces 0 → Bests H prices 0 most taken
   unfolding richestOf windowBefore
   bests-start e f =
       record {
@@ -178,7 +149,7 @@ module _ (h : HallSize) (cols : List ℕ) (q : HallPosed h cols) (counts most ta
         windows = λ v l. rw (f, zeros-at vehiclePlaces v);
       }
 
-  module _ {t : ℕ} {a : Row} (b : Bests H counts t most taken) (l : t < h .size .count) (e : a ≡ rowIn cols t) where
+  module _ {t : ℕ} {a : Row} (b : Bests H prices t most taken) (l : t < h .size .count) (e : a ≡ rowIn cols t) {x : ℕ} (f : x ≡ rowCounts prices a) where
     vehicle-is : vehicle H t ≡ a .slope
     vehicle-is = sym (slope-at (h .size) cols t l e)
 
@@ -191,48 +162,79 @@ module _ (h : HallSize) (cols : List ℕ) (q : HallPosed h cols) (counts most ta
     in-taken : a .slope < length taken
     in-taken = omega (arith, b .places-too, vehicle-to)
 
-    pub bests-taken : getD most (a .slope) 0 < getD counts t 0 → Bests H counts (t + 1) (set most (a .slope) (getD counts t 0)) (set taken (a .slope) (t + 1))
+    counts-is : windowCounts H prices t ≡ x
+    counts-is = sym (f ∙ row-counts h cols q prices t l e)
+
+    bests-taken : getD most (a .slope) 0 < x → Bests H prices (t + 1) (set most (a .slope) (x)) (set taken (a .slope) (t + 1))
     bests-taken m =
         record {
-          places = length-set most (a .slope) (getD counts t 0) ∙ b .places;
+          places = length-set most (a .slope) (x) ∙ b .places;
           places-too = length-set taken (a .slope) (t + 1) ∙ b .places-too;
           values = λ v z. worth v z (ℕ-discrete v (a .slope));
           windows = λ v z. window v z (ℕ-discrete v (a .slope));
         }
       where
-        is : richestOf H (countAt counts) (a .slope) (t + 1) ≡ alone (countAt counts) t
-        is = richest-taken H (countAt counts) (a .slope) t vehicle-is (omega (arith, b .values (a .slope) vehicle-to))
+        is : richestOf H (windowCounts H prices) (a .slope) (t + 1) ≡ alone (windowCounts H prices) t
+        is = richest-taken H (windowCounts H prices) (a .slope) t vehicle-is (omega (arith, b .values (a .slope) vehicle-to, counts-is))
 
-        other : (v : ℕ) → v ≢ a .slope → richestOf H (countAt counts) v (t + 1) ≡ richestOf H (countAt counts) v t
-        other v d = richest-other H (countAt counts) v t (λ z. d (sym z ∙ vehicle-is))
+        other : (v : ℕ) → v ≢ a .slope → richestOf H (windowCounts H prices) v (t + 1) ≡ richestOf H (windowCounts H prices) v t
+        other v d = richest-other H (windowCounts H prices) v t (λ z. d (sym z ∙ vehicle-is))
 
-        worth : (v : ℕ) → v ≤ mostVehicles → Dec (v ≡ a .slope) → getD (set most (a .slope) (getD counts t 0)) v 0 ≡ richestOf H (countAt counts) v (t + 1) .worth
-        worth v z (yes w) = rw w (getD-set-same most (a .slope) (getD counts t 0) 0 in-most ∙ ap (λ (x : Best). x .worth) (sym is))
-        worth v z (no w) = getD-set-other most (a .slope) v (getD counts t 0) 0 w ∙ b .values v z ∙ ap (λ (x : Best). x .worth) (sym (other v w))
+        worth : (v : ℕ) → v ≤ mostVehicles → Dec (v ≡ a .slope) → getD (set most (a .slope) (x)) v 0 ≡ richestOf H (windowCounts H prices) v (t + 1) .worth
+        worth v z (yes w) = rw w (getD-set-same most (a .slope) (x) 0 in-most ∙ sym counts-is ∙ ap (λ (y : Best). y .worth) (sym is))
+        worth v z (no w) = getD-set-other most (a .slope) v (x) 0 w ∙ b .values v z ∙ ap (λ (y : Best). y .worth) (sym (other v w))
 
-        window : (v : ℕ) → v ≤ mostVehicles → Dec (v ≡ a .slope) → windowBefore (getD (set taken (a .slope) (t + 1)) v 0) ≡ richestOf H (countAt counts) v (t + 1) .turns
-        window v z (yes w) = rw w (ap windowBefore (getD-set-same taken (a .slope) (t + 1) 0 in-taken) ∙ window-next ∙ ap (λ (x : Best). x .turns) (sym is))
-        window v z (no w) = ap windowBefore (getD-set-other taken (a .slope) v (t + 1) 0 w) ∙ b .windows v z ∙ ap (λ (x : Best). x .turns) (sym (other v w))
+        window : (v : ℕ) → v ≤ mostVehicles → Dec (v ≡ a .slope) → windowBefore (getD (set taken (a .slope) (t + 1)) v 0) ≡ richestOf H (windowCounts H prices) v (t + 1) .turns
+        window v z (yes w) = rw w (ap windowBefore (getD-set-same taken (a .slope) (t + 1) 0 in-taken) ∙ window-next ∙ ap (λ (y : Best). y .turns) (sym is))
+        window v z (no w) = ap windowBefore (getD-set-other taken (a .slope) v (t + 1) 0 w) ∙ b .windows v z ∙ ap (λ (y : Best). y .turns) (sym (other v w))
 
-    pub bests-kept : getD counts t 0 ≤ getD most (a .slope) 0 → Bests H counts (t + 1) most taken
+    bests-kept : x ≤ getD most (a .slope) 0 → Bests H prices (t + 1) most taken
     bests-kept m =
         record {
           places = b .places;
           places-too = b .places-too;
-          values = λ v z. b .values v z ∙ ap (λ (x : Best). x .worth) (sym (same v (ℕ-discrete v (a .slope))));
-          windows = λ v z. b .windows v z ∙ ap (λ (x : Best). x .turns) (sym (same v (ℕ-discrete v (a .slope))));
+          values = λ v z. b .values v z ∙ ap (λ (y : Best). y .worth) (sym (same v (ℕ-discrete v (a .slope))));
+          windows = λ v z. b .windows v z ∙ ap (λ (y : Best). y .turns) (sym (same v (ℕ-discrete v (a .slope))));
         }
       where
-        same : (v : ℕ) → Dec (v ≡ a .slope) → richestOf H (countAt counts) v (t + 1) ≡ richestOf H (countAt counts) v t
-        same v (yes w) = richest-no-more H (countAt counts) v t (vehicle-is ∙ sym w) (rw w (omega (arith, b .values (a .slope) vehicle-to)))
-        same v (no w) = richest-other H (countAt counts) v t (λ z. w (sym z ∙ vehicle-is))
+        same : (v : ℕ) → Dec (v ≡ a .slope) → richestOf H (windowCounts H prices) v (t + 1) ≡ richestOf H (windowCounts H prices) v t
+        same v (yes w) = richest-no-more H (windowCounts H prices) v t (vehicle-is ∙ sym w) (rw w (omega (arith, b .values (a .slope) vehicle-to, counts-is)))
+        same v (no w) = richest-other H (windowCounts H prices) v t (λ z. w (sym z ∙ vehicle-is))
 
-  pub bests-done : {t : ℕ} → Bests H counts t most taken → t ≤ h .size .count → h .size .count ≤ t → Bests H counts (h .size .count) most taken
+    pub bests-more : {v : ℕ} {most′ taken′ : List ℕ} → v ≡ a .slope → most′ ≡ cond (ltb (getD most v 0) x) (set most v x) most → taken′ ≡ cond (ltb (getD most v 0) x) (set taken v (t + 1)) taken → Bests H prices (t + 1) most′ taken′
+    bests-more g m n = rw (m, n, g) (go (decLt (getD most (a .slope) 0) x))
+      where
+        go : Dec (getD most (a .slope) 0 < x) → Bests H prices (t + 1) (cond (ltb (getD most (a .slope) 0) x) (set most (a .slope) x) most) (cond (ltb (getD most (a .slope) 0) x) (set taken (a .slope) (t + 1)) taken)
+        go (yes z) = rw (lt-ltb (getD most (a .slope) 0) x z) (bests-taken z)
+        go (no z) = let k : x ≤ getD most (a .slope) 0 = omega arith in rw (le-ltb (getD most (a .slope) 0) x k) (bests-kept k)
+
+  pub bests-long : {t : ℕ} → Bests H prices t most taken → length most ≡ vehiclePlaces
+  bests-long b = b .places
+
+  pub bests-long-too : {t : ℕ} → Bests H prices t most taken → length taken ≡ vehiclePlaces
+  bests-long-too b = b .places-too
+
+  pub bests-done : {t : ℕ} → Bests H prices t most taken → t ≤ h .size .count → h .size .count ≤ t → Bests H prices (h .size .count) most taken
   bests-done {t} b k l = let z : t ≡ h .size .count = omega arith in (rw z at b)
 
-pub ruleset window-cases = (window-inside, window-vehicle, window-fits, bests-taken, bests-kept)
+pub ruleset bests-cases = (window-inside, window-row, window-vehicle, counted-fits, bests-start, bests-more, bests-long, bests-long-too, bests-done)
 
-pub ruleset bests-cases = (bests-start, bests-done)
+-- ---- a window in its vehicle's place
+
+module _ (most taken : List ℕ) (v count t : ℕ) where
+  pub best-taken : getD most v 0 < count → set most v count ≡ cond (ltb (getD most v 0) count) (set most v count) most
+  best-taken h = rw (lt-ltb (getD most v 0) count h)
+
+  pub window-taken : getD most v 0 < count → set taken v (t + 1) ≡ cond (ltb (getD most v 0) count) (set taken v (t + 1)) taken
+  window-taken h = rw (lt-ltb (getD most v 0) count h)
+
+  pub best-stays : count ≤ getD most v 0 → most ≡ cond (ltb (getD most v 0) count) (set most v count) most
+  best-stays h = rw (le-ltb (getD most v 0) count h)
+
+  pub window-stays : count ≤ getD most v 0 → taken ≡ cond (ltb (getD most v 0) count) (set taken v (t + 1)) taken
+  window-stays h = rw (le-ltb (getD most v 0) count h)
+
+pub ruleset keep-cases = (best-taken, window-taken, best-stays, window-stays)
 
 -- ---- the limit
 
@@ -284,10 +286,10 @@ module _ (h : HallSize) (cols : List ℕ) (q : HallPosed h cols) (prices sums : 
 
 pub ruleset supply-cases = (supply-fits, supply-is, supply-most)
 
-module _ (h : HallSize) (cols : List ℕ) (q : HallPosed h cols) (prices counts most taken : List ℕ) (c : Counted (hallFor h cols) prices (h .size .count) counts) (b : Bests (hallFor h cols) counts (h .size .count) most taken) where
-  best-is : (v : ℕ) → richestOf (hallFor h cols) (countAt counts) v (h .size .count) ≡ vehicleBest (hallFor h cols) prices v
+module _ (h : HallSize) (cols : List ℕ) (q : HallPosed h cols) (prices most taken : List ℕ) (b : Bests (hallFor h cols) prices (h .size .count) most taken) where
+  best-is : (v : ℕ) → richestOf (hallFor h cols) (windowCounts (hallFor h cols) prices) v (h .size .count) ≡ vehicleBest (hallFor h cols) prices v
   unfolding vehicleBest
-  best-is v = richest-same (hallFor h cols) (countAt counts) (windowCounts (hallFor h cols) prices) v (h .size .count) (c .values) ∙ ap (richestOf (hallFor h cols) (windowCounts (hallFor h cols) prices) v) (sym (count-is (h .size) cols))
+  best-is v = ap (richestOf (hallFor h cols) (windowCounts (hallFor h cols) prices) v) (sym (count-is (h .size) cols))
 
   bests-are : (n : ℕ) → n ≤ mostVehicles → bestsSum most n ≡ sum (λ k. vehicleBest (hallFor h cols) prices (k + 1) .worth) (below n)
   unfolding bestsSum

@@ -5,7 +5,6 @@ use Prim.Native.Nat.{ℕ, zero, suc, _+_, _-_, _*_, _/_, _≤_, _<_}
 use lib.ListN.{length, getD}
 use Rattle.lists.specs.Lists.{sum, below}
 use Rattle.turn.specs.Turn.{shiftMinutes, mostWorth}
-use Rattle.sheet.specs.Kind.{mostTurns}
 use Rattle.choice_map.specs.Choice.{withTurn}
 use Rattle.instance.specs.declared.ways.Row.{Row}
 use Rattle.hall_spec.specs.Hall.{mostUnits, mostVehicles, Hall}
@@ -41,10 +40,6 @@ rowCost prices r = pricesBelow prices (r .end) - pricesBelow prices (r .start)
 -- what a row counts for, as windowCounts says of windows
 unfoldable pub rowCounts : List ℕ → Row → ℕ
 rowCounts prices r = r .worth - r .groomer * rowCost prices r / priceParts
-
--- what window t counts for, as a list has it
-abbrev pub countAt : List ℕ → ℕ → ℕ
-countAt counts t = getD counts t 0
 
 -- what the first n vehicles' best windows count for together
 unfoldable pub bestsSum : List ℕ → ℕ → ℕ
@@ -89,17 +84,12 @@ pub record WindowRow (r : Row) : Type 0 where
   pub worth : r .worth ≤ mostWorth
   pub vehicle : r .slope ≤ mostVehicles
 
--- what the first n windows count for, by number
-pub record Counted (H : Hall) (prices : List ℕ) (n : ℕ) (counts : List ℕ) : Type 0 where
-  pub places : length counts ≡ mostTurns
-  pub values : (t : ℕ) → t < n → getD counts t 0 ≡ windowCounts H prices t
-
--- of the first k windows at these counts: what each vehicle's best counts for, and which it is, one more than its number
-pub record Bests (H : Hall) (counts : List ℕ) (k : ℕ) (most taken : List ℕ) : Type 0 where
+-- of the first k windows at these prices: what each vehicle's best counts for, and which it is, one more than its number
+pub record Bests (H : Hall) (prices : List ℕ) (k : ℕ) (most taken : List ℕ) : Type 0 where
   pub places : length most ≡ vehiclePlaces
   pub places-too : length taken ≡ vehiclePlaces
-  pub values : (v : ℕ) → v ≤ mostVehicles → getD most v 0 ≡ richestOf H (countAt counts) v k .worth
-  pub windows : (v : ℕ) → v ≤ mostVehicles → windowBefore (getD taken v 0) ≡ richestOf H (countAt counts) v k .turns
+  pub values : (v : ℕ) → v ≤ mostVehicles → getD most v 0 ≡ richestOf H (windowCounts H prices) v k .worth
+  pub windows : (v : ℕ) → v ≤ mostVehicles → windowBefore (getD taken v 0) ≡ richestOf H (windowCounts H prices) v k .turns
 
 -- which window each vehicle takes at some prices, one more than its number, 0 for none
 pub record TakenBy (H : Hall) (prices : List ℕ) (taken : List ℕ) : Type 0 where

@@ -1,12 +1,14 @@
 // A look at the prices: what each vehicle's best window counts for, the limit, and the relaxed set.
 ghost use mathlib.Core.Path.{_≡_};
+ghost use mathlib.Core.Bool.{cond};
 ghost use Prim.Native.Nat.{_+_, _*_, _/_, _≤_, _<_};
-ghost use lib.ListN.{length, replicate};
+ghost use lib.Dec.{ltb};
+ghost use lib.ListN.{length, getD, set, replicate};
 ghost use Rattle.turn.specs.Turn.{shiftMinutes};
 ghost use Rattle.sheet.specs.Kind.{mostTurns};
 ghost use Rattle.hall_spec.specs.Hall.{mostUnits, mostVehicles};
 ghost use Rattle.hall_price_spec.specs.Prices.{priceParts, supplyCost, hallLimit};
-ghost use Rattle.hall_look.specs.Look.{mostPrice, vehiclePlaces, hallFor, bestsSum, HallPosed, Summed, Counted, Bests, TakenBy};
+ghost use Rattle.hall_look.specs.Look.{mostPrice, vehiclePlaces, hallFor, bestsSum, HallPosed, Summed, Bests, TakenBy};
 use super::HallSize;
 use super::sums::MINUTES;
 use super::sums::PARTS;
@@ -14,68 +16,54 @@ use super::sums::SUMS;
 use super::sums::counts_for;
 use super::sums::put_sums;
 use super::sums::wide;
-use instance::MOST_TURNS;
 use instance::PLACES;
 use instance::row_at;
 
 // A place for each number of a vehicle; place 0 is not used.
 pub const VEHICLES: usize = 61;
 
-// What each window counts for.
-fn put_counts(
-    h: HallSize,
-    cols: &[u16; PLACES],
-    prices: &[u16],
-    sums: &[u32; SUMS],
-    counts: &mut [u16; MOST_TURNS],
-)
-    requires { ⌜ HallPosed h (now cols) × Summed (now prices) (now sums) × (length (now counts) ≡ mostTurns) ⌝ }
-    ensures { λ _. ⌜ Counted (hallFor h (now (cols .entry))) (now (prices .entry)) (h .size .count) (now (counts .exit)) ⌝ }
-{
-    let mut t = 0;
-    while t < h.size.count {
-        counts[t] = counts_for(prices, sums, row_at(cols, t)) as u16;
-        t += 1;
-    }
-}
-
-// The vehicles' best windows with window t among them: in its vehicle's place only if it counts for more.
-fn put_window(
-    h: HallSize,
-    cols: &[u16; PLACES],
-    counts: &[u16; MOST_TURNS],
+// Window t in the place of vehicle v, only if it counts for more than the one there.
+fn keep_best(
+    v: usize,
+    count: u16,
+    t: usize,
     most: &mut [u16; VEHICLES],
     taken: &mut [u16; VEHICLES],
-    t: usize,
 )
-    requires { ⌜ HallPosed h (now cols) × (t < h .size .count) × (length (now counts) ≡ mostTurns) ⌝ }
-    requires { ⌜ Bests (hallFor h (now cols)) (now counts) t (now most) (now taken) ⌝ }
-    ensures { λ _. ⌜ Bests (hallFor h (now (cols .entry))) (now (counts .entry)) (t + 1) (now (most .exit)) (now (taken .exit)) ⌝ }
+    requires { ⌜ (v ≤ mostVehicles) × (t < mostTurns) × (length (now most) ≡ vehiclePlaces) × (length (now taken) ≡ vehiclePlaces) ⌝ }
+    ensures { λ _. ⌜ now (most .exit) ≡ cond (ltb (getD (now (most .entry)) v 0) count) (set (now (most .entry)) v count) (now (most .entry)) ⌝ }
+    ensures { λ _. ⌜ now (taken .exit) ≡ cond (ltb (getD (now (most .entry)) v 0) count) (set (now (taken .entry)) v (t + 1)) (now (taken .entry)) ⌝ }
 {
-    let row = row_at(cols, t);
-    let v = row.slope as usize;
-    let count = counts[t];
     if most[v] < count {
         most[v] = count;
         taken[v] = (t + 1) as u16;
     }
 }
 
-// The vehicles' best windows of all, where none is there before.
+fn index(x: u16) -> usize
+    ensures { λ r. ⌜ r ≡ x ⌝ }
+{
+    x as usize
+}
+
+// The vehicles' best windows, where none is there before.
 fn put_bests(
     h: HallSize,
     cols: &[u16; PLACES],
-    counts: &[u16; MOST_TURNS],
+    prices: &[u16],
+    sums: &[u32; SUMS],
     most: &mut [u16; VEHICLES],
     taken: &mut [u16; VEHICLES],
 )
-    requires { ⌜ HallPosed h (now cols) × (length (now counts) ≡ mostTurns) ⌝ }
+    requires { ⌜ HallPosed h (now cols) × Summed (now prices) (now sums) ⌝ }
     requires { ⌜ (now most ≡ replicate vehiclePlaces 0) × (now taken ≡ replicate vehiclePlaces 0) ⌝ }
-    ensures { λ _. ⌜ Bests (hallFor h (now (cols .entry))) (now (counts .entry)) (h .size .count) (now (most .exit)) (now (taken .exit)) ⌝ }
+    ensures { λ _. ⌜ Bests (hallFor h (now (cols .entry))) (now (prices .entry)) (h .size .count) (now (most .exit)) (now (taken .exit)) ⌝ }
 {
     let mut t = 0;
     while t < h.size.count {
-        put_window(h, cols, counts, &mut *most, &mut *taken, t);
+        let row = row_at(cols, t);
+        let count = counts_for(prices, sums, row);
+        keep_best(index(row.slope), count as u16, t, &mut *most, &mut *taken);
         t += 1;
     }
 }
@@ -117,10 +105,8 @@ pub fn look(
     ensures { λ _. ⌜ TakenBy (hallFor h (now (cols .entry))) (now (prices .entry)) (now (taken .exit)) ⌝ }
 {
     let mut sums = [0u32; SUMS];
-    let mut counts = [0u16; MOST_TURNS];
     put_sums(prices, &mut sums);
-    put_counts(h, cols, prices, &sums, &mut counts);
-    put_bests(h, cols, &counts, &mut *most, &mut *taken);
+    put_bests(h, cols, prices, &sums, &mut *most, &mut *taken);
     supply_cost(h, cols, prices, &sums) + bests_sum(h.vehicles, &*most)
 }
 

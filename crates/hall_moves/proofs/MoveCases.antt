@@ -9,6 +9,7 @@ use native.Mathlib.Numerals.{add-one}
 use native.Mathlib.Decide.{decLt, ℕ-discrete}
 use mir.Syntax.{w16, w32}
 use mir.Val.{Fits}
+use lib.Dec.{ltb}
 use lib.ListN.{length, getD, set, replicate, length-set, length-replicate, getD-replicate}
 use lib.Seq.{getD-set-same, getD-set-other, ext-getD}
 use borrow.Author.Tests.{lt-ltb, le-ltb}
@@ -32,12 +33,12 @@ use Rattle.hall_price_spec.specs.Prices.{minutePrice}
 use Rattle.hall_price_spec.specs.Hall.{highestMinutePrice, movedMinute, movedMinutes}
 use Rattle.hall_look.specs.declared.HallSize.{HallSize}
 use Rattle.hall_look.specs.Look.{mostPrice, hallFor, HallPosed, WindowRow}
-use Rattle.hall_moves.specs.Moves.{mostDrawn, movedWith, FewDrawn, RoomForMore, DrawnBy}
+use Rattle.hall_moves.specs.Moves.{mostDrawn, mostMove, movePlaces, moveBy, movedWith, MovesTo, FewDrawn, RoomForMore, DrawnBy}
 use Rattle.hall_look.proofs.LookCases.{few-windows, window-inside, window-row}
 
--- ---- one price
+-- ---- by how much a price moves
 
-module _ (units change drawn price : ℕ) {u d : ℕ} (e : u ≡ units) (f : d ≡ drawn) (l : change ≤ mostWorth) where
+module _ (units change drawn : ℕ) {u d : ℕ} (e : u ≡ units) (f : d ≡ drawn) (l : change ≤ mostWorth) where
   module _ (h : units < drawn) (few : drawn ≤ mostDrawn) (m : units ≤ mostUnits) where
     rise-most : change * (d - u) ≤ mostWorth * mostDrawn
     rise-most = mul-le-mul {n₁ = change} {m₁ = d - u} {n₂ = mostWorth} {m₂ = mostDrawn} l (omega arith)
@@ -48,43 +49,98 @@ module _ (units change drawn price : ℕ) {u d : ℕ} (e : u ≡ units) (f : d �
     pub rise-up-fits : Fits w32 (change * (d - u) + (u - 1))
     rise-up-fits = omega (arith, rise-most)
 
-    pub raised-fits : {p : ℕ} → p ≤ mostPrice → Fits w32 (p + (change * (d - u) + (u - 1)) / u)
-    raised-fits k = omega (arith, rise-most, div-le-self (change * (d - u) + (u - 1)) u)
+    pub rise-is : (change * (d - u) + (u - 1)) / u ≡ moveBy change units drawn
+    unfolding moveBy roundedUp
+    rise-is = rw (lt-ltb units drawn h, e, f)
 
-    module _ {p : ℕ} (g : p ≡ price) where
-      raised-is : {r : ℕ} → r ≡ min highestMinutePrice (p + (change * (d - u) + (u - 1)) / u) → r ≡ movedMinute change units drawn price
-      unfolding movedMinute roundedUp
-      raised-is k = k ∙ rw (lt-ltb units drawn h, e, f, g)
-
-      pub raised-high : highestMinutePrice < p + (change * (d - u) + (u - 1)) / u → highestMinutePrice ≡ movedMinute change units drawn price
-      raised-high k = raised-is (omega arith)
-
-      pub raised-low : p + (change * (d - u) + (u - 1)) / u ≤ highestMinutePrice → p + (change * (d - u) + (u - 1)) / u ≡ movedMinute change units drawn price
-      raised-low k = raised-is (omega arith)
+    pub rise-small : (change * (d - u) + (u - 1)) / u ≤ mostMove
+    rise-small = omega (arith, rise-most, div-le-self (change * (d - u) + (u - 1)) u)
 
   module _ (h : drawn ≤ units) (m : units ≤ mostUnits) where
+    fall-most : change * (u - d) ≤ mostWorth * mostUnits
+    fall-most = mul-le-mul {n₁ = change} {m₁ = u - d} {n₂ = mostWorth} {m₂ = mostUnits} l (omega arith)
+
     pub fall-fits : Fits w32 (change * (u - d))
-    fall-fits = omega (arith, mul-le-mul {n₁ = change} {m₁ = u - d} {n₂ = mostWorth} {m₂ = mostUnits} l (omega arith))
+    fall-fits = omega (arith, fall-most)
 
-    module _ {p : ℕ} (g : p ≡ price) where
-      lowered-is : {r : ℕ} → r ≡ p - change * (u - d) / u → r ≡ movedMinute change units drawn price
-      unfolding movedMinute
-      lowered-is k = k ∙ rw (le-ltb units drawn h, e, f, g)
+    pub fall-is : change * (u - d) / u ≡ moveBy change units drawn
+    unfolding moveBy
+    fall-is = rw (le-ltb units drawn h, e, f)
 
-      pub lowered-none : p ≤ change * (u - d) / u → 0 ≡ movedMinute change units drawn price
-      lowered-none k = lowered-is (omega arith)
+    pub fall-small : change * (u - d) / u ≤ mostMove
+    fall-small = omega (arith, fall-most, div-le-self (change * (u - d)) u)
 
-      pub lowered-some : p - change * (u - d) / u ≡ movedMinute change units drawn price
-      lowered-some = lowered-is refl
+pub ruleset move-by-cases = (rise-fits, rise-up-fits, rise-is, rise-small, fall-fits, fall-is, fall-small)
 
-pub ruleset raised-cases = (rise-fits, rise-up-fits, raised-fits, raised-high, raised-low)
+-- ---- the same for each draw in a list
 
-pub ruleset lowered-cases = (fall-fits, lowered-none, lowered-some)
+module _ (units change : ℕ) (moves : List ℕ) where
+  pub moves-start : length moves ≡ movePlaces → MovesTo units change moves 0
+  moves-start l = record { places = l; values = λ d h. absurd (omega arith) }
 
-pub minute-put : (prices : List ℕ) (m : ℕ) {x y : ℕ} → x ≡ y → set prices m x ≡ set prices m y
-minute-put prices m e = ap (set prices m) e
+  module _ {k : ℕ} (s : MovesTo units change moves k) where
+    pub moves-more : {x : ℕ} → k < movePlaces → x ≡ moveBy change units k → MovesTo units change (set moves k x) (k + 1)
+    moves-more {x} h e = record { places = length-set moves k x ∙ s .places; values = λ d l. at d l (ℕ-discrete d k) }
+      where
+        at : (d : ℕ) → d < k + 1 → Dec (d ≡ k) → getD (set moves k x) d 0 ≡ moveBy change units d
+        at d l (yes q) = rw q (getD-set-same moves k x 0 (omega (arith, s .places)) ∙ e)
+        at d l (no q) = getD-set-other moves k d x 0 q ∙ s .values d (omega arith)
 
-pub ruleset minute-put-cases = (minute-put)
+    pub moves-done : movePlaces ≤ k → MovesTo units change moves movePlaces
+    moves-done h = record { places = s .places; values = λ d l. s .values d (omega arith) }
+
+    pub moves-long : length moves ≡ movePlaces
+    moves-long = s .places
+
+pub move-small : (units change drawn : ℕ) → units ≤ mostUnits → drawn ≤ mostDrawn → change ≤ mostWorth → moveBy change units drawn ≤ mostMove
+move-small units change drawn u d c = go (decLt units drawn)
+  where
+    go : Dec (units < drawn) → moveBy change units drawn ≤ mostMove
+    go (yes h) = omega (arith, rise-is units change drawn refl refl c h d u, rise-small units change drawn refl refl c h d u)
+    go (no h) = let k : drawn ≤ units = omega arith in omega (arith, fall-is units change drawn refl refl c k u, fall-small units change drawn refl refl c k u)
+
+module _ (units change : ℕ) (moves : List ℕ) (s : MovesTo units change moves movePlaces) (drawn : ℕ) (h : drawn ≤ 4 * mostUnits) where
+  pub listed-place : drawn < length moves
+  listed-place = omega (arith, s .places)
+
+  pub listed-is : getD moves drawn 0 ≡ moveBy change units drawn
+  listed-is = s .values drawn (omega arith)
+
+  pub listed-small : units ≤ mostUnits → change ≤ mostWorth → drawn ≤ mostDrawn → getD moves drawn 0 ≤ mostMove
+  listed-small u c d = omega (arith, listed-is, move-small units change drawn u d c)
+
+pub ruleset moves-cases = (moves-start, moves-more, moves-done, moves-long)
+
+pub ruleset listed-cases = (listed-place, listed-is, listed-small)
+
+-- ---- one price
+
+module _ (units drawn : ℕ) (price by : ℕ) {p : ℕ} (e : p ≡ price) where
+  pub up-is : {r : ℕ} → units < drawn → r ≡ min (p + by) highestMinutePrice → r ≡ cond (ltb units drawn) (min highestMinutePrice (price + by)) (price - by)
+  up-is h k = rw (lt-ltb units drawn h) (omega (arith, e))
+
+  pub down-is : {r : ℕ} → drawn ≤ units → r ≡ p - by → r ≡ cond (ltb units drawn) (min highestMinutePrice (price + by)) (price - by)
+  down-is h k = rw (le-ltb units drawn h) (omega (arith, e))
+
+  pub up-fits : {r : ℕ} → r ≡ min (p + by) highestMinutePrice → Fits w16 r
+  up-fits k = omega arith
+
+  pub down-fits : {r : ℕ} → p ≤ mostPrice → r ≡ p - by → Fits w16 r
+  down-fits l k = omega arith
+
+  pub sum-fits : p ≤ mostPrice → by ≤ mostMove → Fits w32 (p + by)
+  sum-fits l k = omega arith
+
+pub ruleset price-cases = (up-is, down-is, up-fits, down-fits, sum-fits)
+
+moved-is : (change units drawn price : ℕ) {by : ℕ} → by ≡ moveBy change units drawn → cond (ltb units drawn) (min highestMinutePrice (price + by)) (price - by) ≡ movedMinute change units drawn price
+unfolding moveBy movedMinute
+moved-is change units drawn price e = rw e (go (ltb units drawn))
+  where
+    go : (b : Bool) → cond b (min highestMinutePrice (price + cond b (roundedUp (change * (drawn - units)) units) (change * (units - drawn) / units))) (price - cond b (roundedUp (change * (drawn - units)) units) (change * (units - drawn) / units))
+        ≡ cond b (min highestMinutePrice (price + roundedUp (change * (drawn - units)) units)) (price - change * (units - drawn) / units)
+    go true = refl
+    go false = refl
 
 -- ---- all prices
 
@@ -110,9 +166,10 @@ module _ (units change : ℕ) (drawn old : List ℕ) where
     unfolding FewDrawn
     moved-few h f = f m h
 
-    pub moved-more : {new′ : List ℕ} → m < shiftMinutes → new′ ≡ set new m (movedMinute change units (getD drawn m 0) (getD new m 0)) → MovedTo new′ (m + 1)
-    moved-more h e =
+    pub moved-more : {by x : ℕ} → m < shiftMinutes → by ≡ moveBy change units (getD drawn m 0) → x ≡ cond (ltb units (getD drawn m 0)) (min highestMinutePrice (getD new m 0 + by)) (getD new m 0 - by) → MovedTo (set new m x) (m + 1)
+    moved-more h g f =
         let x = movedMinute change units (getD drawn m 0) (getD new m 0) in
+        let e = f ∙ moved-is change units (getD drawn m 0) (getD new m 0) g in
         rw e (record {
           within = omega arith;
           size = length-set new m x ∙ s .size;

@@ -1,14 +1,16 @@
 // How a round moves the price of each minute, by what the relaxed set draws then.
 ghost use mathlib.Core.Path.{_≡_};
-ghost use Prim.Native.Nat.{_≤_, _<_};
-ghost use lib.ListN.{length, getD, set, replicate};
+ghost use mathlib.Core.Bool.{cond};
+ghost use Prim.Native.Nat.{_+_, _-_, _≤_, _<_, min};
+ghost use lib.Dec.{ltb};
+ghost use lib.ListN.{length, replicate};
 ghost use Rattle.turn.specs.Turn.{shiftMinutes, mostWorth};
 ghost use Rattle.choice_map.specs.Choice.{choiceIn, Clean};
 ghost use Rattle.hall_spec.specs.Hall.{mostUnits};
 ghost use Rattle.hall.specs.Supply.{Drawn};
-ghost use Rattle.hall_price_spec.specs.Hall.{movedMinute, movedMinutes};
+ghost use Rattle.hall_price_spec.specs.Hall.{highestMinutePrice, movedMinutes};
 ghost use Rattle.hall_look.specs.Look.{mostPrice, hallFor, HallPosed, WindowRow};
-ghost use Rattle.hall_moves.specs.Moves.{mostDrawn, movedWith, FewDrawn, RoomForMore, DrawnBy};
+ghost use Rattle.hall_moves.specs.Moves.{mostDrawn, mostMove, movePlaces, moveBy, movedWith, MovesTo, FewDrawn, RoomForMore, DrawnBy};
 use hall_look::HallSize;
 use hall_look::MINUTES;
 use instance::PLACES;
@@ -23,62 +25,91 @@ fn wide(x: u16) -> u32
     x as u32
 }
 
-// The price of a minute at which more than the units is drawn.
-fn raised_minute(units: u16, change: u32, drawn: u16, price: u16) -> u16
-    requires { ⌜ (1 ≤ units) × (units < drawn) × (units ≤ mostUnits) × (drawn ≤ mostDrawn) × (change ≤ mostWorth) ⌝ }
-    ensures { λ r. ⌜ r ≡ movedMinute change units drawn price ⌝ }
+// By how much a price moves is computed once a round for each draw up to four times the units of any hall.
+const MOST_LISTED: usize = 192;
+
+const MOVES: usize = MOST_LISTED + 1;
+
+fn smaller(x: u32, y: u32) -> u32
+    ensures { λ r. ⌜ r ≡ min x y ⌝ }
 {
-    let all = wide(units);
-    let over = wide(drawn) - all;
-    let raised = wide(price) + (change * over + (all - 1)) / all;
-    if raised > HIGHEST_MINUTE_PRICE {
-        return HIGHEST_MINUTE_PRICE as u16;
-    }
-    raised as u16
+    if x < y { x } else { y }
 }
 
-// The price of a minute at which the units are enough.
-fn lowered_minute(units: u16, change: u32, drawn: u16, price: u16) -> u16
-    requires { ⌜ (1 ≤ units) × (drawn ≤ units) × (units ≤ mostUnits) × (change ≤ mostWorth) ⌝ }
-    ensures { λ r. ⌜ r ≡ movedMinute change units drawn price ⌝ }
+// What is left of x, not below 0.
+fn left_after(x: u32, y: u32) -> u32
+    ensures { λ r. ⌜ r ≡ x - y ⌝ }
 {
-    let all = wide(units);
-    let left = all - wide(drawn);
-    let fall = change * left / all;
-    let before = wide(price);
-    if before <= fall {
-        return 0;
-    }
-    (before - fall) as u16
+    if x < y { 0 } else { x - y }
 }
 
-fn moved_minute(units: u16, change: u32, drawn: u16, price: u16) -> u16
+// By how much the price of a minute moves at which so much is drawn.
+fn move_by(units: u16, change: u32, drawn: u16) -> u32
     requires { ⌜ (1 ≤ units) × (units ≤ mostUnits) × (drawn ≤ mostDrawn) × (change ≤ mostWorth) ⌝ }
-    ensures { λ r. ⌜ r ≡ movedMinute change units drawn price ⌝ }
+    ensures { λ r. ⌜ (r ≡ moveBy change units drawn) × (r ≤ mostMove) ⌝ }
 {
+    let all = wide(units);
     if drawn > units {
-        return raised_minute(units, change, drawn, price);
+        return (change * (wide(drawn) - all) + (all - 1)) / all;
     }
-    lowered_minute(units, change, drawn, price)
+    change * (all - wide(drawn)) / all
 }
 
-// Moves the price of minute m.
-fn move_minute(units: u16, change: u32, drawn: u16, prices: &mut [u16], m: usize)
-    requires { ⌜ (1 ≤ units) × (units ≤ mostUnits) × (drawn ≤ mostDrawn) × (change ≤ mostWorth) × (m < length (now prices)) ⌝ }
-    ensures { λ _. ⌜ now (prices .exit) ≡ set (now (prices .entry)) m (movedMinute change units drawn (getD (now (prices .entry)) m 0)) ⌝ }
+// That for each draw in the list.
+fn put_moves(units: u16, change: u32, moves: &mut [u32; MOVES])
+    requires { ⌜ (1 ≤ units) × (units ≤ mostUnits) × (change ≤ mostWorth) × (length (now moves) ≡ movePlaces) ⌝ }
+    ensures { λ _. ⌜ MovesTo units change (now (moves .exit)) movePlaces ⌝ }
 {
-    let price = prices[m];
-    prices[m] = moved_minute(units, change, drawn, price);
+    let mut d = 0;
+    while d < MOVES {
+        moves[d] = move_by(units, change, d as u16);
+        d += 1;
+    }
+}
+
+// The same, from the list if the draw is in it.
+fn listed_move(units: u16, change: u32, moves: &[u32; MOVES], drawn: u16) -> u32
+    requires { ⌜ (1 ≤ units) × (units ≤ mostUnits) × (drawn ≤ mostDrawn) × (change ≤ mostWorth) × MovesTo units change (now moves) movePlaces ⌝ }
+    ensures { λ r. ⌜ (r ≡ moveBy change units drawn) × (r ≤ mostMove) ⌝ }
+{
+    let d = drawn as usize;
+    if d <= MOST_LISTED {
+        return moves[d];
+    }
+    move_by(units, change, drawn)
+}
+
+// A price that moves by so much: up where more than the units is drawn, else down.
+fn moved_minute(units: u16, drawn: u16, by: u32, price: u16) -> u16
+    requires { ⌜ by ≤ mostMove ⌝ }
+    ensures { λ r. ⌜ r ≡ cond (ltb units drawn) (min highestMinutePrice (price + by)) (price - by) ⌝ }
+{
+    let before = wide(price);
+    let raised = smaller(before + by, HIGHEST_MINUTE_PRICE);
+    let lowered = left_after(before, by);
+    if drawn > units {
+        return raised as u16;
+    }
+    lowered as u16
 }
 
 // Moves all prices, where it is known what is drawn at each minute.
-fn move_each(units: u16, change: u32, drawn: &[u16; MINUTES], prices: &mut [u16])
+fn move_each(
+    units: u16,
+    change: u32,
+    moves: &[u32; MOVES],
+    drawn: &[u16; MINUTES],
+    prices: &mut [u16],
+)
     requires { ⌜ (1 ≤ units) × (units ≤ mostUnits) × (change ≤ mostWorth) × FewDrawn (now drawn) × (length (now prices) ≡ shiftMinutes) ⌝ }
+    requires { ⌜ MovesTo units change (now moves) movePlaces ⌝ }
     ensures { λ _. ⌜ now (prices .exit) ≡ movedWith units change (now (drawn .entry)) (now (prices .entry)) ⌝ }
 {
     let mut m = 0;
     while m < MINUTES {
-        move_minute(units, change, drawn[m], &mut *prices, m);
+        let price = prices[m];
+        let by = listed_move(units, change, moves, drawn[m]);
+        prices[m] = moved_minute(units, drawn[m], by, price);
         m += 1;
     }
 }
@@ -125,5 +156,7 @@ pub fn move_minutes(
 {
     let mut drawn = [0u16; MINUTES];
     put_drawn(h, cols, relaxed, &mut drawn);
-    move_each(h.units, change, &drawn, &mut *prices);
+    let mut moves = [0u32; MOVES];
+    put_moves(h.units, change, &mut moves);
+    move_each(h.units, change, &moves, &drawn, &mut *prices);
 }

@@ -8,13 +8,11 @@ use lib.ListN.{length, take, replicate}
 use Rattle.turn.specs.Turn.{shiftMinutes, mostWorth}
 use Rattle.model.specs.Choice.{chosen, fits, chooseEach}
 use Rattle.choice_map.specs.Choice.{choiceIn, Clean}
-use Rattle.choice_map.proofs.Clean.{clean-bits}
 use Rattle.best_spec.specs.Table.{bestWorth, bestChoice}
 use Rattle.instance.specs.declared.columns.Size.{Size}
 use Rattle.instance.specs.Columns.{turnsBy, Held}
 use Rattle.instance.proofs.Rows.{count-is}
 use Rattle.selection.specs.Below.{chosenBelow}
-use Rattle.selection.specs.Bounds.{Lent}
 use Rattle.selection.specs.Asked.{NumbersOf}
 use Rattle.best_table.specs.Held.{Ranged}
 use Rattle.price_spec.specs.Prices.{priceSum}
@@ -209,8 +207,11 @@ module _ (r : RuleFor) (cols : List ℕ) where
       go (Shift e) w = w .held
       go (Hall h) w = w .held .held
 
-  pub rule-lent : {p : Size} {map : List ℕ} → RulePosed r cols → p ≡ sizeOf r → Clean (sizeOf r .count) map → Lent p cols map
-  rule-lent w g c = rw g (record { held = rule-held w; bits = clean-bits c })
+  pub rule-sized : {p : Size} → RulePosed r cols → p ≡ sizeOf r → Held p cols
+  rule-sized w g = rw g (rule-held w)
+
+  pub rule-clean : {p : Size} {map : List ℕ} → p ≡ sizeOf r → Clean (sizeOf r .count) map → Clean (p .count) map
+  rule-clean g c = rw g c
 
   module _ (ranks relaxed list : List ℕ) (count : ℕ) (e : ranks ≡ byWorth (turnsBy (sizeOf r) cols)) (q : take count list ≡ withChosen (choiceIn (length ranks) relaxed) ranks) where
     pub choice-made : {S : List Bool} → S ≡ chooseEach (fitsOf r cols) (take count list) (replicate (sizeOf r .count) false) → S ≡ choiceOf r cols (choiceIn (sizeOf r .count) relaxed)
@@ -222,4 +223,4 @@ module _ (r : RuleFor) (cols : List ℕ) where
     unfolding chosenBelow worthOf chosen
     choice-worth map f g h = h ∙ rw (g, choice-made f, count-is (sizeOf r) cols)
 
-pub ruleset from-cases = (rule-held, rule-lent, ranks-numbers, ranks-bits, ranks-fit, list-fits, list-numbers, list-size, choice-made, choice-worth)
+pub ruleset from-cases = (rule-held, rule-sized, rule-clean, ranks-numbers, ranks-bits, ranks-fit, list-fits, list-numbers, list-size, choice-made, choice-worth)

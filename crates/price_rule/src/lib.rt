@@ -131,7 +131,7 @@ pub fn choose_from(
     let mut numbers = [0u16; ASKED];
     let count = round_parts::put_list(ranks, relaxed, &mut numbers);
     choose_listed(r, cols, &numbers[..count], &mut *map, &mut *room);
-    selection::chosen_worth(size_of(r), cols, &*map)
+    round_parts::worth_chosen(size_of(r), cols, &*map)
 }
 
 // Moves the prices by a relaxed set.

@@ -1,6 +1,6 @@
-// How a round moves the prices: each by the turns of the relaxed set that pay it. Those that pay for a slope
-// are counted by its number. Those that pay for a turn are counted by where their runs in the drivers' order
-// start and end, and summed up along it.
+// How a round moves the prices of a shift: each by how many turns of the relaxed set pay it. The payers of a
+// slope are the turns with its number. A turn pays for a run of places in the drivers' order: it is counted
+// where the run starts and where it ends, and sums along the order give the payers at each place.
 ghost use mathlib.Core.Path.{_≡_};
 ghost use mathlib.Core.Bool.{cond};
 ghost use Prim.Native.Nat.{_+_, _-_, _≤_, _<_, max, min};
@@ -71,7 +71,8 @@ fn turn_change(c: u32) -> u32
     greater(1, c / 2)
 }
 
-// How high a price can be that so many pay: only one that rises is held down.
+// The highest price after a round. A price with two payers or more rises, to 60,000 at most; any other does not
+// rise, and may stand above that.
 fn most_price(payers: u16) -> u32
     ensures { λ r. ⌜ (r ≡ cond (ltb payers 2) mostPrice highestPrice) × (r ≤ mostPrice) ⌝ }
 {
@@ -82,7 +83,8 @@ fn most_price(payers: u16) -> u32
     }
 }
 
-// A price that so many pay, after a round: with one payer it rises and falls by the change, and so stays.
+// A price that so many pay, after a round. It rises by the change for each payer, and falls by it once: so with
+// one payer it stays.
 fn moved_price(change: u32, payers: u16, price: u16) -> u16
     requires { ⌜ (change ≤ mostWorth) × (payers ≤ mostTurns) ⌝ }
     ensures { λ r. ⌜ r ≡ movedPrice change payers price ⌝ }

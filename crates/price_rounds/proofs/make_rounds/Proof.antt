@@ -58,12 +58,6 @@ keep-better-requires c κs =
     let i = seen .before .before .before .before .before .loop .inv in
     ((i .posed, i .ranked, i .places), (seen .look-at .ensures .1 .0, i .stage .clean))
 
-same-length : tie.Need-same-length Inv-loop μ-loop
-same-length c = search (needs, c .before .before .before .before .before .before .before .before .before .before .before .before .before .before .before .before .before .before .before .before .before .before .before .before .before .loop .inv .list-size)
-
-same-length-2 : tie.Need-same-length-2 Inv-loop μ-loop
-same-length-2 c = search (needs, c .before .before .before .before .before .before .before .before .before .before .before .before .before .before .before .before .before .before .before .before .before .before .before .before .before .loop .inv .map-size)
-
 returns : tie.Need-returns Inv-loop μ-loop
 returns c =
     let over = c .before .before .before .before .before in
@@ -138,8 +132,8 @@ make-rounds-spec =
     keep-better-requires
     (λ c κs. search needs)
     (λ c κs. search needs)
-    same-length
-    same-length-2
+    (λ c. search (needs, c .before .before .before .before .before .before .before .before .before .before .before .before .before .before .before .before .before .before .before .before .before .before .before .before .before .loop .inv .list-size))
+    (λ c. search (needs, c .before .before .before .before .before .before .before .before .before .before .before .before .before .before .before .before .before .before .before .before .before .before .before .before .before .loop .inv .map-size))
     returns
     move-prices-requires
     next-change-requires

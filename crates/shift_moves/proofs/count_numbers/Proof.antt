@@ -1,4 +1,4 @@
--- The turns of the set before t are counted, and t is the next of them, or no turn. The bits left grow fewer.
+-- Invariant: the turns of the set before t are counted, and t is the next of them, or no turn. Measure: the bits left.
 use borrow.Author.Needs.{needs}
 use Rattle.shift_moves.proofs.PayerCases.{TimesTo, times-cases}
 use Prim.Native.Nat.{_-_, _*_}

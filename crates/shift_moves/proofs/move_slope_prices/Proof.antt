@@ -1,4 +1,4 @@
--- The prices before place k are moved, the others as they were. The slopes left grow fewer.
+-- Invariant: the prices before place k are moved, the others are as before. Measure: the slopes left.
 use borrow.Author.Needs.{needs}
 use Rattle.shift_moves.proofs.MoveCases.{SlopesMoved, slopes-moved-cases}
 use Prim.Native.Nat.{_-_}

@@ -1,4 +1,4 @@
--- The prices of the turns before place j of the drivers' order are moved, all others as they were. The places left grow fewer.
+-- Invariant: the prices of the turns before place j of the drivers' order are moved, all others are as before. Measure: the places left.
 use borrow.Author.Needs.{needs}
 use Rattle.shift_moves.proofs.MoveCases.{TurnsMoved, turns-moved-cases}
 use Prim.Native.Nat.{_-_}

@@ -1,4 +1,4 @@
--- The places before j have their payers, and the last of these is at hand. The places left grow fewer.
+-- Invariant: the places before j have their payers, and those of the last of them are at hand. Measure: the places left.
 use borrow.Author.Needs.{needs}
 use Rattle.shift_moves.proofs.PayerCases.{Along, along-cases}
 use Prim.Native.Nat.{_-_}

@@ -1,4 +1,4 @@
--- At each turn the greatest worth of those before it is at hand. The turns left grow fewer.
+-- Invariant: the greatest worth of the turns before t is at hand. Measure: the turns left.
 use borrow.Author.Needs.{needs}
 use Rattle.round_parts.proofs.ChangeCases.{GreatestOf, greatest-cases}
 use Prim.Native.Nat.{_-_}
