@@ -29,7 +29,7 @@ fn number_by_order(p: Size, cols: &[u16; PLACES], order: &mut [u16], numbers: &m
     assigning::number_all(p, cols, &*order, &mut *numbers)
 }
 
-// The same with places of its own.
+// Writes each turn's number at its place. The order of the turns stands in a local array.
 fn number_turns(p: Size, cols: &[u16; PLACES], numbers: &mut [u16]) -> usize
     requires { ⌜ Held p (now cols) × (length (now numbers) ≡ p .count) × (shiftMinutes + p .gap < 65536) ⌝ }
     ensures { λ r. ⌜ (now (numbers .exit) ≡ numbersOf (turnsBy p (now (cols .entry))))

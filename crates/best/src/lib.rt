@@ -46,7 +46,7 @@ fn refused(k: u8) -> BestAnswer
     }
 }
 
-// The best worth of a problem, and the map of the set that earns it into any lent bytes.
+// Answers a problem: refuses too few lent bytes; else writes the map of the best set and gives its worth.
 fn answer(p: Size, cols: &[u16; PLACES], map: &mut [u8]) -> BestAnswer
     requires { ⌜ Held p (now cols) × Ranged p (now cols) ⌝ }
     ensures { λ r. ⌜ beside r (now (map .exit)) ≡ bestIn (turnsBy p (now (cols .entry))) (now (map .entry)) ⌝ }
@@ -62,7 +62,8 @@ fn answer(p: Size, cols: &[u16; PLACES], map: &mut [u8]) -> BestAnswer
     }
 }
 
-// The best worth of any bytes as a sheet, and the map of the set that earns it into any lent bytes.
+// Reads any bytes as a sheet, finds the best worth, and writes the map of the set that earns it into any
+// lent bytes.
 pub fn best(s: &[u8], map: &mut [u8]) -> BestAnswer
     ensures { λ r. ⌜ beside r (now (map .exit)) ≡ exactOf (now (s .entry)) (now (map .entry)) ⌝ }
 {

@@ -26,7 +26,8 @@ pub struct Replayed {
     pub cost: u32,
 }
 
-// The same of one step, and how many turns at the front are closed.
+// Whether one step is right where it stands, what it counts for, and how many turns at the front are closed
+// after it.
 pub struct Outcome {
     pub right: bool,
     pub cost: u32,
