@@ -24,10 +24,14 @@ use Rattle.choice_map.specs.Choice.{mapBytes, choiceIn}
 use Rattle.board.specs.Board.{boardTurns, boardMap, boardChoice}
 use Rattle.board_open.specs.Open.{malformed}
 use Rattle.instance.specs.declared.columns.Size.{Size}
-use Rattle.instance.specs.Columns.{turnsBy}
-use Rattle.instance_spec.specs.Problem.{sheetTurns}
+use Rattle.instance.specs.Columns.{turnsBy, Held}
+use Rattle.instance_spec.specs.Problem.{shiftGap, sheetTurns}
 use Rattle.instance.specs.Load.{shiftSize, Loaded}
-use Rattle.instance.proofs.Rows.{count-is}
+use Rattle.instance.proofs.Rows.{count-is, gap-is, lengths-are}
+use Rattle.instance_spec.proofs.SheetTurns.{sheet-count, sheet-groomers}
+use Rattle.model.specs.Rules.{Independent}
+use Rattle.model.proofs.Readings.{independent-is}
+use Rattle.play_spec.proofs.Delayed.{taken-few}
 use Rattle.replay.specs.declared.replay.Judgement.{Judgement}
 use Rattle.check_spec.specs.Check.{boardCauses, checkCauses}
 use Rattle.replay.specs.Judged.{judged}
@@ -40,7 +44,7 @@ use Rattle.play_spec.specs.declared.Standing.{Standing}
 use Rattle.play_spec.specs.declared.PlayAnswer.{PlayAnswer}
 use Rattle.play.specs.declared.Prepared.{Prepared}
 use Rattle.play.specs.declared.Lent.{Lent}
-use Rattle.play_days.specs.Table.{blankTable}
+use Rattle.play_days.specs.Table.{blankTable, GroomersKnown, Playable}
 use Rattle.play_days.proofs.Rows.{blank-places}
 use Rattle.play_spec.specs.Standing.{standingAfter}
 use Rattle.play_spec.specs.Play.{servesFor, lentCauses, playCauses, dayAt, standingsOf, played, playRefused, playOf}
@@ -49,7 +53,7 @@ use Rattle.play.specs.Prepared.{PreparedBy, PreparedFor}
 use Rattle.play_spec.proofs.ListedStandings.{minutes-say}
 use Rattle.play_spec.proofs.LentCauses.{by-delays, by-places, by-none}
 use Rattle.refusal.proofs.Outcome.{unless-first, unless-none}
-use Rattle.instance.proofs.Posed.{loaded-held, loaded-turns, loaded-count}
+use Rattle.instance.proofs.Posed.{loaded-turns, loaded-count}
 
 -- ---- the delays' test
 
@@ -128,6 +132,12 @@ module _ (p : Size) (cols : List ℕ) (lent : Lent) (b delays : List ℕ) where
   pub days-bits : (map : List ℕ) → boardTurns b ≡ p .count → length map ≡ mapBytes (boardTurns b) → p .count ≤ 8 * length map
   days-bits map n l = omega (arith, l, n)
 
+  pub days-playable : (map : List ℕ) → boardTurns b ≡ p .count → map ≡ boardMap b → Playable (turnsBy p cols) (boardChoice b) → Playable (turnsBy p cols) (choiceIn (p .count) map)
+  unfolding boardChoice
+  days-playable map n m w =
+      let e : choiceIn (boardTurns b) (boardMap b) ≡ choiceIn (p .count) map = λ i. choiceIn (n i) (sym m i) in
+      subst (Playable (turnsBy p cols)) e w
+
   pub days-fit : {c : Bool} → c ≡ servesFor (p .count) delays → c ≡ true → DelaysFit delays (p .count)
   unfolding servesFor
   days-fit d f =
@@ -135,7 +145,7 @@ module _ (p : Size) (cols : List ℕ) (lent : Lent) (b delays : List ℕ) where
       let k : length delays ≡ p .count = eqb-true (length delays) (p .count) (and-1 (eqb (length delays) (p .count)) (delaysFit delays (length delays)) t) in
       fit-delays delays (p .count) (sym k) (ap (delaysFit delays) (sym k) ∙ and-2 (eqb (length delays) (p .count)) (delaysFit delays (length delays)) t)
 
-pub ruleset days-cases = (days-delays, days-small, days-done, days-bits, days-fit)
+pub ruleset days-cases = (days-delays, days-small, days-done, days-bits, days-playable, days-fit)
 
 -- ---- for a board and a problem
 
@@ -159,7 +169,14 @@ module _ (T : Turns) (b : List ℕ) (limit : ℕ) {j : Judgement} (e : j ≡ jud
 pub board-size : (p : Size) (cols b : List ℕ) (limit : ℕ) {j : Judgement} → j ≡ judged (firstOf (boardCauses (turnsBy p cols) b)) limit → j .fault ≡ 0 → boardTurns b ≡ p .count
 board-size p cols b limit e z = board-counted (turnsBy p cols) b limit e z ∙ count-is p cols
 
-pub ruleset board-cases = (board-formed, board-size, board-refused, board-passes)
+-- what a board that passes gives for its days: its turns leave ten minutes to each other
+pub board-playable : (p : Size) (cols b : List ℕ) (limit : ℕ) {j : Judgement} → j ≡ judged (firstOf (boardCauses (turnsBy p cols) b)) limit → j .fault ≡ 0 → Held p cols → p .gap ≡ shiftGap → GroomersKnown (turnsBy p cols) → Playable (turnsBy p cols) (boardChoice b)
+board-playable p cols b limit e z h gap known =
+    let T : Turns = turnsBy p cols in
+    let apart : Independent T (boardChoice b) = independent-is T (boardChoice b) (lengths-are p cols h) .0 (board-clear T b (fault-is T b limit e ∙ z) .apart) in
+    record { known = known; rows = λ g i. taken-few T (boardChoice b) (suc g) apart (lengths-are p cols h) (omega (arith, gap-is p cols, gap)) (λ t l. h .ends t (omega (arith, l, count-is p cols))) i }
+
+pub ruleset board-cases = (board-formed, board-size, board-playable, board-refused, board-passes)
 
 -- ---- for a sheet
 
@@ -184,6 +201,12 @@ module _ (s cols : List ℕ) {a : ReadAnswer} (e : Loaded s a cols) (y : a .refu
     size-is : p .count ≡ turnCount s
     size-is = loaded-count s cols e y q
 
+    pub sheet-gap : p .gap ≡ shiftGap
+    sheet-gap = ap (λ (x : Size). x .gap) q
+
+    pub sheet-known : GroomersKnown (turnsBy p cols)
+    sheet-known = rw turns-are (record { each = λ t l. let r = sheet-groomers s (e .posed y .sound) t (omega (arith, l, sheet-count s (e .posed y .sound))) in (r .0, omega (arith, r .1, few-groomers s (e .posed y .sound))) })
+
     pub sheet-prepared : (b delays : List ℕ) (places : ℕ) (x : Prepared) (table : List ℕ) → PreparedBy (boardCauses (turnsBy p cols) b ++ lentCauses (a .groomers) (p .count) delays places) (turnsBy p cols) (record { groomers = a .groomers; places = places }) (boardChoice b) delays x table → PreparedFor s b delays places x table
     unfolding playCauses checkCauses
     sheet-prepared b delays places x table v =
@@ -192,7 +215,7 @@ module _ (s cols : List ℕ) {a : ReadAnswer} (e : Loaded s a cols) (y : a .refu
         carried ((sheetCauses s ++ boardCauses (sheetTurns s) b) ++ lentCauses (countsIn s .groomers) (turnCount s) delays places) _ (sheetTurns s) lent (boardChoice b) delays x table
         (ap firstOf (append-assoc (sheetCauses s) (boardCauses (sheetTurns s) b) (lentCauses (countsIn s .groomers) (turnCount s) delays places)) ∙ first-goes (sheetCauses s) _ (sheet-numbered s) (e .posed y .sound)) v′
 
-pub ruleset prepared-cases = (sheet-refused, sheet-few, loaded-held, sheet-prepared)
+pub ruleset prepared-cases = (sheet-refused, sheet-prepared)
 
 -- ---- the entry
 

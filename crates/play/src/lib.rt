@@ -8,6 +8,7 @@ ghost use lib.ListN.{length};
 ghost use Rattle.turn.specs.Turn.{shiftMinutes};
 ghost use Rattle.sheet.specs.Kind.{mostGroomers};
 ghost use Rattle.instance.specs.Columns.{turnsBy, Held};
+ghost use Rattle.instance_spec.specs.Problem.{shiftGap};
 ghost use Rattle.board.specs.Board.{boardTurns, boardChoice};
 ghost use Rattle.board_open.specs.Open.{malformed};
 ghost use Rattle.check_spec.specs.Check.{boardCauses};
@@ -15,7 +16,7 @@ ghost use Rattle.play_spec.specs.DayTable.{dayTablePlaces};
 ghost use Rattle.play_spec.specs.Standing.{freshOf};
 ghost use Rattle.play_spec.specs.Play.{servesFor, lentCauses, played, playOf};
 ghost use Rattle.play_spec.specs.Minutes.{begunOf, stepOf, minuteOf, minutesFrom, MinuteReady, AllReady};
-ghost use Rattle.play_days.specs.Table.{blankTable};
+ghost use Rattle.play_days.specs.Table.{blankTable, GroomersKnown, Playable};
 ghost use Rattle.play.specs.Prepared.{PreparedBy, PreparedFor};
 use instance::PLACES;
 use instance::Size;
@@ -149,7 +150,7 @@ fn prepare_days(
     table: &mut [u16; DAY_TABLE_PLACES],
 ) -> Prepared
     requires { ⌜ Held p (now cols) × (lent .groomers ≤ mostGroomers) × (malformed (now board) ≡ false) × (boardTurns (now board) ≡ p .count) ⌝ }
-    requires { ⌜ now table ≡ blankTable ⌝ }
+    requires { ⌜ Playable (turnsBy p (now cols)) (boardChoice (now board)) × (now table ≡ blankTable) ⌝ }
     ensures { λ r. ⌜ PreparedBy (lentCauses (lent .groomers) (p .count) (now (delays .entry)) (lent .places)) (turnsBy p (now (cols .entry))) lent
         (boardChoice (now (board .entry))) (now (delays .entry)) r (now (table .exit)) ⌝ }
 {
@@ -177,7 +178,8 @@ fn prepare_board(
     delays: &[u16],
     table: &mut [u16; DAY_TABLE_PLACES],
 ) -> Prepared
-    requires { ⌜ Held p (now cols) × (lent .groomers ≤ mostGroomers) × (now table ≡ blankTable) ⌝ }
+    requires { ⌜ Held p (now cols) × (p .gap ≡ shiftGap) × GroomersKnown (turnsBy p (now cols)) × (lent .groomers ≤ mostGroomers) ⌝ }
+    requires { ⌜ now table ≡ blankTable ⌝ }
     ensures { λ r. ⌜ PreparedBy (boardCauses (turnsBy p (now (cols .entry))) (now (board .entry))
         ++ lentCauses (lent .groomers) (p .count) (now (delays .entry)) (lent .places)) (turnsBy p (now (cols .entry))) lent
         (boardChoice (now (board .entry))) (now (delays .entry)) r (now (table .exit)) ⌝ }

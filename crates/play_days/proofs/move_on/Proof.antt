@@ -1,10 +1,10 @@
 use Rattle.play_days.proofs.Rows.{next-cases}
 use borrow.Author.Needs.{needs}
-use Rattle.play_days.proofs.keep_next.Statement.{statement}
-use Rattle.play_days.proofs.keep_next.Tie as tie
+use Rattle.play_days.proofs.move_on.Statement.{statement}
+use Rattle.play_days.proofs.move_on.Tie as tie
 
-pub keep-next-spec : {M : Type 1} → statement M
-keep-next-spec =
+pub move-on-spec : {M : Type 1} → statement M
+move-on-spec =
     tie.close
     (tie.spec
     (λ c. search needs)
