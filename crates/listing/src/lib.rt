@@ -24,9 +24,10 @@ use listing_spec::Sums;
 use parts::put_listing;
 use plan::BoardMade;
 
-// Places for every listing.
-const LISTING_BYTES: usize = 3823;
+// As many bytes as the longest listing has.
+pub const LISTING_BYTES: usize = 3823;
 
+// A refusal's answer.
 fn refused(k: u8) -> ListAnswer
     ensures { λ r. ⌜ r ≡ listRefused k ⌝ }
 {
