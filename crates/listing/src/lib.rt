@@ -26,9 +26,10 @@ use parts::put_listing;
 use plan::BoardMade;
 use refusal::WriteAnswer;
 
-// Places for every listing.
-const LISTING_BYTES: usize = 3823;
+// As many bytes as the longest listing has.
+pub const LISTING_BYTES: usize = 3823;
 
+// A refusal's answer.
 fn refused(k: u8) -> WriteAnswer
     ensures { λ r. ⌜ r ≡ writeRefused k ⌝ }
 {
