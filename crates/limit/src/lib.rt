@@ -13,7 +13,7 @@ use price_spec::LimitAnswer;
 use prices::Extent;
 use prices::ORDERS;
 
-// The limit of a problem, with places for the orders.
+// The limit of a problem, with places for the orders. Where no turn names a driver, the groomers' order does.
 fn limit_with(
     e: Extent,
     cols: &[u16; PLACES],
@@ -26,6 +26,9 @@ fn limit_with(
     ensures { λ r. ⌜ r ≡ priceSum (turnsIn e (now (cols .entry))) (e .slopes) (now (prices .entry))
         + bestWorth (countedTurns (turnsIn e (now (cols .entry))) (e .slopes) (now (prices .entry))) ⌝ }
 {
+    if prices::greatest_driver(e.size, cols) == 0 {
+        return prices::limit_undriven(e, cols, prices, &mut *orders);
+    }
     prices::put_orders(e, cols, &mut *orders, &mut *room);
     prices::limit_at(e, cols, &*orders, prices)
 }

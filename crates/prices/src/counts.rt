@@ -35,7 +35,7 @@ fn at_least(x: u32, least: u32) -> u32
 
 // What is left of a worth, nothing if all of it is paid. It has no jumps: one a turn would be guessed wrong
 // too often.
-fn left_of(worth: u16, paid: u32) -> u16
+pub fn left_of(worth: u16, paid: u32) -> u16
     ensures { λ r. ⌜ r ≡ worth - paid ⌝ }
 {
     (at_least(worth as u32, paid) - paid) as u16

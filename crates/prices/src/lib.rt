@@ -4,12 +4,18 @@ mod looking;
 mod orders;
 mod runs;
 mod sums;
+mod undriven;
 
 use instance::MOST_TURNS;
 use instance::Size;
 pub use looking::limit_at;
 pub use looking::look;
 pub use orders::put_orders;
+pub use runs::DRIVERS;
+pub use runs::FROMS;
+pub use runs::TOS;
+pub use undriven::greatest_driver;
+pub use undriven::limit_undriven;
 
 // Five numbers for each turn: see Ordered.
 pub const ORDERS: usize = 5 * MOST_TURNS;
