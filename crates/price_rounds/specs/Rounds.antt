@@ -14,7 +14,7 @@ use Rattle.prices.specs.declared.Extent.{Extent}
 use Rattle.hall_look.specs.declared.HallSize.{HallSize}
 use Rattle.price_rule.specs.declared.RuleFor.{RuleFor}
 use Rattle.price_rule.specs.declared.RuleFor.the-variants.{Shift, Hall}
-use Rattle.price_rule.specs.Rules.{sizeOf, pricesOf, changeOf, choiceOf, worthOf, ruleOf, RulePosed, Tabled}
+use Rattle.price_rule.specs.Rules.{sizeOf, pricesOf, changeOf, choiceOf, worthOf, ruleOf, RulePosed, Tabled, RunsFor}
 use Rattle.price_rounds.specs.declared.Start.{Start}
 use Rattle.price_rounds.specs.declared.Task.{Task}
 use Rattle.price_rounds.specs.declared.Reached.{Reached}
@@ -82,4 +82,4 @@ pub record Underway (t : Task) (cols list₀ best₀ tables ranks list best room
   pub stage : BetweenLooks (t .rule) cols best₀ (t .rounds) prices change made limit list best worth
   pub list-size : length list ≡ length list₀
   pub map-size : length best ≡ length best₀
-  pub places : length room ≡ columnPlaces
+  pub runs : RunsFor (t .rule) cols room

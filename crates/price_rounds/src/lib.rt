@@ -1,11 +1,10 @@
 // Rounds in which prices move, whatever the rule: a look at the prices, then a round, until the lowest limit is
 // the best worth or no round is left.
 ghost use mathlib.Core.Path.{_≡_};
-ghost use lib.ListN.{length};
 ghost use Rattle.choice_map.specs.Choice.{choiceIn, Clean};
-ghost use Rattle.instance.specs.Columns.{columnPlaces, turnsBy};
+ghost use Rattle.instance.specs.Columns.{turnsBy};
 ghost use Rattle.refine_spec.specs.Selection.{byWorth};
-ghost use Rattle.price_rule.specs.Rules.{sizeOf, RulePosed};
+ghost use Rattle.price_rule.specs.Rules.{sizeOf, RulePosed, RunsFor};
 ghost use Rattle.price_rounds.specs.Rounds.{shiftTask, hallTask, BetterKept, RoundsStart, ReachedFrom};
 use hall_look::HallSize;
 use hall_look::MINUTES;
@@ -70,16 +69,16 @@ fn keep_better(
     best: &mut [u8],
     room: &mut [u16; PLACES],
 ) -> u32
-    requires { ⌜ RulePosed (b .rule) (now cols) × (now ranks ≡ byWorth (turnsBy (sizeOf (b .rule)) (now cols))) × (length (now room) ≡ columnPlaces) ⌝ }
+    requires { ⌜ RulePosed (b .rule) (now cols) × (now ranks ≡ byWorth (turnsBy (sizeOf (b .rule)) (now cols))) × RunsFor (b .rule) (now cols) (now room) ⌝ }
     requires { ⌜ Clean (sizeOf (b .rule) .count) (now relaxed) × Clean (sizeOf (b .rule) .count) (now best) ⌝ }
     ensures { λ w. ⌜ BetterKept (b .rule) (now (cols .entry)) (choiceIn (sizeOf (b .rule) .count) (now (relaxed .entry)))
         (choiceIn (sizeOf (b .rule) .count) (now (best .entry))) (b .worth) (choiceIn (sizeOf (b .rule) .count) (now (best .exit))) w ⌝ }
-    ensures { λ _. ⌜ Clean (sizeOf (b .rule) .count) (now (best .exit)) × (length (now (room .exit)) ≡ columnPlaces) ⌝ }
+    ensures { λ _. ⌜ Clean (sizeOf (b .rule) .count) (now (best .exit)) × RunsFor (b .rule) (now (cols .entry)) (now (room .exit)) ⌝ }
 {
     let rule = b.rule;
     let mut space = [0u8; MAP_BYTES];
     let map = &mut space[..best.len()];
-    let found = choose_from(rule, cols, ranks, relaxed, &mut *map, &mut *room);
+    let found = choose_from(rule, cols, &*room, ranks, relaxed, &mut *map);
     let worth = b.worth;
     if found <= worth {
         return worth;

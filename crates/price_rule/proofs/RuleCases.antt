@@ -10,7 +10,7 @@ use Rattle.model.specs.Choice.{chosen, fits, chooseEach}
 use Rattle.choice_map.specs.Choice.{choiceIn, Clean}
 use Rattle.best_spec.specs.Table.{bestWorth, bestChoice}
 use Rattle.instance.specs.declared.columns.Size.{Size}
-use Rattle.instance.specs.Columns.{turnsBy, Held}
+use Rattle.instance.specs.Columns.{columnPlaces, turnsBy, Held}
 use Rattle.instance.proofs.Rows.{count-is}
 use Rattle.selection.specs.Below.{chosenBelow}
 use Rattle.selection.specs.Asked.{NumbersOf}
@@ -18,20 +18,20 @@ use Rattle.best_table.specs.Held.{Ranged}
 use Rattle.price_spec.specs.Prices.{priceSum}
 use Rattle.prices.specs.declared.Extent.{Extent}
 use Rattle.prices.specs.Held.{countedTurns, turnsIn, orderPlaces, Driven, Ordered, Priced}
+use Rattle.selection_by_runs.specs.Runs.{RunsOf}
 use Rattle.refine_spec.specs.Rounds.{firstChange}
 use Rattle.refine_spec.specs.Selection.{byWorth}
 use Rattle.refine_spec.specs.Shift.{greatestWorth, movedPrices}
 use Rattle.round_parts.specs.Ranks.{withChosen}
 use Rattle.round_parts.proofs.RankCases.{ranks-numbers, ranks-bits, ranks-fit, list-fits, list-numbers, list-made, list-size}
 use Rattle.hall_spec.specs.Hall.{staysAllowed}
-use Rattle.hall_steps.specs.Bounds.{HallHeld}
 use Rattle.hall_price_spec.specs.Prices.{hallLimit, hallRelaxed}
 use Rattle.hall_price_spec.specs.Hall.{movedMinutes}
 use Rattle.hall_look.specs.declared.HallSize.{HallSize}
 use Rattle.hall_look.specs.Look.{hallFor, HallPosed}
 use Rattle.price_rule.specs.declared.RuleFor.{RuleFor}
 use Rattle.price_rule.specs.declared.RuleFor.the-variants.{Shift, Hall}
-use Rattle.price_rule.specs.Rules.{sizeOf, pricesOf, changeOf, limitOf, relaxedOf, fitsOf, movedOf, choiceOf, worthOf, ShiftPosed, RulePosed, Tabled}
+use Rattle.price_rule.specs.Rules.{sizeOf, pricesOf, changeOf, limitOf, relaxedOf, fitsOf, movedOf, choiceOf, worthOf, ShiftPosed, RulePosed, Tabled, RunsFor}
 
 -- ---- for a shift
 
@@ -74,6 +74,18 @@ module _ (r : RuleFor) (e : Extent) (g : r ≡ Shift e) where
     pub shift-tabled : (tables : List ℕ) → Ordered (turnsIn e cols) tables → Tabled r cols tables
     unfolding Tabled
     shift-tabled tables h = rw g h
+
+    pub shift-runs : (runs : List ℕ) → RunsOf (turnsIn e cols) runs → RunsFor r cols runs
+    unfolding RunsFor
+    shift-runs runs h = rw g h
+
+    pub shift-by-runs : (runs : List ℕ) → RunsFor r cols runs → RunsOf (turnsIn e cols) runs
+    unfolding RunsFor
+    shift-by-runs runs h = rw g at h
+
+    pub shift-worth : (map : List ℕ) {x : ℕ} → x ≡ chosenBelow (turnsBy (e .size) cols) (choiceIn (e .size .count) map) (e .size .count) → x ≡ chosenBelow (turnsBy (sizeOf r) cols) (choiceIn (sizeOf r .count) map) (sizeOf r .count)
+    unfolding sizeOf
+    shift-worth map q = rw g q
 
     pub shift-ordered : (tables : List ℕ) → Tabled r cols tables → Ordered (turnsIn e cols) tables
     unfolding Tabled
@@ -132,12 +144,17 @@ module _ (r : RuleFor) (h : HallSize) (g : r ≡ Hall h) where
       pub hall-held : Held (h .size) cols
       hall-held = hall-posed .held .held
 
-      pub hall-among : HallHeld (h .units) (h .size) cols
-      hall-among = hall-posed .held
-
     pub hall-tabled : (tables : List ℕ) → length tables ≡ orderPlaces → Tabled r cols tables
     unfolding Tabled
     hall-tabled tables q = rw g q
+
+    pub hall-runs : (runs : List ℕ) → length runs ≡ columnPlaces → RunsFor r cols runs
+    unfolding RunsFor
+    hall-runs runs q = rw g q
+
+    pub hall-worth : (map : List ℕ) {x : ℕ} → x ≡ chosenBelow (turnsBy (h .size) cols) (choiceIn (h .size .count) map) (h .size .count) → x ≡ chosenBelow (turnsBy (sizeOf r) cols) (choiceIn (sizeOf r .count) map) (sizeOf r .count)
+    unfolding sizeOf
+    hall-worth map q = rw g q
 
     pub hall-change : {x : ℕ} → x ≡ greatestWorth (turnsBy (h .size) cols) → (x + 7) / 8 ≡ changeOf r cols
     unfolding changeOf firstChange
@@ -185,13 +202,13 @@ change-most-8 l = omega arith
 
 pub ruleset size-cases = (shift-size, hall-size)
 
-pub ruleset table-cases = (shift-held, shift-ranged, shift-driven, shift-tabled, hall-tabled)
+pub ruleset table-cases = (shift-held, shift-ranged, shift-driven, shift-tabled, shift-runs, hall-tabled, hall-runs)
 
 pub ruleset change-cases = (shift-held, shift-change, change-most-4, hall-held, hall-change, change-most-8)
 
 pub ruleset look-cases = (shift-priced, shift-ordered, shift-clean, shift-none, shift-clean-too, shift-limit, shift-relaxed, hall-posed, hall-prices, hall-clean, hall-none, hall-clean-too, hall-limit, hall-relaxed)
 
-pub ruleset chosen-cases = (shift-held, shift-numbers, shift-clean, shift-none, shift-clean-too, shift-chosen, hall-among, hall-numbers, hall-clean, hall-none, hall-clean-too, hall-chosen)
+pub ruleset chosen-cases = (shift-held, shift-by-runs, shift-numbers, shift-clean, shift-none, shift-clean-too, shift-chosen, shift-worth, hall-posed, hall-numbers, hall-clean, hall-none, hall-clean-too, hall-chosen, hall-worth)
 
 pub ruleset move-cases = (shift-priced, shift-ordered, shift-clean, shift-moved, hall-posed, hall-prices, hall-clean, hall-moved)
 
@@ -207,20 +224,14 @@ module _ (r : RuleFor) (cols : List ℕ) where
       go (Shift e) w = w .held
       go (Hall h) w = w .held .held
 
-  pub rule-sized : {p : Size} → RulePosed r cols → p ≡ sizeOf r → Held p cols
-  rule-sized w g = rw g (rule-held w)
-
-  pub rule-clean : {p : Size} {map : List ℕ} → p ≡ sizeOf r → Clean (sizeOf r .count) map → Clean (p .count) map
-  rule-clean g c = rw g c
-
   module _ (ranks relaxed list : List ℕ) (count : ℕ) (e : ranks ≡ byWorth (turnsBy (sizeOf r) cols)) (q : take count list ≡ withChosen (choiceIn (length ranks) relaxed) ranks) where
     pub choice-made : {S : List Bool} → S ≡ chooseEach (fitsOf r cols) (take count list) (replicate (sizeOf r .count) false) → S ≡ choiceOf r cols (choiceIn (sizeOf r .count) relaxed)
     unfolding choiceOf
     choice-made f = list-made (sizeOf r) cols ranks e relaxed list count q (fitsOf r cols) f
 
-    pub choice-worth : (map : List ℕ) {p : Size} {x : ℕ} → choiceIn (sizeOf r .count) map ≡ chooseEach (fitsOf r cols) (take count list) (replicate (sizeOf r .count) false) → p ≡ sizeOf r
-        → x ≡ chosenBelow (turnsBy p cols) (choiceIn (p .count) map) (p .count) → x ≡ worthOf r cols (choiceOf r cols (choiceIn (sizeOf r .count) relaxed))
+    pub choice-worth : (map : List ℕ) {x : ℕ} → choiceIn (sizeOf r .count) map ≡ chooseEach (fitsOf r cols) (take count list) (replicate (sizeOf r .count) false)
+        → x ≡ chosenBelow (turnsBy (sizeOf r) cols) (choiceIn (sizeOf r .count) map) (sizeOf r .count) → x ≡ worthOf r cols (choiceOf r cols (choiceIn (sizeOf r .count) relaxed))
     unfolding chosenBelow worthOf chosen
-    choice-worth map f g h = h ∙ rw (g, choice-made f, count-is (sizeOf r) cols)
+    choice-worth map f h = h ∙ rw (choice-made f, count-is (sizeOf r) cols)
 
-pub ruleset from-cases = (rule-held, rule-sized, rule-clean, ranks-numbers, ranks-bits, ranks-fit, list-fits, list-numbers, list-size, choice-made, choice-worth)
+pub ruleset from-cases = (rule-held, ranks-numbers, ranks-bits, ranks-fit, list-fits, list-numbers, list-size, choice-made, choice-worth)

@@ -9,11 +9,12 @@ use Rattle.model.specs.Choice.{chosen, fits}
 use Rattle.sheet.specs.Kind.{mostSlopes}
 use Rattle.best_spec.specs.Table.{bestWorth, bestChoice}
 use Rattle.instance.specs.declared.columns.Size.{Size}
-use Rattle.instance.specs.Columns.{turnsBy, Held}
+use Rattle.instance.specs.Columns.{columnPlaces, turnsBy, Held}
 use Rattle.best_table.specs.Held.{Ranged}
 use Rattle.price_spec.specs.Prices.{priceSum}
 use Rattle.prices.specs.declared.Extent.{Extent}
 use Rattle.prices.specs.Held.{countedTurns, turnsIn, orderPlaces, Ordered}
+use Rattle.selection_by_runs.specs.Runs.{RunsOf}
 use Rattle.refine_spec.specs.Rounds.{Rule, firstChange}
 use Rattle.refine_spec.specs.Selection.{choiceFrom}
 use Rattle.refine_spec.specs.Shift.{greatestWorth, movedPrices}
@@ -96,3 +97,8 @@ RulePosed (Hall h) cols = HallPosed h cols
 unfoldable pub Tabled : RuleFor → List ℕ → List ℕ → Type 0
 Tabled (Shift e) cols tables = Ordered (turnsIn e cols) tables
 Tabled (Hall h) cols tables = length tables ≡ orderPlaces
+
+-- the runs of these orders are there, by which a shift's choice is made
+unfoldable pub RunsFor : RuleFor → List ℕ → List ℕ → Type 0
+RunsFor (Shift e) cols runs = RunsOf (turnsIn e cols) runs
+RunsFor (Hall h) cols runs = length runs ≡ columnPlaces

@@ -9,9 +9,12 @@ ghost use Rattle.model.specs.Choice.{chooseEach};
 ghost use Rattle.choice_map.specs.Choice.{choiceIn, Clean};
 ghost use Rattle.instance.specs.Columns.{columnPlaces, turnsBy};
 ghost use Rattle.selection.specs.Asked.{NumbersOf};
+ghost use Rattle.selection.specs.Below.{chosenBelow};
+ghost use Rattle.hall_spec.specs.Hall.{staysAllowed};
+ghost use Rattle.hall_look.specs.Look.{hallFor, HallPosed};
 ghost use Rattle.prices.specs.Held.{orderPlaces};
 ghost use Rattle.refine_spec.specs.Selection.{byWorth};
-ghost use Rattle.price_rule.specs.Rules.{sizeOf, pricesOf, changeOf, limitOf, relaxedOf, fitsOf, choiceOf, worthOf, movedOf, RulePosed, Tabled};
+ghost use Rattle.price_rule.specs.Rules.{sizeOf, pricesOf, changeOf, limitOf, relaxedOf, fitsOf, choiceOf, worthOf, movedOf, RulePosed, Tabled, RunsFor};
 use hall_look::HallSize;
 use hall_steps::Among;
 use instance::PLACES;
@@ -37,7 +40,8 @@ pub fn size_of(r: RuleFor) -> Size
     }
 }
 
-// What no price changes: the orders of a shift's turns. For a hall there is nothing to put down.
+// What no price changes: the orders of a shift's turns, and into the room the runs of these orders, by which a
+// choice is made. For a hall there is nothing to put down.
 pub fn put_tables(
     r: RuleFor,
     cols: &[u16; PLACES],
@@ -45,10 +49,11 @@ pub fn put_tables(
     room: &mut [u16; PLACES],
 )
     requires { ⌜ RulePosed r (now cols) × (length (now tables) ≡ orderPlaces) × (length (now room) ≡ columnPlaces) ⌝ }
-    ensures { λ _. ⌜ Tabled r (now (cols .entry)) (now (tables .exit)) × (length (now (room .exit)) ≡ columnPlaces) ⌝ }
+    ensures { λ _. ⌜ Tabled r (now (cols .entry)) (now (tables .exit)) × RunsFor r (now (cols .entry)) (now (room .exit)) ⌝ }
 {
     if let RuleFor::Shift(e) = r {
         prices::put_orders(e, cols, &mut *tables, &mut *room);
+        selection_by_runs::put_runs(e.size, cols, &*tables, &mut *room);
     }
 }
 
@@ -83,55 +88,66 @@ pub fn look_at(
     }
 }
 
-// Chooses from a list of numbers, from its last to its first, each that fits, into a map that has none chosen.
+// The windows of a list of numbers, from its last to its first, each that fits, into a map that has none chosen;
+// returns what they are worth.
+fn choose_windows(h: HallSize, cols: &[u16; PLACES], list: &[u16], map: &mut [u8]) -> u32
+    requires { ⌜ HallPosed h (now cols) × NumbersOf (h .size .count) (now list) ⌝ }
+    requires { ⌜ Clean (h .size .count) (now map) × (choiceIn (h .size .count) (now map) ≡ replicate (h .size .count) false) ⌝ }
+    ensures { λ _. ⌜ choiceIn (h .size .count) (now (map .exit))
+        ≡ chooseEach (staysAllowed (hallFor h (now (cols .entry)))) (now (list .entry)) (replicate (h .size .count) false) ⌝ }
+    ensures { λ x. ⌜ Clean (h .size .count) (now (map .exit))
+        × (x ≡ chosenBelow (turnsBy (h .size) (now (cols .entry))) (choiceIn (h .size .count) (now (map .exit))) (h .size .count)) ⌝ }
+{
+    let p = h.size;
+    let all = Among {
+        units: h.units,
+        size: p,
+        wide: false,
+    };
+    hall::choose_listed(all, cols, list, &mut *map);
+    round_parts::worth_chosen(p, cols, &*map)
+}
+
+// The turns or windows of a list of numbers, so chosen; a shift's by the runs of its orders.
 fn choose_listed(
     r: RuleFor,
     cols: &[u16; PLACES],
+    runs: &[u16; PLACES],
     list: &[u16],
     map: &mut [u8],
-    room: &mut [u16; PLACES],
-)
-    requires { ⌜ RulePosed r (now cols) × NumbersOf (sizeOf r .count) (now list) × (length (now room) ≡ columnPlaces) ⌝ }
+) -> u32
+    requires { ⌜ RulePosed r (now cols) × RunsFor r (now cols) (now runs) × NumbersOf (sizeOf r .count) (now list) ⌝ }
     requires { ⌜ Clean (sizeOf r .count) (now map) × (choiceIn (sizeOf r .count) (now map) ≡ replicate (sizeOf r .count) false) ⌝ }
     ensures { λ _. ⌜ choiceIn (sizeOf r .count) (now (map .exit))
         ≡ chooseEach (fitsOf r (now (cols .entry))) (now (list .entry)) (replicate (sizeOf r .count) false) ⌝ }
-    ensures { λ _. ⌜ Clean (sizeOf r .count) (now (map .exit)) × (length (now (room .exit)) ≡ columnPlaces) ⌝ }
+    ensures { λ x. ⌜ Clean (sizeOf r .count) (now (map .exit))
+        × (x ≡ chosenBelow (turnsBy (sizeOf r) (now (cols .entry))) (choiceIn (sizeOf r .count) (now (map .exit))) (sizeOf r .count)) ⌝ }
 {
     match r {
-        RuleFor::Shift(e) => selection::choose_each(e.size, cols, list, &mut *map, &mut *room),
-        RuleFor::Hall(h) => {
-            let p = h.size;
-            let all = Among {
-                units: h.units,
-                size: p,
-                wide: false,
-            };
-            hall::choose_listed(all, cols, list, &mut *map);
-        }
+        RuleFor::Shift(e) => selection_by_runs::choose_listed(e.size, cols, runs, list, &mut *map),
+        RuleFor::Hall(h) => choose_windows(h, cols, list, &mut *map),
     }
 }
 
-// The choice made from a relaxed set, into a map that has none chosen; returns what it is worth. The room is
-// for what is put down on the way.
+// The choice made from a relaxed set, into a map that has none chosen; returns what it is worth.
 pub fn choose_from(
     r: RuleFor,
     cols: &[u16; PLACES],
+    runs: &[u16; PLACES],
     ranks: &[u16],
     relaxed: &[u8],
     map: &mut [u8],
-    room: &mut [u16; PLACES],
 ) -> u32
     requires { ⌜ RulePosed r (now cols) × (now ranks ≡ byWorth (turnsBy (sizeOf r) (now cols))) × Clean (sizeOf r .count) (now relaxed) ⌝ }
     requires { ⌜ Clean (sizeOf r .count) (now map) × (choiceIn (sizeOf r .count) (now map) ≡ replicate (sizeOf r .count) false) ⌝ }
-    requires { ⌜ length (now room) ≡ columnPlaces ⌝ }
+    requires { ⌜ RunsFor r (now cols) (now runs) ⌝ }
     ensures { λ x. ⌜ x ≡ worthOf r (now (cols .entry)) (choiceOf r (now (cols .entry)) (choiceIn (sizeOf r .count) (now (relaxed .entry)))) ⌝ }
     ensures { λ _. ⌜ choiceIn (sizeOf r .count) (now (map .exit)) ≡ choiceOf r (now (cols .entry)) (choiceIn (sizeOf r .count) (now (relaxed .entry))) ⌝ }
-    ensures { λ _. ⌜ Clean (sizeOf r .count) (now (map .exit)) × (length (now (room .exit)) ≡ columnPlaces) ⌝ }
+    ensures { λ _. ⌜ Clean (sizeOf r .count) (now (map .exit)) ⌝ }
 {
     let mut numbers = [0u16; ASKED];
     let count = round_parts::put_list(ranks, relaxed, &mut numbers);
-    choose_listed(r, cols, &numbers[..count], &mut *map, &mut *room);
-    round_parts::worth_chosen(size_of(r), cols, &*map)
+    choose_listed(r, cols, runs, &numbers[..count], &mut *map)
 }
 
 // Moves the prices by a relaxed set.

@@ -15,8 +15,11 @@ ghost use Rattle.shift_moves.specs.Moves.{payerPlaces, numberBehind, pay
 ghost use Rattle.shift_moves.specs.Moves.{SmallNumbers, Times, PaidRuns, Summable, Present, Payers, FewPayers, EachOnce, MovedBy};
 use instance::MOST_TURNS;
 use instance::PLACES;
+use prices::DRIVERS;
 use prices::Extent;
+use prices::FROMS;
 use prices::ORDERS;
+use prices::TOS;
 
 const MOST_PRICE: u32 = 65535;
 
@@ -24,13 +27,6 @@ const HIGHEST_PRICE: u32 = 60000;
 
 // A place for each number from 0 to the most turns.
 const PAYERS: usize = MOST_TURNS + 1;
-
-// Where the drivers' order, the starts of the runs and the places behind them stand in the orders.
-const DRIVER_PLACES: usize = 2 * MOST_TURNS;
-
-const PAID_FROM: usize = 3 * MOST_TURNS;
-
-const PAID_TO: usize = 4 * MOST_TURNS;
 
 fn wide(x: u16) -> u32
     ensures { λ r. ⌜ (r ≡ x) × (r ≤ mostPrice) ⌝ }
@@ -146,8 +142,8 @@ fn count_payers(n: usize, orders: &[u16; ORDERS], relaxed: &[u8], payers: &mut [
 {
     let all = &orders[..];
     let mut leaving = [0u16; PAYERS];
-    count_numbers(n, relaxed, all, PAID_FROM, &mut *payers);
-    count_numbers(n, relaxed, all, PAID_TO, &mut leaving);
+    count_numbers(n, relaxed, all, FROMS, &mut *payers);
+    count_numbers(n, relaxed, all, TOS, &mut leaving);
     sum_payers(n, &mut *payers, &leaving);
 }
 
@@ -178,7 +174,7 @@ fn move_turn_prices(
 {
     let mut j = 0;
     while j < e.size.count {
-        let at = e.slopes + as_place(orders[DRIVER_PLACES + j]);
+        let at = e.slopes + as_place(orders[DRIVERS + j]);
         move_price(change, payers[j], &mut *prices, at);
         j += 1;
     }

@@ -30,7 +30,7 @@ loop-holds c =
       stage = search start-cases;
       list-size = search needs;
       map-size = search needs;
-      places = tabled .put-tables .ensures .1;
+      runs = tabled .put-tables .ensures .1;
     }
 
 array-borrow-prefix-map : tie.Need-array-borrow-prefix-map Inv-loop μ-loop
@@ -56,7 +56,7 @@ keep-better-requires : tie.Need-keep-better-requires Inv-loop μ-loop
 keep-better-requires c κs =
     let seen = c .before .before .before .before .before .before .before .before .before .before .before in
     let i = seen .before .before .before .before .before .loop .inv in
-    ((i .posed, i .ranked, i .places), (seen .look-at .ensures .1 .0, i .stage .clean))
+    ((i .posed, i .ranked, i .runs), (seen .look-at .ensures .1 .0, i .stage .clean))
 
 returns : tie.Need-returns Inv-loop μ-loop
 returns c =
@@ -107,7 +107,7 @@ loop-again c =
       stage = round-goes _ _ _ _ _ _ _ _ _ _ _ (head .loop .inv .stage) _ _ (seen .look-at .ensures .0) (seen .look-at .ensures .1 .1) (lower .keep-lower .ensures .0) (lower .keep-lower .ensures .1) (better .keep-better .ensures .0) (over .is-over .ensures) (c .before .before .before .before .before .before .before .before .if1 .left) (better .keep-better .ensures .1 .0) (c .before .before .before .before .move-prices .ensures) (c .next-change .ensures);
       list-size = search (needs, i .list-size);
       map-size = search (needs, i .map-size);
-      places = better .keep-better .ensures .1 .1;
+      runs = better .keep-better .ensures .1 .1;
     }
 
 pub make-rounds-spec : {M : Type 1} → statement M

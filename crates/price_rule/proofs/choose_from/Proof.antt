@@ -1,4 +1,4 @@
-use Rattle.price_rule.proofs.RuleCases.{rule-held, from-cases, choice-made, choice-worth}
+use Rattle.price_rule.proofs.RuleCases.{rule-held, choice-made, choice-worth, from-cases}
 use Rattle.round_parts.proofs.RankCases.{list-fits}
 use native.Mathlib.Omega.{arith}
 use borrow.Author.Needs.{needs}
@@ -18,8 +18,6 @@ choose-from-spec =
     (λ c κs. search (needs, from-cases))
     array-share-prefix-numbers
     (λ c. search (needs, from-cases))
-    (λ c κs. search (needs, from-cases))
-    (λ c κs. search needs)
     (λ c κs. search (needs, from-cases))
     (λ c. search needs)
     (λ c. (search choice-worth, (search choice-made, search needs))))
