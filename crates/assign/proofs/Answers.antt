@@ -15,9 +15,9 @@ use Rattle.instance.specs.Columns.{turnsBy}
 use Rattle.instance_spec.specs.Problem.{sheetTurns}
 use Rattle.instance.specs.Load.{shiftSize, Loaded}
 use Rattle.instance_spec.proofs.SheetTurns.{sheet-count}
-use Rattle.assign_spec.specs.declared.PartitionAnswer.{PartitionAnswer}
+use Rattle.assign_spec.specs.declared.AssignAnswer.{AssignAnswer}
 use Rattle.assign_spec.specs.Numbering.{numbersOf, usedOf}
-use Rattle.assign_spec.specs.Partition.{partitionCauses, partitionRefused, partitionOf}
+use Rattle.assign_spec.specs.Assign.{assignCauses, assignRefused, assignOf}
 use Rattle.assign_spec.proofs.Numbers.{numbers-places}
 use Rattle.refusal.proofs.Outcome.{room-stopped, room-short, room-enough}
 use Rattle.refusal.specs.Outcome.{beside}
@@ -26,34 +26,34 @@ use Rattle.instance.proofs.Posed.{loaded-held, loaded-turns}
 -- ---- as the code leaves it
 
 -- the busy times fit
-pub partition-gap : (n : ℕ) {p : Size} → p ≡ shiftSize n → shiftMinutes + p .gap < 65536
-partition-gap n q = rw q (omega arith)
+pub assign-gap : (n : ℕ) {p : Size} → p ≡ shiftSize n → shiftMinutes + p .gap < 65536
+assign-gap n q = rw q (omega arith)
 
 -- the places that are written
 pub places-part : (n : ℕ) (lent : List ℕ) → n ≤ length lent → n ≡ length (take n lent)
 places-part n lent h = sym (length-take-le n lent h)
 
-pub partition-places : (n : ℕ) (lent : List ℕ) {p : Size} → p ≡ shiftSize n → n ≤ length lent → length (take n lent) ≡ p .count
-partition-places n lent q h = rw q (length-take-le n lent h)
+pub assign-places : (n : ℕ) (lent : List ℕ) {p : Size} → p ≡ shiftSize n → n ≤ length lent → length (take n lent) ≡ p .count
+assign-places n lent q h = rw q (length-take-le n lent h)
 
 module _ (s cols lent : List ℕ) {r : ReadAnswer} (e : Loaded s r cols) where
-  pub partition-fault : {x : PartitionAnswer} → (r .refusal ≡ 0 → ⊥) → x ≡ partitionRefused (r .refusal) → beside x lent ≡ partitionOf s lent
-  unfolding partitionOf partitionCauses
-  partition-fault f g = rw g (sym (room-stopped (sheetCauses s) (turnCount s) (length lent) _ (λ k. beside (partitionRefused k) lent) (r .refusal) (sym (e .refusal)) f))
+  pub assign-fault : {x : AssignAnswer} → (r .refusal ≡ 0 → ⊥) → x ≡ assignRefused (r .refusal) → beside x lent ≡ assignOf s lent
+  unfolding assignOf assignCauses
+  assign-fault f g = rw g (sym (room-stopped (sheetCauses s) (turnCount s) (length lent) _ (λ k. beside (assignRefused k) lent) (r .refusal) (sym (e .refusal)) f))
 
   module _ (f : r .refusal ≡ 0) where
-    pub partition-small : {x : PartitionAnswer} → x ≡ partitionRefused bufferTooSmall → length lent < r .turns → beside x lent ≡ partitionOf s lent
-    unfolding partitionOf partitionCauses
-    partition-small g h = rw g (sym (room-short (sheetCauses s) (turnCount s) (length lent) _ (λ k. beside (partitionRefused k) lent) (sheet-numbered s) (e .posed f .sound) (omega (arith, e .posed f .count))))
+    pub assign-small : {x : AssignAnswer} → x ≡ assignRefused bufferTooSmall → length lent < r .turns → beside x lent ≡ assignOf s lent
+    unfolding assignOf assignCauses
+    assign-small g h = rw g (sym (room-short (sheetCauses s) (turnCount s) (length lent) _ (λ k. beside (assignRefused k) lent) (sheet-numbered s) (e .posed f .sound) (omega (arith, e .posed f .count))))
 
-    pub partition-done : {p : Size} {used : ℕ} {numbers : List ℕ} → p ≡ shiftSize (r .turns) → numbers ≡ numbersOf (turnsBy p cols) → used ≡ usedOf (turnsBy p cols) → r .turns ≤ length lent
-        → beside (record { refusal = 0; groomers = used }) (numbers ++ drop (r .turns) lent) ≡ partitionOf s lent
-    unfolding partitionOf partitionCauses
-    partition-done q a b h =
+    pub assign-done : {p : Size} {used : ℕ} {numbers : List ℕ} → p ≡ shiftSize (r .turns) → numbers ≡ numbersOf (turnsBy p cols) → used ≡ usedOf (turnsBy p cols) → r .turns ≤ length lent
+        → beside (record { refusal = 0; groomers = used }) (numbers ++ drop (r .turns) lent) ≡ assignOf s lent
+    unfolding assignOf assignCauses
+    assign-done q a b h =
         let T = sheetTurns s in
         let sound = e .posed f .sound in
         let count = e .posed f .count in
         let size : length (numbersOf T) ≡ r .turns = numbers-places T ∙ sheet-count s sound ∙ sym count in
-        rw (a, b, loaded-turns s cols e f q, ← size) (sym (room-enough (sheetCauses s) (turnCount s) (length lent) _ (λ k. beside (partitionRefused k) lent) (sheet-numbered s) sound (omega (arith, count))))
+        rw (a, b, loaded-turns s cols e f q, ← size) (sym (room-enough (sheetCauses s) (turnCount s) (length lent) _ (λ k. beside (assignRefused k) lent) (sheet-numbered s) sound (omega (arith, count))))
 
-pub ruleset partition-cases = (partition-fault, partition-small, partition-gap, loaded-held, partition-places, places-part, partition-done)
+pub ruleset assign-cases = (assign-fault, assign-small, assign-gap, loaded-held, assign-places, places-part, assign-done)

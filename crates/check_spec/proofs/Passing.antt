@@ -109,7 +109,7 @@ module _ (s b : List ℕ) where
       let c : Clear (sheetTurns s) b = record { formed = board-formed b (k .form); counted = k .form .turns ∙ sym (sheet-count s e); apart = t .0; full = t .1; all-right = t .2; closed = t .3; summed = t .4 } in
       check-number s b ∙ parts-check e (clear-board (sheetTurns s) b c)
 
-  -- exactly: of bytes, to pass the check is the same as: the sheet is accepted, and the board keeps the rules
+  -- exactly: bytes pass the check just if they are an accepted sheet and a board that keeps the rules for it
   pub passes-iff : Bytes s → Passes s b ↔ (Accepted s × BoardKeeps s b)
   passes-iff y = (
     λ p. let q = passes-parts p in (accepted-iff y .0 (q .0), q .1),

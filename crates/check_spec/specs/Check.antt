@@ -53,7 +53,7 @@ checkCauses s b = sheetCauses s ++ boardCauses (sheetTurns s) b
 
 -- the check's answer: a refusal, a tally, a worth, a ceiling
 abbrev pub checked : ℕ → ℕ → ℕ → ℕ → CheckAnswer
-checked refusal tally worth limit = record { refusal = refusal; tally = tally; worth = worth; ceiling = limit }
+checked refusal tally worth ceiling = record { refusal = refusal; tally = tally; worth = worth; ceiling = ceiling }
 
 -- the check: the first cause's number and no sums, or the board's own tally and worth, and the ceiling of its steps
 unfoldable pub checkOf : List ℕ → List ℕ → CheckAnswer

@@ -2,7 +2,7 @@
 ghost use Prim.Native.Nat.{_≤_};
 ghost use lib.ListN.{length};
 use super::print;
-use assign_spec::PartitionAnswer;
+use assign_spec::AssignAnswer;
 use best_spec::BestAnswer;
 use check_spec::CheckAnswer;
 use hall_spec::ChargeAnswer;
@@ -134,7 +134,7 @@ pub fn list(sheet: &[u8], text: &mut [u8]) {
 }
 
 pub fn assign(sheet: &[u8], places: &mut [u16]) {
-    let a: PartitionAnswer = assign::assign(sheet, &mut *places);
+    let a: AssignAnswer = assign::assign(sheet, &mut *places);
     print::pair(a.refusal, a.groomers as u64);
 }
 

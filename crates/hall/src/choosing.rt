@@ -41,7 +41,7 @@ fn add_if_allowed(a: Among, cols: &[u16; PLACES], map: &mut [u8], used: &mut [u8
     }
 }
 
-// Chooses window j if it is meant, as one of the kind or where any is, and the set stays allowed.
+// Chooses window j if the set stays allowed with it; unless any is meant, only one of the kind.
 fn add_if_meant(
     a: Among,
     any: bool,

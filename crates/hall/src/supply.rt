@@ -12,8 +12,8 @@ pub const MOST_VEHICLES: u16 = 60;
 
 pub const USED: usize = MINUTES + MOST_VEHICLES as usize + 1;
 
-// Whether at each of a window's minutes the supply has its draw left. There is no way out before the last:
-// the minutes are gone through many at a time.
+// Whether the supply has the window's draw left at each of its minutes. No early exit, so that the loop
+// vectorises.
 fn lasts(units: u16, used: &[u8; USED], r: Row) -> bool
     requires { ⌜ RowInHall units r ⌝ }
     ensures { λ q. ⌜ q ≡ lastsRow units (now (used .entry)) r ⌝ }

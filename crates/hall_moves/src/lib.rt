@@ -55,7 +55,7 @@ fn move_by(units: u16, change: u32, drawn: u16) -> u32
     change * (all - wide(drawn)) / all
 }
 
-// That for each draw in the list.
+// Puts that move for each draw of the list.
 fn put_moves(units: u16, change: u32, moves: &mut [u32; MOVES])
     requires { ⌜ (1 ≤ units) × (units ≤ mostUnits) × (change ≤ mostWorth) × (length (now moves) ≡ movePlaces) ⌝ }
     ensures { λ _. ⌜ MovesTo units change (now (moves .exit)) movePlaces ⌝ }
@@ -67,7 +67,7 @@ fn put_moves(units: u16, change: u32, moves: &mut [u32; MOVES])
     }
 }
 
-// The same, from the list if the draw is in it.
+// The move for a draw: from the list if it is there, else worked out.
 fn listed_move(units: u16, change: u32, moves: &[u32; MOVES], drawn: u16) -> u32
     requires { ⌜ (1 ≤ units) × (units ≤ mostUnits) × (drawn ≤ mostDrawn) × (change ≤ mostWorth) × MovesTo units change (now moves) movePlaces ⌝ }
     ensures { λ r. ⌜ (r ≡ moveBy change units drawn) × (r ≤ mostMove) ⌝ }

@@ -19,8 +19,8 @@ use price_rounds::Reached;
 use price_rounds::Start;
 use price_rounds::hall_rounds;
 
-// Plans the hall into a map, and makes the rounds from that choice. The room is for what they put down on the
-// way.
+// Plans the hall into a map, and makes the rounds from that choice. The room is lent because the loop asks
+// for one; for a hall nothing is put there.
 fn plan_rounds(
     h: HallSize,
     rounds: u32,

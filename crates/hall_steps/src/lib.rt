@@ -1,5 +1,4 @@
-// The engine's first half for the charging hall: the windows of one kind as turns in columns, and the steps
-// of either kind.
+// A hall's windows of one kind as the engine's turns, and their steps.
 mod among;
 mod running;
 

@@ -1,5 +1,4 @@
-// The steps of one kind, by the planner's loop: the wide windows' are a shift's of one groomer, the small
-// windows' take by shares.
+// The steps of one kind. The wide windows' are those of a shift with one groomer; the small windows' take by shares.
 ghost use mathlib.Core.Path.{_≡_};
 ghost use Prim.Native.Nat.{_*_, _≤_};
 ghost use lib.ListN.{length};

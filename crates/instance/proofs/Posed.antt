@@ -161,6 +161,7 @@ unfolding sheetTurns
 load-garage s cols {r = r} k w =
     let e : r ≡ answerOf s = answer-garage s k (w .0) in
     record {
+      answer = e;
       refusal = whole-refusal s e;
       posed =
           λ z. record {

@@ -3,7 +3,7 @@ use mathlib.Core.Path.{_≡_}
 use mathlib.Core.List.{List}
 use Prim.Native.Nat.{ℕ, _+_, _<_}
 use Rattle.turn.specs.Turn.{turnIn}
-use Rattle.sheet.specs.Read.{turnCount, turnsOf, countsIn, sheetCauses}
+use Rattle.sheet.specs.Read.{turnCount, turnsOf, countsIn, sheetCauses, answerOf}
 use Rattle.instance.specs.declared.columns.Size.{Size}
 use Rattle.instance.specs.Ways.{rowFor}
 use Rattle.instance.specs.Columns.{rowIn, turnsBy, Held}
@@ -37,7 +37,8 @@ pub record Posed (s : List ℕ) (r : ReadAnswer) (cols : List ℕ) : Type 0 wher
   pub turns : turnsBy (shiftSize (r .turns)) cols ≡ sheetTurns s
   pub held : Held (shiftSize (r .turns)) cols
 
--- any bytes as a garage's sheet, read into columns: the refusal is the first cause's number, and without one they are so posed
+-- any bytes as a garage's sheet, read into columns: the answer is the reader's, its refusal is the first cause's number, and without one they are so posed
 pub record Loaded (s : List ℕ) (r : ReadAnswer) (cols : List ℕ) : Type 0 where
+  pub answer : r ≡ answerOf s
   pub refusal : r .refusal ≡ firstOf (sheetCauses s)
   pub posed : r .refusal ≡ 0 → Posed s r cols

@@ -78,7 +78,7 @@ pub fn load_as(
     r
 }
 
-// The garage's sheet, likewise.
+// Reads any bytes as the garage's sheet into columns, with lent room for the table of turns.
 pub fn load_with(s: &[u8], cols: &mut [u16; PLACES], room: &mut [u16; PLACES]) -> ReadAnswer
     requires { ⌜ (length (now cols) ≡ columnPlaces) × (length (now room) ≡ columnPlaces) ⌝ }
     ensures { λ r. ⌜ Loaded (now (s .entry)) r (now (cols .exit)) ⌝ }
@@ -87,7 +87,7 @@ pub fn load_with(s: &[u8], cols: &mut [u16; PLACES], room: &mut [u16; PLACES]) -
     load_as(sheet_read::garage(), s, &mut *cols, &mut *room)
 }
 
-// The garage's sheet, for those who have no room to lend.
+// Reads any bytes as the garage's sheet into columns, with a table of its own.
 pub fn load(s: &[u8], cols: &mut [u16; PLACES]) -> ReadAnswer
     requires { ⌜ length (now cols) ≡ columnPlaces ⌝ }
     ensures { λ r. ⌜ Loaded (now (s .entry)) r (now (cols .exit)) ⌝ }

@@ -26,7 +26,7 @@ use parts::put_listing;
 use plan::BoardMade;
 use refusal::WriteAnswer;
 
-// As many bytes as the longest listing has.
+// Enough for every listing.
 pub const LISTING_BYTES: usize = 3823;
 
 // A refusal's answer.

@@ -30,7 +30,8 @@ const MAP_BYTES: usize = (MOST_TURNS + 7) / 8;
 // A hall has a price for each minute; the slopes and turns of a shift are fewer.
 const MOST_PRICES: usize = MINUTES;
 
-// Above every limit: the first look finds a lower one.
+// Above every limit: the first look finds a lower one. The definition starts from the first limit itself;
+// FirstLook.antt shows that both come to the same.
 const NO_LIMIT: u32 = 4294967295;
 
 // The most rounds, and the worth of the choice to start from.
@@ -39,7 +40,7 @@ pub struct Start {
     pub worth: u32,
 }
 
-// That, and the rule.
+// What make_rounds gets: the rule, the most rounds, and the worth of the choice to start from.
 pub struct Task {
     pub rule: RuleFor,
     pub rounds: u32,
@@ -98,7 +99,7 @@ fn come_to(limit: u32, worth: u32, rounds: u32) -> Reached
 }
 
 // Makes the rounds, from prices of 0 and the choice in a map. The map and the list then have the best choice
-// and the prices of the lowest limit. The room is for what functions put down on the way.
+// and the prices of the lowest limit. The room holds the runs of a shift's orders during the rounds.
 fn make_rounds(
     t: Task,
     cols: &[u16; PLACES],

@@ -93,7 +93,7 @@ unfoldable pub RulePosed : RuleFor → List ℕ → Type 0
 RulePosed (Shift e) cols = ShiftPosed e cols
 RulePosed (Hall h) cols = HallPosed h cols
 
--- what no price changes is there: the orders of a shift's turns
+-- what does not depend on prices is there: the orders of a shift's turns
 unfoldable pub Tabled : RuleFor → List ℕ → List ℕ → Type 0
 Tabled (Shift e) cols tables = Ordered (turnsIn e cols) tables
 Tabled (Hall h) cols tables = length tables ≡ orderPlaces

@@ -1,4 +1,4 @@
-// The rule of rounds as a value, for a shift or for a hall: what no price changes, a look at the prices, the
+// The rule of rounds as a value, for a shift or for a hall: what does not depend on prices, a look at the prices, the
 // choice made from a relaxed set, how a round moves the prices, and the first change.
 ghost use mathlib.Core.Path.{_≡_};
 ghost use mathlib.Core.Bool.{false};
@@ -40,7 +40,7 @@ pub fn size_of(r: RuleFor) -> Size
     }
 }
 
-// What no price changes: the orders of a shift's turns, and into the room the runs of these orders, by which a
+// What does not depend on prices: the orders of a shift's turns, and into the room the runs of these orders, by which a
 // choice is made. For a hall there is nothing to put down.
 pub fn put_tables(
     r: RuleFor,
@@ -88,8 +88,8 @@ pub fn look_at(
     }
 }
 
-// The windows of a list of numbers, from its last to its first, each that fits, into a map that has none chosen;
-// returns what they are worth.
+// Goes through a list of windows from its last to its first and chooses each that fits, into an empty map;
+// returns their worth.
 fn choose_windows(h: HallSize, cols: &[u16; PLACES], list: &[u16], map: &mut [u8]) -> u32
     requires { ⌜ HallPosed h (now cols) × NumbersOf (h .size .count) (now list) ⌝ }
     requires { ⌜ Clean (h .size .count) (now map) × (choiceIn (h .size .count) (now map) ≡ replicate (h .size .count) false) ⌝ }
@@ -99,6 +99,7 @@ fn choose_windows(h: HallSize, cols: &[u16; PLACES], list: &[u16], map: &mut [u8
         × (x ≡ chosenBelow (turnsBy (h .size) (now (cols .entry))) (choiceIn (h .size .count) (now (map .exit))) (h .size .count)) ⌝ }
 {
     let p = h.size;
+    // wide plays no part: choose_listed takes windows of both kinds.
     let all = Among {
         units: h.units,
         size: p,
@@ -108,7 +109,7 @@ fn choose_windows(h: HallSize, cols: &[u16; PLACES], list: &[u16], map: &mut [u8
     round_parts::worth_chosen(p, cols, &*map)
 }
 
-// The turns or windows of a list of numbers, so chosen; a shift's by the runs of its orders.
+// The same by either rule; a shift's turns are tested by the runs of its orders.
 fn choose_listed(
     r: RuleFor,
     cols: &[u16; PLACES],

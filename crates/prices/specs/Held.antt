@@ -1,4 +1,4 @@
--- How the functions hold prices, counts and the orders that no price changes; for inner functions only (requests P-1 and P-2). Assumes nothing.
+-- How the functions hold prices, counts and the orders that do not depend on prices; for inner functions only (requests P-1 and P-2). Assumes nothing.
 use mathlib.Core.Path.{_≡_}
 use mathlib.Core.Logic.{_≢_, _↔_}
 use mathlib.Core.Bool.{true, cond}
@@ -152,7 +152,7 @@ pub record PaidRun (T : Turns) (t from to : ℕ) : Type 0 where
   pub within : to ≤ T .count
   pub pays : (j : ℕ) → j < T .count → (paysTurn T (getD (turnOrder (byDrivers T)) j 0) t ≡ true) ↔ ((from ≤ j) × (j < to))
 
--- what no price changes: the groomers' order and where its sets go on, the drivers' order and what each turn pays for in it
+-- what does not depend on prices: the groomers' order and where its sets go on, the drivers' order and what each turn pays for in it
 pub record Ordered (T : Turns) (orders : List ℕ) : Type 0 where
   pub places : length orders ≡ orderPlaces
   pub groomers : (i : ℕ) → i < T .count → groomerPlace orders i ≡ getD (turnOrder T) i 0

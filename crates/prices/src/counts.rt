@@ -12,7 +12,7 @@ use super::runs::TOS;
 use super::sums::price_at;
 use super::sums::put_sums;
 use super::sums::slope_prices;
-use super::undriven::greatest_driver;
+use super::undriven::driver_bound;
 use super::undriven::put_slope_counts;
 use best_table::ENTRIES;
 use instance::MOST_TURNS;
@@ -28,15 +28,14 @@ fn run_sum(orders: &[u16; ORDERS], sums: &[u32; ENTRIES], t: usize) -> u32
     sums[orders[TOS + t] as usize] - sums[orders[FROMS + t] as usize]
 }
 
-// A number, or the least that it may be where it is below that.
+// The greater of x and least.
 fn at_least(x: u32, least: u32) -> u32
     ensures { λ r. ⌜ r ≡ least + (x - least) ⌝ }
 {
     if x <= least { least } else { x }
 }
 
-// What is left of a worth, nothing if all of it is paid. It has no jumps: one a turn would be guessed wrong
-// too often.
+// What is left of a worth, nothing if all of it is paid. Branch-free: a branch per turn would be mispredicted.
 pub fn left_of(worth: u16, paid: u32) -> u16
     ensures { λ r. ⌜ r ≡ worth - paid ⌝ }
 {
@@ -130,7 +129,7 @@ pub fn put_counts(
     ensures { λ _. ⌜ CountsTo (turnsIn e (now (cols .entry))) (e .slopes) (now (prices .entry)) (now (counts .exit)) (e .size .count) ⌝ }
     ensures { λ r. ⌜ (r ≡ priceSum (turnsIn e (now (cols .entry))) (e .slopes) (now (prices .entry))) × (r ≤ (mostSlopes + mostTurns) * mostPrice) ⌝ }
 {
-    if 0 < greatest_driver(e.size, cols) {
+    if 0 < driver_bound(e.size, cols) {
         return put_driven_counts(e, cols, orders, prices, &mut *counts);
     }
     put_slope_counts(e, cols, prices, &mut *counts);

@@ -14,10 +14,11 @@ pub use orders::put_orders;
 pub use runs::DRIVERS;
 pub use runs::FROMS;
 pub use runs::TOS;
-pub use undriven::greatest_driver;
+pub use undriven::driver_bound;
 pub use undriven::limit_undriven;
 
-// Five numbers for each turn: see Ordered.
+// Five columns: the groomers' order, where its sets go on, the drivers' order, where each turn's run starts and
+// where it ends (Ordered).
 pub const ORDERS: usize = 5 * MOST_TURNS;
 
 // How many turns and slopes there are, and the gap.

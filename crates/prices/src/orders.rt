@@ -1,4 +1,4 @@
-// What no price changes: the groomers' order and where its sets go on, the drivers' order and what each turn
+// What does not depend on prices: the groomers' order and where its sets go on, the drivers' order and what each turn
 // pays for in it.
 ghost use mathlib.Core.Path.{_≡_};
 ghost use Prim.Native.Nat.{_≤_};

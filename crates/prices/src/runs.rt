@@ -39,7 +39,7 @@ fn in_one_run(x: Row, y: Row) -> bool
     (x.groomer == y.groomer) & (x.end == y.end)
 }
 
-// The first place whose turn has the groomer and the end of the one at i, from that of the place before.
+// The first place whose turn has the groomer and end of the one at i; from is that place for i - 1.
 fn run_start(p: Size, cols: &[u16; PLACES], order: &[u16], i: usize, from: usize) -> usize
     requires { ⌜ (i < p .count) × Held p (now cols) × InTurnOrder (turnsBy p (now cols)) (now order) × RunBefore (turnsBy p (now cols)) i from ⌝ }
     ensures { λ r. ⌜ RunStart (turnsBy p (now (cols .entry))) i r ⌝ }

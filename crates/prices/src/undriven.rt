@@ -28,8 +28,8 @@ fn greater(x: u16, y: u16) -> u16
     if x < y { y } else { x }
 }
 
-// A number that no driver is above; 0 where no turn names one.
-pub fn greatest_driver(p: Size, cols: &[u16; PLACES]) -> u16
+// A number that no turn's driver is above.
+pub fn driver_bound(p: Size, cols: &[u16; PLACES]) -> u16
     requires { ⌜ p .count ≤ mostTurns ⌝ }
     ensures { λ r. ⌜ DriversUpTo (turnsBy p (now (cols .entry))) (p .count) r ⌝ }
 {

@@ -1,4 +1,4 @@
-// The columns of both orders, from the orders that no price changes.
+// The columns of both orders, from the orders that do not depend on prices.
 ghost use mathlib.Core.Path.{_≡_};
 ghost use Prim.Native.Nat.{_≤_, _<_};
 ghost use lib.ListN.{length};

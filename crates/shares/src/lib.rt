@@ -38,7 +38,7 @@ pub fn to_u32(x: u16) -> u32
     x as u32
 }
 
-// An amount by twice a draw and the units, rounded up.
+// Twice the draw times the amount, divided by the units, rounded up.
 fn share_of(units: u16, draw: u16, amount: u16) -> u16
     requires { ⌜ (1 ≤ units) × (2 * draw ≤ units) × (amount ≤ mostWorth) ⌝ }
     ensures { λ r. ⌜ (r ≡ roundedUp (2 * draw * amount) units) × (r ≤ amount) ⌝ }

@@ -128,7 +128,7 @@ pub fn read_table_of(kind: Kind, s: &[u8], table: &mut [u16]) -> ReadAnswer
     }
 }
 
-// The garage's sheet, likewise, and likewise no entry.
+// Reads any bytes as the garage's sheet, as read_table_of does a sheet of any kind.
 pub fn read_table(s: &[u8], table: &mut [u16]) -> ReadAnswer
     requires { ⌜ tablePlaces ≤ length (now table) ⌝ }
     ensures { λ r. ⌜ (r ≡ answerOf (now (s .entry))) × (r .refusal ≡ 0 → now (table .exit) ≡ atFront (tableOf (now (s .entry))) (now (table .entry))) ⌝ }
@@ -136,7 +136,7 @@ pub fn read_table(s: &[u8], table: &mut [u16]) -> ReadAnswer
     read_table_of(garage(), s, &mut *table)
 }
 
-// Numbers copied to the front of a table.
+// Copies numbers to the front of a table.
 fn put_numbers(table: &mut [u16], numbers: &[u16])
     requires { ⌜ length (now numbers) ≤ length (now table) ⌝ }
     ensures { λ _. ⌜ now (table .exit) ≡ puts (now (table .entry)) 0 (now (numbers .entry)) ⌝ }
@@ -168,7 +168,7 @@ pub fn read_as(kind: Kind, s: &[u8], table: &mut [u16]) -> ReadAnswer
     r
 }
 
-// Reads any bytes as the garage's sheet, likewise.
+// Reads any bytes as the garage's sheet into any lent table.
 pub fn read(s: &[u8], table: &mut [u16]) -> ReadAnswer
     ensures { λ r. ⌜ beside r (now (table .exit)) ≡ readOf (now (s .entry)) (now (table .entry)) ⌝ }
 {

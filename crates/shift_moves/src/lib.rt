@@ -21,8 +21,10 @@ use prices::FROMS;
 use prices::ORDERS;
 use prices::TOS;
 
+// The greatest number that a price list can hold.
 const MOST_PRICE: u32 = 65535;
 
+// No round raises a price above this.
 const HIGHEST_PRICE: u32 = 60000;
 
 // A place for each number from 0 to the most turns.
@@ -107,7 +109,7 @@ fn add_payer(payers: &mut [u16; PAYERS], k: usize)
     payers[k] = x + 1;
 }
 
-// For each number, how many turns of a set have it.
+// For each number, how many turns of the relaxed set have it in the column that starts at a place.
 fn count_numbers(n: usize, relaxed: &[u8], numbers: &[u16], at: usize, times: &mut [u16; PAYERS])
     requires { ⌜ Clean n (now relaxed) × SmallNumbers n (now numbers) at × (now times ≡ replicate payerPlaces 0) ⌝ }
     ensures { λ _. ⌜ Times n (choiceIn n (now (relaxed .entry))) (numberBehind (now (numbers .entry)) at) (now (times .exit)) ⌝ }
@@ -147,7 +149,7 @@ fn count_payers(n: usize, orders: &[u16; ORDERS], relaxed: &[u8], payers: &mut [
     sum_payers(n, &mut *payers, &leaving);
 }
 
-// Moves the prices of the slopes, where those that pay are known by the slope's number.
+// Moves the prices of the slopes. Place s of the payers is for slope s.
 fn move_slope_prices(slopes: usize, payers: &[u16; PAYERS], change: u32, prices: &mut [u16])
     requires { ⌜ (slopes ≤ mostSlopes) × (slopes ≤ length (now prices)) × (change ≤ mostWorth) × FewPayers (slopes + 1) (now payers) ⌝ }
     ensures { λ _. ⌜ MovedBy change (payersAfter (now (payers .entry))) ownPlace slopes (now (prices .entry)) (now (prices .exit)) ⌝ }
@@ -201,7 +203,7 @@ fn move_turns(e: Extent, orders: &[u16; ORDERS], relaxed: &[u8], change: u32, pr
     move_turn_prices(e, orders, &payers, turn_change(change), &mut *prices);
 }
 
-// Moves all prices by the turns of the relaxed set that pay them.
+// Moves every price by how many turns of the relaxed set pay it.
 pub fn move_prices(
     e: Extent,
     cols: &[u16; PLACES],

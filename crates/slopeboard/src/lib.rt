@@ -9,7 +9,7 @@ ghost use Rattle.board_open.specs.Chosen.{countOf, turnChosen};
 ghost use Rattle.check_spec.specs.Check.{checkOf};
 ghost use Rattle.plan_spec.specs.Plan.{planOf};
 ghost use Rattle.listing_spec.specs.List.{listOf};
-ghost use Rattle.assign_spec.specs.Partition.{partitionOf};
+ghost use Rattle.assign_spec.specs.Assign.{assignOf};
 ghost use Rattle.sheet.specs.Screen.{readShortOf};
 ghost use Rattle.trial_spec.specs.Trial.{drawOf};
 ghost use Rattle.best_spec.specs.Exact.{exactOf};
@@ -25,7 +25,7 @@ ghost use Rattle.play_spec.specs.Play.{playOf};
 ghost use Rattle.hall_spec.specs.Charge.{chargeOf};
 ghost use Rattle.board_open.specs.Part.{stepsPartAt};
 ghost use Rattle.refusal.specs.Outcome.{beside};
-use assign_spec::PartitionAnswer;
+use assign_spec::AssignAnswer;
 use best_spec::BestAnswer;
 use board_open::CountAnswer;
 use board_open::Part;
@@ -131,8 +131,8 @@ pub extern "C" fn slopeboard_list(sheet: &[u8], text: &mut [u8]) -> WriteAnswer
 }
 
 #[no_mangle]
-pub extern "C" fn slopeboard_assign(sheet: &[u8], places: &mut [u16]) -> PartitionAnswer
-    ensures { λ r. ⌜ beside r (now (places .exit)) ≡ partitionOf (now (sheet .entry)) (now (places .entry)) ⌝ }
+pub extern "C" fn slopeboard_assign(sheet: &[u8], places: &mut [u16]) -> AssignAnswer
+    ensures { λ r. ⌜ beside r (now (places .exit)) ≡ assignOf (now (sheet .entry)) (now (places .entry)) ⌝ }
 {
     assign::assign(sheet, &mut *places)
 }

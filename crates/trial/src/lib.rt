@@ -1,5 +1,5 @@
 // Drawn sheets: from a seed, turns by the generator of Park and Miller, and the sheet that the writer
-// makes of them. The same seed and counts give the same sheet on every box.
+// makes of them. The same seed and counts give the same sheet on every machine.
 ghost use mathlib.Core.Path.{_≡_};
 ghost use Prim.Native.Nat.{_+_, _*_, _%_, _≤_, _<_};
 ghost use lib.ListN.{length};

@@ -4,8 +4,8 @@ use Rattle.prices.specs.Held.{DriversUpTo}
 use Rattle.instance.specs.Columns.{turnsBy}
 use Prim.Native.Nat.{_-_, _≤_}
 use borrow.Author.Needs.{needs}
-use Rattle.prices.proofs.undriven.greatest_driver.Statement.{statement}
-use Rattle.prices.proofs.undriven.greatest_driver.Tie as tie
+use Rattle.prices.proofs.undriven.driver_bound.Statement.{statement}
+use Rattle.prices.proofs.undriven.driver_bound.Tie as tie
 
 abbrev Inv-loop : tie.InvT-loop
 Inv-loop p cols greatest₀ t₀ greatest t = (t ≤ p .count) × DriversUpTo (turnsBy p cols) t greatest
@@ -13,8 +13,8 @@ Inv-loop p cols greatest₀ t₀ greatest t = (t ≤ p .count) × DriversUpTo (t
 abbrev μ-loop : tie.MeasureT-loop
 μ-loop p cols greatest₀ t₀ greatest t = p .count - t
 
-pub greatest-driver-spec : {M : Type 1} → statement M
-greatest-driver-spec =
+pub driver-bound-spec : {M : Type 1} → statement M
+driver-bound-spec =
     tie.close
     (tie.spec
     Inv-loop
