@@ -7,15 +7,16 @@ use native.Mathlib.Omega.{arith}
 use lib.Dec.{ltb}
 use lib.ListN.{length, take, drop, replicate}
 use lib.Seq.{length-take-le}
-use borrow.Author.Tests.{lt-ltb, le-ltb, ne-eqb}
+use borrow.Author.Tests.{lt-ltb, le-ltb}
 use Rattle.lists.proofs.Bools.{or-1, or-2}
 use Rattle.refusal.specs.Number.{bufferTooSmall}
 use Rattle.refusal.specs.Cause.{Cause, _when_, firstOf}
 use Rattle.refusal.proofs.Order.{first-stops, first-goes}
+use Rattle.refusal.proofs.Outcome.{unless-first, unless-none}
 use Rattle.turn.specs.Turn.{shiftMinutes}
 use Rattle.sheet.specs.declared.kind.Kind.{Kind}
 use Rattle.sheet.specs.declared.answer.ReadAnswer.{ReadAnswer}
-use Rattle.sheet.specs.Read.{turnCount, causesFor, answerFor}
+use Rattle.sheet.specs.Read.{countsIn, turnCount, causesFor, answerFor}
 use Rattle.sheet.proofs.Readings.{causes-numbered}
 use Rattle.sheet.proofs.Whole.{whole-refusal-for}
 use Rattle.choice_map.specs.Choice.{mapBytes, choiceIn, mapOf, Clean}
@@ -26,7 +27,7 @@ use Rattle.instance.proofs.Rows.{count-is}
 use Rattle.hall_spec.specs.Hall.{hallGap}
 use Rattle.hall_spec.specs.Plan.{hallChoice, hallWorth, worthIn}
 use Rattle.hall_spec.proofs.Halls.{plan-length}
-use Rattle.hall_spec.specs.Charge.{chargingSheet}
+use Rattle.hall_spec.specs.Charge.{chargingSheet, hallOf}
 use Rattle.hall_spec.proofs.ChargingSheets.{charging-sound, charging-given}
 use Rattle.hall.proofs.Charges.{accepted, count}
 use Rattle.refine_spec.specs.Rounds.{Rule, Stage, startFrom, refined, firstChange}
@@ -115,7 +116,7 @@ module _ (s : List ℕ) (rounds : ℕ) (map prices : List ℕ) {K : Kind} {r : R
 
   declines : (n : ℕ) → firstOf (chargeRefineCauses s (length map) (length prices)) ≡ n → (n ≡ 0 → ⊥) → chargeRefineOf s rounds map prices ≡ notChargeRefined n map prices
   unfolding chargeRefineOf
-  declines n f z = rw (f, ne-eqb n 0 z)
+  declines n f z = unless-first (chargeRefineCauses s (length map) (length prices)) _ (λ k. notChargeRefined k map prices) n f z
 
   pub refine-fault : {x : ChargeRefineAnswer} → (r .refusal ≡ 0 → ⊥) → x ≡ chargeRefineRefused (r .refusal) → chargeRefinedBy x map prices ≡ chargeRefineOf s rounds map prices
   unfolding chargeRefineCauses
@@ -142,6 +143,6 @@ module _ (s : List ℕ) (rounds : ℕ) (map prices : List ℕ) {K : Kind} {r : R
     refine-done cols w m l p z =
         let none : (ltb (length map) (mapBytes (turnCount s)) || ltb (length prices) shiftMinutes) ≡ false =
         rw (le-ltb (length map) (mapBytes (turnCount s)) (omega (arith, m, windows-are)), le-ltb (length prices) shiftMinutes p) in
-        z ∙ rw (later none, hall-for s k e f cols w, vehicles-are s k e f)
+        z ∙ rw (unless-none (chargeRefineCauses s (length map) (length prices)) (chargeRefinement (hallRefined (hallOf s) (countsIn s .slopes) rounds) map prices) (λ k. notChargeRefined k map prices) (later none), hall-for s k e f cols w, vehicles-are s k e f)
 
 pub ruleset refine-cases = (charging-given, hall-posed, refine-fault, refine-short, refine-few, refine-done)

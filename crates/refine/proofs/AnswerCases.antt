@@ -7,11 +7,12 @@ use native.Mathlib.Omega.{arith}
 use lib.Dec.{ltb}
 use lib.ListN.{length, take, drop, replicate}
 use lib.Seq.{length-take-le}
-use borrow.Author.Tests.{lt-ltb, le-ltb, ne-eqb}
+use borrow.Author.Tests.{lt-ltb, le-ltb}
 use Rattle.lists.proofs.Bools.{or-1, or-2}
 use Rattle.refusal.specs.Number.{bufferTooSmall}
 use Rattle.refusal.specs.Cause.{Cause, _when_, firstOf}
 use Rattle.refusal.proofs.Order.{first-stops, first-goes}
+use Rattle.refusal.proofs.Outcome.{unless-first, unless-none}
 use Rattle.wire.specs.Number.{bytesOf, puts}
 use Rattle.wire.proofs.Puts.{puts-length}
 use Rattle.model.specs.Turns.{Turns}
@@ -174,7 +175,7 @@ module _ (s cols : List ℕ) (rounds : ℕ) (board prices : List ℕ) {r : ReadA
 
   declines : (k : ℕ) → firstOf (refineCauses s (length board) (length prices)) ≡ k → (k ≡ 0 → ⊥) → refineOf s rounds board prices ≡ notRefined k board prices
   unfolding refineOf
-  declines k f z = rw (f, ne-eqb k 0 z)
+  declines k f z = unless-first (refineCauses s (length board) (length prices)) _ (λ k. notRefined k board prices) k f z
 
   pub refine-fault : {x : RefineAnswer} → (r .refusal ≡ 0 → ⊥) → x ≡ refineRefused (r .refusal) → refinedBy x board prices ≡ refineOf s rounds board prices
   unfolding refineCauses
@@ -236,6 +237,6 @@ module _ (s cols : List ℕ) (rounds : ℕ) (board prices : List ℕ) {r : ReadA
         refine-done h k z =
             let none : (ltb (length board) (boardLength (turnCount s) (turnCount s)) || ltb (length prices) (priceCount s)) ≡ false =
             rw (le-ltb (length board) (boardLength (turnCount s) (turnCount s)) (omega (arith, h, turns-are)), le-ltb (length prices) (priceCount s) (omega (arith, slopes-are, turns-are))) in
-            z ∙ rw (later none, refined-is (record { size = p; slopes = r .slopes }) cols (countsIn s .groomers) numbers rounds, posed, slopes-are)
+            z ∙ rw (unless-none (refineCauses s (length board) (length prices)) (refinementOf (sheetTurns s) (shiftRefined (sheetTurns s) (countsIn s .groomers) (countsIn s .slopes) rounds) board prices) (λ k. notRefined k board prices) (later none), refined-is (record { size = p; slopes = r .slopes }) cols (countsIn s .groomers) numbers rounds, posed, slopes-are)
 
 pub ruleset answer-cases = (refine-fault, refine-short, refine-few, refine-posed, refine-list, refine-room, refine-done)
