@@ -116,26 +116,26 @@ enum {
  * need beyond their return address comes on top. */
 #define SLOPEBOARD_STACK_ASSIGN 10736
 #define SLOPEBOARD_STACK_BEST 14000
-#define SLOPEBOARD_STACK_CHARGE 24552
-#define SLOPEBOARD_STACK_CHARGE_LIMIT 14544
-#define SLOPEBOARD_STACK_CHARGE_REFINE 32464
+#define SLOPEBOARD_STACK_CHARGE 24848
+#define SLOPEBOARD_STACK_CHARGE_LIMIT 13744
+#define SLOPEBOARD_STACK_CHARGE_REFINE 27016
 #define SLOPEBOARD_STACK_CHECK 13344
 #define SLOPEBOARD_STACK_COUNT 8
-#define SLOPEBOARD_STACK_DRAW 7072
-#define SLOPEBOARD_STACK_IMPROVE 17696
+#define SLOPEBOARD_STACK_DRAW 7056
+#define SLOPEBOARD_STACK_IMPROVE 17792
 #define SLOPEBOARD_STACK_IS_CHOSEN 8
 #define SLOPEBOARD_STACK_KEEP 5392
-#define SLOPEBOARD_STACK_LIMIT 20576
-#define SLOPEBOARD_STACK_LIST 22840
+#define SLOPEBOARD_STACK_LIMIT 20592
+#define SLOPEBOARD_STACK_LIST 23168
 #define SLOPEBOARD_STACK_OPEN 8
-#define SLOPEBOARD_STACK_PLAN 15160
+#define SLOPEBOARD_STACK_PLAN 15488
 #define SLOPEBOARD_STACK_PLAY 24240
 #define SLOPEBOARD_STACK_READ 4992
 #define SLOPEBOARD_STACK_READ_SHORT 4992
-#define SLOPEBOARD_STACK_REFINE 23832
+#define SLOPEBOARD_STACK_REFINE 26992
 #define SLOPEBOARD_STACK_RESTORE 4888
 #define SLOPEBOARD_STACK_STEPS 16
-#define SLOPEBOARD_STACK_WRITE 7088
+#define SLOPEBOARD_STACK_WRITE 7056
 
 typedef struct {
     uint8_t refusal;
@@ -423,8 +423,8 @@ slopeboard_limit_answer slopeboard_limit(const uint8_t *sheet, size_t sheet_len,
  *
  * slopeboard_check passes the board. It has the steps and the tally of the planned one, and is worth no less.
  * slopeboard_limit gives the limit again at the written prices, so that no feasible set is worth more: if the
- * worth is the limit, no board is worth more. More rounds never give less worth or a higher
- * limit. The rounds of the answer are those allowed, or fewer if worth and limit meet before.
+ * worth is the limit, no board is worth more. With more rounds the worth never falls and the limit never
+ * rises. The rounds of the answer are those allowed, or fewer if worth and limit meet before.
  *
  * It begins with the planned board, with prices of 0 and with a change: a quarter of the greatest worth on the
  * sheet, upwards to a whole number, 0 without turns. Then it looks at the prices. The limit is worked out as
@@ -437,8 +437,8 @@ slopeboard_limit_answer slopeboard_limit(const uint8_t *sheet, size_t sheet_len,
  *
  * A round goes by how many turns of the best sets pay a price. If none does, the price falls by the change, down
  * to 0 at most; if one does, it stays; for each further one it rises by the change, up to 60,000 at most. For the
- * price of a turn it is half of the change, downwards to a whole number and at least 1; that of a turn without a
- * driver stays 0. After a round the change is fifteen sixteenths of what it was, downwards to a whole number and
+ * price of a turn it is half of the change, downwards to a whole number and at least 1; a driverless turn's
+ * stays 0. After a round the change is fifteen sixteenths of what it was, downwards to a whole number and
  * at least 1.
  *
  * Refusals: those of slopeboard_read but 11, in their order; then 11 if board_len is below
@@ -450,8 +450,8 @@ slopeboard_refine_answer slopeboard_refine(const uint8_t *sheet, size_t sheet_le
  *
  * The list has a price for each minute from 0 to 959, in sixteenths. A window pays the prices of its minutes,
  * added up and then times its draw, in whole numbers: what is left of a sixteenth is dropped. What is then left
- * of its worth, 0 if nothing is, is what it counts for. For each vehicle the window that counts for the most is
- * taken, the lowest number of equals, and none if all count for 0. The limit is what these count for and, besides,
+ * of its worth, 0 if nothing is, is what it counts for. Each vehicle takes the window with the greatest count,
+ * of equals the lowest number, or none where every count is 0. The limit is what these count for and, besides,
  * all prices, added up and then times the units, in whole numbers likewise.
  *
  * Refusals: those of slopeboard_charge but 11, in their order; then 26 if prices_len is not SLOPEBOARD_MINUTES. */
@@ -462,8 +462,8 @@ slopeboard_limit_answer slopeboard_charge_limit(const uint8_t *sheet, size_t she
  * writes its choice map and the prices that give the limit. The set is allowed and is worth no less
  * than the plan of slopeboard_charge; that no further window could be chosen is not promised.
  * slopeboard_charge_limit gives the limit again at the written prices, so that no allowed set is worth more.
- * More rounds never give less worth or a higher limit. The rounds of the answer are those allowed, or fewer if
- * worth and limit meet before.
+ * With more rounds the worth never falls and the limit never rises. The rounds of the answer are those allowed, or
+ * fewer if worth and limit meet before.
  *
  * It works as slopeboard_refine does, from that plan, with the limit of slopeboard_charge_limit and the windows
  * that it takes. A choice is made from these by worth, and then from all windows, of each that may go together

@@ -233,34 +233,48 @@ pub fn mixed_turn(rng: &mut Rng, old: Row, fresh: Row) -> Row {
 /// Makes the bytes of a shift. Fields that the record could leave out are
 /// written all the same in so many of a hundred cases.
 pub fn encode(rng: &mut Rng, shift: &Shift, redundant: u32) -> Encoded {
-    let mut bytes = b"GRM".to_vec();
-    bytes.push(shift.groomers);
-    bytes.push(shift.slopes);
-    bytes.extend((shift.turns.len() as u16).to_be_bytes());
-    let mut maps = Vec::with_capacity(shift.turns.len());
+    let head = [b'G', b'R', b'M', shift.groomers, shift.slopes];
+    encode_rows(
+        rng,
+        head,
+        &shift.turns,
+        [redundant, NUMBERS_PER_TURN as u32],
+    )
+}
+
+/// Makes the bytes of rows behind a head. Fields that a record could leave out
+/// are written all the same in so many of a hundred cases, if they are among the
+/// first so many.
+pub fn encode_rows(
+    rng: &mut Rng,
+    head: [u8; 5],
+    rows: &[Row],
+    [redundant, among]: [u32; 2],
+) -> Encoded {
+    let mut bytes = head.to_vec();
+    bytes.extend((rows.len() as u16).to_be_bytes());
+    let mut maps = Vec::with_capacity(rows.len());
     let mut old: Option<Row> = None;
-    for turn in &shift.turns {
-        maps.push(bytes.len());
+    for row in rows {
+        let place = bytes.len();
+        maps.push(place);
         bytes.push(0);
-        let mut map = 0;
-        for (field, &value) in turn.iter().enumerate() {
+        for (field, &value) in row.iter().enumerate() {
             let same = match old {
                 Some(old) => old[field] == value,
                 None => field == 5 && value == 0,
             };
-            if same && !rng.percent(redundant) {
+            if same && !((field as u32) < among && rng.percent(redundant)) {
                 continue;
             }
-            map |= 1 << field;
+            bytes[place] |= 1 << field;
             let [high, low] = value.to_be_bytes();
             if (2..5).contains(&field) {
                 bytes.push(high);
             }
             bytes.push(low);
         }
-        let place = maps[maps.len() - 1];
-        bytes[place] = map;
-        old = Some(*turn);
+        old = Some(*row);
     }
     Encoded { bytes, maps }
 }
@@ -410,14 +424,13 @@ pub fn wrong_marks(sheet: &[u8]) -> Vec<Vec<u8>> {
     let marks = [
         b"GRB", b"grm", b"GMR", b"MRG", b"RGM", b"GRN", b"HRM", b"GSM", b"\0\0\0",
     ];
-    let marks = marks.iter();
-    marks
-        .map(|mark| {
-            let mut bytes = sheet.to_vec();
-            bytes[..3].copy_from_slice(*mark);
-            bytes
-        })
-        .collect()
+    under_marks(sheet, &marks)
+}
+
+/// The bytes under each of these marks.
+pub fn under_marks(bytes: &[u8], marks: &[&[u8; 3]]) -> Vec<Vec<u8>> {
+    let with = |mark: &&[u8; 3]| [&mark[..], &bytes[3..]].concat();
+    marks.iter().map(with).collect()
 }
 
 /// The sheet with one to nine bytes behind it, at times a further record.

@@ -4,6 +4,7 @@
 
 use crate::gen::{self, Rng, Row, HEADER_LEN};
 use crate::limits::{LAST_END, MOST_UNITS, MOST_VEHICLES, MOST_WORTH};
+use crate::shapes;
 
 /// The content of a charging sheet before it becomes bytes. The values need
 /// not be such that anyone takes them.
@@ -80,21 +81,12 @@ fn draw(rng: &mut Rng, units: u32, draws: u32) -> u32 {
 /// A hall with the most units and vehicles, draws of every size, and windows of
 /// half an hour to an hour and a half.
 pub fn usual(rng: &mut Rng, windows: usize) -> Hall {
-    let window = |_| {
-        let length = rng.between(30, 90);
-        [
-            rng.between(1, MOST_VEHICLES.into()) as u16,
-            rng.between(1, MOST_UNITS.into()) as u16,
-            rng.below(LAST_END - length + 1) as u16,
-            length as u16,
-            rng.between(1, MOST_WORTH.into()) as u16,
-            0,
-        ]
-    };
+    let counts = [MOST_UNITS, MOST_VEHICLES].map(u32::from);
+    let drawn = shapes::drawn(rng, windows, counts, [LAST_END, 30, 90], MOST_WORTH.into());
     Hall {
         units: MOST_UNITS as u8,
         vehicles: MOST_VEHICLES as u8,
-        windows: (0..windows).map(window).collect(),
+        windows: drawn.turns,
     }
 }
 
@@ -150,31 +142,8 @@ pub fn large(rng: &mut Rng, most: u32) -> Hall {
 /// record could leave out are there in so many of a hundred cases; no record
 /// names a driver, unless the row has one.
 pub fn encode(rng: &mut Rng, hall: &Hall, redundant: u32) -> gen::Encoded {
-    let mut bytes = b"GRE".to_vec();
-    bytes.extend([hall.units, hall.vehicles]);
-    bytes.extend((hall.windows.len() as u16).to_be_bytes());
-    let mut maps = Vec::new();
-    for (number, window) in hall.windows.iter().enumerate() {
-        let before = number.checked_sub(1).map(|before| hall.windows[before]);
-        let place = bytes.len();
-        maps.push(place);
-        bytes.push(0);
-        for field in 0..6 {
-            let named = match before {
-                Some(before) => window[field] != before[field],
-                None => field < 5 || window[field] != 0,
-            };
-            if named || field < 5 && rng.percent(redundant) {
-                bytes[place] |= 1 << field;
-                let [high, low] = window[field].to_be_bytes();
-                if (2..5).contains(&field) {
-                    bytes.push(high);
-                }
-                bytes.push(low);
-            }
-        }
-    }
-    gen::Encoded { bytes, maps }
+    let head = [b'G', b'R', b'E', hall.units, hall.vehicles];
+    gen::encode_rows(rng, head, &hall.windows, [redundant, 5])
 }
 
 /// Starts and lengths at and over their bounds.
@@ -250,6 +219,5 @@ pub fn with_fault(rng: &mut Rng, hall: &Hall, kind: u32) -> Vec<u8> {
 /// The charging sheet under marks that are close to the right one.
 pub fn wrong_marks(sheet: &[u8]) -> Vec<Vec<u8>> {
     let marks = [b"GRM", b"GRB", b"GRC", b"gre", b"GER", b"HRE", b"\0\0\0"];
-    let with = |mark: &&[u8; 3]| [&mark[..], &sheet[3..]].concat();
-    marks.iter().map(with).collect()
+    gen::under_marks(sheet, &marks)
 }

@@ -94,6 +94,5 @@ fn change_length(rng: &mut Rng, kept: &mut Vec<u8>) {
 /// The kept form under marks that are close to the right one.
 pub fn wrong_marks(kept: &[u8]) -> Vec<Vec<u8>> {
     let marks = [b"GRM", b"GRB", b"GRE", b"grc", b"GCR", b"HRC", b"\0\0\0"];
-    let with = |mark: &&[u8; 3]| [&mark[..], &kept[3..]].concat();
-    marks.iter().map(with).collect()
+    gen::under_marks(kept, &marks)
 }

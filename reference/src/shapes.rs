@@ -204,7 +204,7 @@ pub fn shuffled(rng: &mut Rng, shift: &Shift) -> Shift {
 
 /// Turns drawn evenly, without drivers. The counts are those of groomers and slopes, the times
 /// the last end, the shortest length and the longest.
-fn drawn(rng: &mut Rng, turns: usize, counts: [u32; 2], times: [u32; 3], worth: u32) -> Shift {
+pub fn drawn(rng: &mut Rng, turns: usize, counts: [u32; 2], times: [u32; 3], worth: u32) -> Shift {
     let [groomers, slopes] = counts;
     let [last_end, shortest, longest] = times;
     let turn = |rng: &mut Rng| {

@@ -4,12 +4,12 @@ use mathlib.Core.Path.{_≡_, refl, sym, _∙_, ap, ap₂}
 use mathlib.Core.List.{List, [], _∷_, _++_}
 use native.Mathlib.Omega.{arith}
 use lib.Dec.{ltb, leb}
-use lib.ListN.{length, getD, set, take, drop, length-set}
+use lib.ListN.{length, getD, set, take, drop}
 use lib.Seq.{drop-length, length-take-le}
 use borrow.Author.Tests.{ltb-false}
 use Rattle.refusal.specs.Number.{truncated, badMap, bufferTooSmall, trailingBytes}
 use Rattle.refusal.specs.Cause.{_when_, firstOf}
-use Rattle.refusal.specs.Written.{Written, atFront}
+use Rattle.refusal.specs.Written.{atFront}
 use Rattle.refusal.proofs.Order.{clear-cons, clear-append}
 use Rattle.refusal.proofs.Written.{kept-before, kept-small, wrote-enough}
 use Rattle.wire.specs.Number.{bytesAt, puts}
@@ -31,8 +31,8 @@ use Rattle.sheet.proofs.Readings.{sheet-numbered}
 use Rattle.sheet.proofs.Tables.{turns-length}
 use Rattle.sheet.proofs.Whole.{whole-refusal, whole-accepted, whole-turns, whole-table}
 use Rattle.sheet.proofs.Prefix.{sheet-short}
-use Rattle.write_spec.specs.declared.WriteAnswer.{WriteAnswer}
-use Rattle.write_spec.specs.Answer.{written}
+use Rattle.refusal.specs.declared.WriteAnswer.{WriteAnswer}
+use Rattle.refusal.specs.Outcome.{beside}
 use Rattle.archive_spec.specs.Column.{widths, columnsOf}
 use Rattle.archive_spec.specs.Kept.{formWith, columnsBody, mapsFrom, sheetMaps, keptOf}
 use Rattle.archive_spec.specs.Archive.{keepCauses, keepOf}
@@ -43,9 +43,6 @@ use Rattle.archive_spec.proofs.Bodies.{columns-length}
 pub front-put : (l from mark : List ℕ) {l1 : List ℕ} → l1 ≡ puts l 0 (bytesAt mark 0 3)
     → set (set (set (set l1 3 (getD from 3 0)) 4 (getD from 4 0)) 5 (getD from 5 0)) 6 (getD from 6 0) ≡ puts l 0 (bytesAt mark 0 3 ++ bytesAt from 3 4)
 front-put l from mark e = rw e
-
-pub front-kept : (l l1 : List ℕ) (a b c d : ℕ) {n : ℕ} → length l1 ≡ length l → n ≡ length (set (set (set (set l1 3 a) 4 b) 5 c) 6 d) → n ≡ length l
-front-kept l l1 a b c d e f = f ∙ simp length-set e
 
 -- ---- the maps
 
@@ -169,12 +166,12 @@ sheet-bytes = sheet-short garage garage-sound
 -- ---- the entry
 
 module _ (s lent : List ℕ) {a : ReadAnswer} (e : a ≡ answerOf s) where
-  pub keep-fault : {x : WriteAnswer} → (a .refusal ≡ 0 → ⊥) → x ≡ record { refusal = a .refusal; bytes = 0 } → written x lent ≡ keepOf s lent
+  pub keep-fault : {x : WriteAnswer} → (a .refusal ≡ 0 → ⊥) → x ≡ record { refusal = a .refusal; bytes = 0 } → beside x lent ≡ keepOf s lent
   unfolding keepOf keepCauses
   keep-fault z x = rw x (sym (kept-before (sheetCauses s) (length s) (keptOf s) lent (a .refusal) (sym (whole-refusal s e)) z))
 
   module _ (z : a .refusal ≡ 0) where
-    pub keep-small : {x : WriteAnswer} → length lent < length s → x ≡ record { refusal = bufferTooSmall; bytes = 0 } → written x lent ≡ keepOf s lent
+    pub keep-small : {x : WriteAnswer} → length lent < length s → x ≡ record { refusal = bufferTooSmall; bytes = 0 } → beside x lent ≡ keepOf s lent
     unfolding keepOf keepCauses
     keep-small h x = rw x (sym (kept-small (sheetCauses s) (length s) (keptOf s) lent (sheet-numbered s) (whole-accepted s e z) h))
 
@@ -199,7 +196,7 @@ module _ (s lent : List ℕ) {a : ReadAnswer} (e : a ≡ answerOf s) where
 
     pub keep-done : (zeros : List ℕ) {t u : List ℕ} → (a .refusal ≡ 0 → t ≡ atFront (tableOf s) zeros) → length s ≤ length lent
         → u ≡ puts lent 0 (formWith keptMark s (columnsBody (mapsFrom (a .turns) s headerBytes) (turnsOfTable (a .turns) (take (rowNumbers * a .turns) t) 0)))
-        → _≡_ {A = Written} (record { refusal = 0; bytes = length s; lent = u }) (keepOf s lent)
+        → beside (record { refusal = 0; bytes = length s }) u ≡ (keepOf s lent)
     unfolding keepOf keepCauses
     keep-done zeros {t} {u} w h p =
         let fine = whole-accepted s e z in
@@ -207,6 +204,6 @@ module _ (s lent : List ℕ) {a : ReadAnswer} (e : a ≡ answerOf s) where
         let put : u ≡ puts lent 0 (keptOf s) = own-form u (p ∙ ap (λ (ts : List Turn). puts lent 0 (formWith keptMark s (columnsBody (mapsFrom (a .turns) s headerBytes) ts))) rows-are) in
         let size = kept-size s fine in
         let front : u ≡ keptOf s ++ drop (length (keptOf s)) lent = put ∙ puts-front (keptOf s) lent (omega arith) in
-        ap₂ (λ (b : ℕ) (l : List ℕ). record { refusal = 0; bytes = b; lent = l }) (sym size) front ∙ sym (wrote-enough (sheetCauses s) (length s) (keptOf s) lent (sheet-numbered s) fine h)
+        ap₂ (λ (b : ℕ) (l : List ℕ). beside {A = WriteAnswer} (record { refusal = 0; bytes = b }) l) (sym size) front ∙ sym (wrote-enough (sheetCauses s) (length s) (keptOf s) lent (sheet-numbered s) fine h)
 
 pub ruleset keep-cases = (keep-fault, keep-small)

@@ -11,7 +11,6 @@ use lib.Seq.{drop-cons, drop-length, take-all}
 use borrow.Author.Tests.{lt-ltb, le-ltb}
 use Rattle.refusal.specs.Number.{truncated, badMap, trailingBytes, bufferTooSmall}
 use Rattle.refusal.specs.Cause.{Cause, _when_, firstOf}
-use Rattle.refusal.specs.Written.{Written}
 use Rattle.refusal.proofs.Order.{first-stops, first-goes, clear-append}
 use Rattle.refusal.proofs.Written.{kept-before, kept-small, wrote-enough}
 use Rattle.wire.specs.Number.{bytesAt, puts}
@@ -32,9 +31,9 @@ use Rattle.sheet.specs.Layout.{recordOf}
 use Rattle.sheet.proofs.Headers.{header-numbered, header-few, header-fine}
 use Rattle.sheet.proofs.Readings.{header-found, header-refused}
 use Rattle.sheet.proofs.Fields.{width-most}
-use Rattle.write_spec.specs.declared.WriteAnswer.{WriteAnswer}
+use Rattle.refusal.specs.declared.WriteAnswer.{WriteAnswer}
+use Rattle.refusal.specs.Outcome.{beside}
 use Rattle.write_spec.specs.Write.{turnsCauses}
-use Rattle.write_spec.specs.Answer.{written}
 use Rattle.write.specs.Over.{Over}
 use Rattle.archive_spec.specs.Column.{widths, columnsIn, turnsAcross}
 use Rattle.archive_spec.specs.Kept.{formWith, recordsBody, archive, keptMaps, columnsAt, keptEnd, keptTurns, restoredOf}
@@ -145,11 +144,6 @@ module _ (k : List ℕ) (n : ℕ) (e : n ≡ turnCount k) where
       unfolding firstOf
       form-none g l = sym (past-maps ∙ rw (le-ltb (length k) (headerBytes + n + w) g, le-ltb (headerBytes + n + w) (length k) l))
 
-pub form-columns : (k : List ℕ) {n : ℕ} → n ≡ turnCount k → headerBytes + n ≤ length k → columnsAt k ≤ length k
-form-columns k e h = rw (← e) h
-
-pub ruleset form-cases = (form-columns, form-few, form-map, form-short, form-long, form-none)
-
 -- ---- the values behind it
 
 end-of : (k : List ℕ) → columnsAt k + widths (keptMaps k) ≡ keptEnd k
@@ -221,8 +215,6 @@ module _ (k : List ℕ) (K : Kind) (a : K ≡ archive) {h : Header} where
     unfolding keptCauses
     kept-rest q = q ∙ sym (first-goes (headerCauses archive k) _ (header-numbered archive (archive-sound .numbers) k) (header-found archive k (e ∙ ap (λ (x : Kind). headerOf x k) a) g .header-fine))
 
-pub ruleset kept-cases = (kept-header, kept-header-stops, kept-count, kept-limits, kept-few, kept-rest)
-
 -- ---- the records
 
 module _ (l : List ℕ) (at m later : ℕ) (h : at + 1 + widthOf m + later ≤ length l) where
@@ -282,12 +274,12 @@ widths-most (m ∷ ms) = omega (arith, width-most m, widths-most ms)
 -- ---- the entry
 
 module _ (k lent : List ℕ) {f : ℕ} (e : f ≡ firstOf (keptCauses k)) where
-  pub restore-fault : {x : WriteAnswer} → (f ≡ 0 → ⊥) → x ≡ record { refusal = f; bytes = 0 } → written x lent ≡ restoreOf k lent
+  pub restore-fault : {x : WriteAnswer} → (f ≡ 0 → ⊥) → x ≡ record { refusal = f; bytes = 0 } → beside x lent ≡ restoreOf k lent
   unfolding restoreOf restoreCauses
   restore-fault z x = rw x (sym (kept-before (keptCauses k) (length k) (restoredOf k) lent f (sym e) z))
 
   module _ (z : f ≡ 0) where
-    pub restore-small : {x : WriteAnswer} → length lent < length k → x ≡ record { refusal = bufferTooSmall; bytes = 0 } → written x lent ≡ restoreOf k lent
+    pub restore-small : {x : WriteAnswer} → length lent < length k → x ≡ record { refusal = bufferTooSmall; bytes = 0 } → beside x lent ≡ restoreOf k lent
     unfolding restoreOf restoreCauses
     restore-small h x = rw x (sym (kept-small (keptCauses k) (length k) (restoredOf k) lent (kept-numbered k) (sym e ∙ z) h))
 
@@ -321,11 +313,9 @@ module _ (k lent : List ℕ) {f : ℕ} (e : f ≡ firstOf (keptCauses k)) where
     own-sheet u t c w p = p ∙ rw (c, w)
 
     pub restore-done : (t : List ℕ) {n : ℕ} {u : List ℕ} → n ≡ turnCount k → (f ≡ 0 → turnsOfTable (turnCount k) t 0 ≡ keptTurns k) → length k ≤ length lent
-        → u ≡ puts lent 0 (formWith sheetMark k (recordsBody (keptMaps k) (turnsOfTable n t 0))) → _≡_ {A = Written} (record { refusal = 0; bytes = length k; lent = u }) (restoreOf k lent)
+        → u ≡ puts lent 0 (formWith sheetMark k (recordsBody (keptMaps k) (turnsOfTable n t 0))) → beside (record { refusal = 0; bytes = length k }) u ≡ (restoreOf k lent)
     unfolding restoreOf restoreCauses
     restore-done t {n} {u} c w h p =
         let put = own-sheet u t c (w z) p in
         let front : u ≡ restoredOf k ++ drop (length (restoredOf k)) lent = put ∙ puts-front (restoredOf k) lent (omega (arith, restored-size)) in
-        ap₂ (λ (b : ℕ) (l : List ℕ). record { refusal = 0; bytes = b; lent = l }) (sym restored-size) front ∙ sym (wrote-enough (keptCauses k) (length k) (restoredOf k) lent (kept-numbered k) (sym e ∙ z) h)
-
-pub ruleset restore-cases = (restore-fault, restore-small)
+        ap₂ (λ (b : ℕ) (l : List ℕ). beside {A = WriteAnswer} (record { refusal = 0; bytes = b }) l) (sym restored-size) front ∙ sym (wrote-enough (keptCauses k) (length k) (restoredOf k) lent (kept-numbered k) (sym e ∙ z) h)

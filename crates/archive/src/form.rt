@@ -5,7 +5,7 @@ ghost use Prim.Native.Nat.{_≤_};
 ghost use lib.ListN.{length};
 ghost use Rattle.wire.specs.Number.{bytesAt, puts};
 ghost use Rattle.sheet.specs.Read.{headerBytes};
-use write_spec::WriteAnswer;
+use refusal::WriteAnswer;
 
 pub fn refused(k: u8) -> WriteAnswer
     ensures { λ r. ⌜ r ≡ record { refusal = k; bytes = 0 } ⌝ }

@@ -5,20 +5,20 @@ ghost use lib.ListN.{length};
 ghost use Rattle.wire.specs.Number.{puts};
 ghost use Rattle.turn.specs.Turn.{rowNumbers};
 ghost use Rattle.sheet.specs.Read.{headerBytes};
-ghost use Rattle.write_spec.specs.Answer.{written};
+ghost use Rattle.refusal.specs.Outcome.{beside};
 ghost use Rattle.archive_spec.specs.Column.{widths};
 ghost use Rattle.archive_spec.specs.Kept.{formSize, mapsFrom, keptTable, keptFirst};
 ghost use Rattle.archive_spec.specs.Archive.{keepOf};
 use super::form::put_front;
 use super::form::refused;
+use refusal::WriteAnswer;
 use sheet::HEADER_BYTES;
 use sheet::MOST_TURNS;
 use sheet::TABLE_PLACES;
 use sheet::width;
 use turn::ROW_NUMBERS;
-use write_spec::WriteAnswer;
 
-// The maps of a sheet's records, as many as there are places.
+// Copies the maps of a sheet's records, as many as there are places.
 fn fill_maps(s: &[u8], maps: &mut [u8])
     requires { ⌜ headerBytes + length (now maps) + widths (mapsFrom (length (now maps)) (now s) headerBytes) ≤ length (now s) ⌝ }
     ensures { λ _. ⌜ now (maps .exit) ≡ mapsFrom (length (now (maps .entry))) (now (s .entry)) headerBytes ⌝ }
@@ -33,7 +33,7 @@ fn fill_maps(s: &[u8], maps: &mut [u8])
     }
 }
 
-// The kept form of a sheet with these maps and the turns of a table.
+// Writes the kept form of a sheet from its maps and the turns of a table.
 fn put_kept(s: &[u8], maps: &[u8], table: &[u16], out: &mut [u8])
     requires { ⌜ (headerBytes ≤ length (now s)) × (formSize (now maps) ≤ length (now out)) × (rowNumbers * length (now maps) ≤ length (now table)) ⌝ }
     ensures { λ _. ⌜ now (out .exit) ≡ puts (now (out .entry)) 0 (keptTable (now (s .entry)) (now (maps .entry)) (now (table .entry))) ⌝ }
@@ -44,7 +44,8 @@ fn put_kept(s: &[u8], maps: &[u8], table: &[u16], out: &mut [u8])
     archive_columns::put_columns(&mut *out, at, maps, table);
 }
 
-// The same with the sheet's own maps, for which places are lent.
+// Writes the kept form of a sheet from the sheet itself and the turns of a table. Its maps are copied into
+// the lent places first.
 fn keep_turns(s: &[u8], n: usize, table: &[u16], maps: &mut [u8], out: &mut [u8])
     requires { ⌜ (n ≤ length (now maps)) × (headerBytes ≤ length (now s)) × (rowNumbers * n ≤ length (now table)) ⌝ }
     requires { ⌜ (headerBytes + n + widths (mapsFrom n (now s) headerBytes) ≤ length (now s)) × (length (now s) ≤ length (now out)) ⌝ }
@@ -57,7 +58,7 @@ fn keep_turns(s: &[u8], n: usize, table: &[u16], maps: &mut [u8], out: &mut [u8]
 
 // Keeps any bytes as a sheet by column in any lent bytes.
 pub fn keep(sheet: &[u8], kept: &mut [u8]) -> WriteAnswer
-    ensures { λ r. ⌜ written r (now (kept .exit)) ≡ keepOf (now (sheet .entry)) (now (kept .entry)) ⌝ }
+    ensures { λ r. ⌜ beside r (now (kept .exit)) ≡ keepOf (now (sheet .entry)) (now (kept .entry)) ⌝ }
 {
     let mut table = [0u16; TABLE_PLACES];
     let read = sheet_read::read_table(sheet, &mut table);

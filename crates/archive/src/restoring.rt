@@ -12,13 +12,14 @@ ghost use Rattle.sheet.specs.Record.{widthOf, recordBytes};
 ghost use Rattle.sheet.specs.Read.{headerBytes, countsIn, turnCount};
 ghost use Rattle.sheet.specs.Layout.{recordOf};
 ghost use Rattle.write_spec.specs.Write.{turnsCauses};
-ghost use Rattle.write_spec.specs.Answer.{written};
+ghost use Rattle.refusal.specs.Outcome.{beside};
 ghost use Rattle.write.specs.Over.{Over};
 ghost use Rattle.archive_spec.specs.Column.{widths, firstTurns};
 ghost use Rattle.archive_spec.specs.Kept.{formSize, archive, keptMaps, columnsAt, keptTurns, tableRecords, restoredFirst};
 ghost use Rattle.archive_spec.specs.Archive.{mapsCauses, formCauses, keptCauses, restoreOf};
 use super::form::put_front;
 use super::form::refused;
+use refusal::WriteAnswer;
 use sheet::HEADER_BYTES;
 use sheet::Header;
 use sheet::Kind;
@@ -27,7 +28,6 @@ use sheet::TABLE_PLACES;
 use sheet::width;
 use turn::Counts;
 use turn::Turn;
-use write_spec::WriteAnswer;
 
 // The garage's sheet with the mark of a kept form.
 fn archive() -> Kind
@@ -178,7 +178,7 @@ fn put_sheet(k: &[u8], n: u16, table: &[u16], out: &mut [u8])
 
 // Restores the sheet of any bytes as a kept form in any lent bytes.
 pub fn restore(kept: &[u8], sheet: &mut [u8]) -> WriteAnswer
-    ensures { λ r. ⌜ written r (now (sheet .exit)) ≡ restoreOf (now (kept .entry)) (now (sheet .entry)) ⌝ }
+    ensures { λ r. ⌜ beside r (now (sheet .exit)) ≡ restoreOf (now (kept .entry)) (now (sheet .entry)) ⌝ }
 {
     let mut table = [0u16; TABLE_PLACES];
     let fault = judge_kept(kept, &mut table);

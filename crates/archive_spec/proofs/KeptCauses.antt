@@ -9,11 +9,10 @@ use native.Mathlib.Nat.{zero-add, add-zero}
 use lib.Dec.{ltb}
 use lib.ListN.{length, getD, length-append}
 use borrow.Author.Tests.{ltb-true, lt-ltb}
-use Rattle.refusal.specs.Number.{truncated, badMap, trailingBytes, bufferTooSmall}
+use Rattle.refusal.specs.Number.{truncated, badMap, trailingBytes}
 use Rattle.refusal.specs.Cause.{Cause, _when_, There, here, later, firstOf}
 use Rattle.refusal.specs.Written.{kept}
-use Rattle.refusal.proofs.Order.{none-iff, first-same}
-use Rattle.refusal.proofs.Written.{kept-first, number-first, enough-iff}
+use Rattle.refusal.proofs.Written.{written-number, written-not, written-iff}
 use Rattle.refusal.proofs.Places.{causeAt, there-at, at-there, there-left, there-right, there-split}
 use Rattle.wire.specs.Number.{Bytes}
 use Rattle.turn.specs.Turn.{mostWorth, mostDriver, turnCauses}
@@ -21,19 +20,20 @@ use Rattle.turn.proofs.Ranges.{outside-iff, past-iff}
 use Rattle.sheet.specs.declared.kind.Maps.{Maps}
 use Rattle.sheet.specs.Kind.{garage}
 use Rattle.sheet.specs.Record.{badMapFor, cursorAfter, firstCursor}
-use Rattle.sheet.specs.Read.{countsIn, countCauses, headerCauses, causesFor, sheetCauses}
-use Rattle.sheet.specs.Accepted.{CauseFor, WrongMap, LentCause, cursorOf, Accepted}
+use Rattle.sheet.specs.Read.{countsIn, countCauses, headerCauses, causesFor}
+use Rattle.sheet.specs.Accepted.{CauseFor, WrongMap, cursorOf, Accepted}
 use Rattle.sheet.proofs.Maps.{bad-map-iff}
-use Rattle.sheet.proofs.Readings.{sheet-numbered}
-use Rattle.sheet.proofs.Accepting.{accepted-iff}
+use Rattle.sheet.proofs.Accepting.{lent-accepted-iff}
 use Rattle.sheet.proofs.Causes.{cause-there-for, there-cause-for}
-use Rattle.sheet.proofs.ReadCauses.{lent-causes-iff}
+use Rattle.sheet.proofs.ReadCauses.{lent-tell}
 use Rattle.write_spec.specs.Write.{turnsCauses}
 use Rattle.archive_spec.specs.Column.{Columns, columnsIn, turnAcross, turnsAcross}
 use Rattle.archive_spec.specs.Kept.{archive, keptOf, keptMaps, columnsAt, keptEnd, keptTurns, restoredOf}
 use Rattle.archive_spec.specs.Archive.{keepCauses, keepOf, mapsCauses, formCauses, keptCauses, restoreCauses, restoreOf}
-use Rattle.archive_spec.specs.AcceptedKept.{AcceptedKept, mapCount, keptMap, keptTurn, valuePlace, KeptCause, of-header, few-maps, wrong-map, too-short, too-long, slope, groomer, time, worth, driver, RestoreCause, of-kept, small-buffer, FirstKeepCause, FirstRestoreCause}
+use Rattle.archive_spec.specs.AcceptedKept.{AcceptedKept, mapCount, keptMap, keptTurn, valuePlace, KeptCause, of-header, few-maps, wrong-map, too-short, too-long, slope, groomer, time, worth, driver, FirstKeepCause, FirstRestoreCause}
 use Rattle.archive_spec.proofs.Accepting.{archive-sound, kept-numbered, accepted-kept-iff}
+use Rattle.refusal.proofs.Outcome.{enough-iff}
+use Rattle.refusal.proofs.Words.{Within, Tells, tells-none, says-tells, says-within, room-tells}
 
 there-below : {cs : List Cause} {k r : ℕ} → There cs k r → r < length cs
 there-below (here h) = omega arith
@@ -227,68 +227,44 @@ module _ (k : List ℕ) where
   unfolding keptCauses keptTurns headerCauses countCauses across
   kept-places = omega (arith, length-append (formCauses k) (turnsCauses (archive .refusals) (countsIn k) (turnsAcross (mapCount k) across 0)), form-places, turns-places (mapCount k) 0)
 
-  module _ (places : ℕ) where
-    small : List Cause
-    small = bufferTooSmall when ltb places (length k) ∷ []
+  kept-within : Within (KeptCause k) (valuePlace k (mapCount k) 0)
+  kept-within j r c = omega (arith, says-within (KeptCause k) (keptCauses k) kept-causes-iff j r c, kept-places)
 
-    restore-cause : {j r : ℕ} → There (restoreCauses k places) j r → RestoreCause k places j r
-    unfolding restoreCauses small
-    restore-cause {j} {r} h = ⊎-elim (λ t. of-kept (there-kept-cause t)) right (there-split (keptCauses k) h)
-      where
-        last : (q : ℕ) → There small j q → RestoreCause k places j (length (keptCauses k) + q)
-        last zero t = let e : length (keptCauses k) + 0 ≡ valuePlace k (mapCount k) 0 = omega (arith, kept-places) in rw (e, at-there t .1) (small-buffer (ltb-true places (length k) (at-there t .0)))
-        last (suc q) t = absurd (true≢false (sym (at-there t .0)))
-
-        right : (q : ℕ) × (r ≡ length (keptCauses k) + q) × There small j q → RestoreCause k places j r
-        right x = rw (x .1) (last (x .0) (x .2))
-
-    cause-restore : {j r : ℕ} → RestoreCause k places j r → There (restoreCauses k places) j r
-    unfolding restoreCauses small
-    cause-restore (of-kept h) = there-left _ (kept-cause-there h)
-    cause-restore (small-buffer h) =
-        let e : valuePlace k (mapCount k) 0 ≡ length (keptCauses k) + 0 = omega (arith, kept-places) in
-        rw e (there-right (keptCauses k) (here (lt-ltb places (length k) h)))
-
-    pub restore-causes-iff : (j r : ℕ) → RestoreCause k places j r ↔ There (restoreCauses k places) j r
-    restore-causes-iff j r = (cause-restore, restore-cause)
+  kept-tells : Tells (KeptCause k) (keptCauses k)
+  kept-tells = says-tells (KeptCause k) (keptCauses k) kept-causes-iff (kept-numbered k)
 
 -- ---- the number that is given
 
-pub restore-number : (k lent : List ℕ) → restoreOf k lent .refusal ≡ firstOf (restoreCauses k (length lent))
+pub restore-number : (k lent : List ℕ) → restoreOf k lent .answer .refusal ≡ firstOf (restoreCauses k (length lent))
 unfolding restoreOf
-restore-number k lent = number-first (restoreCauses k (length lent)) (restoredOf k) lent
+restore-number k lent = written-number (restoreCauses k (length lent)) (restoredOf k) lent
 
-pub keep-number : (s lent : List ℕ) → keepOf s lent .refusal ≡ firstOf (keepCauses s (length lent))
+pub keep-number : (s lent : List ℕ) → keepOf s lent .answer .refusal ≡ firstOf (keepCauses s (length lent))
 unfolding keepOf
-keep-number s lent = number-first (keepCauses s (length lent)) (keptOf s) lent
+keep-number s lent = written-number (keepCauses s (length lent)) (keptOf s) lent
 
 -- a refusal leaves the lent bytes as they were, and says that none is written: of keeping, and of restoring
-pub keep-unchanged : (s lent : List ℕ) → (keepOf s lent .refusal ≡ 0 → ⊥) → keepOf s lent ≡ kept (keepOf s lent .refusal) lent
+pub keep-unchanged : (s lent : List ℕ) → (keepOf s lent .answer .refusal ≡ 0 → ⊥) → keepOf s lent ≡ kept (keepOf s lent .answer .refusal) lent
 unfolding keepOf
-keep-unchanged s lent n = kept-first (keepCauses s (length lent)) (keptOf s) lent (keepOf s lent .refusal) (sym (keep-number s lent)) n
+keep-unchanged s lent = written-not (keepCauses s (length lent)) (keptOf s) lent
 
-pub restore-unchanged : (k lent : List ℕ) → (restoreOf k lent .refusal ≡ 0 → ⊥) → restoreOf k lent ≡ kept (restoreOf k lent .refusal) lent
+pub restore-unchanged : (k lent : List ℕ) → (restoreOf k lent .answer .refusal ≡ 0 → ⊥) → restoreOf k lent ≡ kept (restoreOf k lent .answer .refusal) lent
 unfolding restoreOf
-restore-unchanged k lent n = kept-first (restoreCauses k (length lent)) (restoredOf k) lent (restoreOf k lent .refusal) (sym (restore-number k lent)) n
+restore-unchanged k lent = written-not (restoreCauses k (length lent)) (restoredOf k) lent
 
 -- restoring gives j exactly where the first cause has number j
-pub restore-refused-iff : (k lent : List ℕ) (j : ℕ) → (j ≡ 0 → ⊥) → (restoreOf k lent .refusal ≡ j) ↔ FirstRestoreCause k (length lent) j
-restore-refused-iff k lent j z =
-    let same = first-same (restoreCauses k (length lent)) (RestoreCause k (length lent)) (restore-causes-iff k (length lent)) j z in
-    (λ e. same .0 (sym (restore-number k lent) ∙ e), λ f. restore-number k lent ∙ same .1 f)
-
-keep-causes-iff : (s : List ℕ) (places j r : ℕ) → LentCause s (length s) places j r ↔ There (keepCauses s places) j r
-unfolding keepCauses
-keep-causes-iff s places = lent-causes-iff s (length s) places
+pub restore-refused-iff : (k lent : List ℕ) (j : ℕ) → (j ≡ 0 → ⊥) → (restoreOf k lent .answer .refusal ≡ j) ↔ FirstRestoreCause k (length lent) j
+unfolding restoreOf restoreCauses
+restore-refused-iff k lent =
+    written-iff (restoreCauses k (length lent)) _ lent (room-tells (valuePlace k (mapCount k) 0) (kept-within k) (keptCauses k) (kept-numbered k) (kept-tells k) (length k) (length lent))
 
 -- keeping gives j exactly where the first cause has number j
-pub keep-refused-iff : (s lent : List ℕ) (j : ℕ) → (j ≡ 0 → ⊥) → (keepOf s lent .refusal ≡ j) ↔ FirstKeepCause s (length lent) j
-keep-refused-iff s lent j z =
-    let same = first-same (keepCauses s (length lent)) (LentCause s (length s) (length lent)) (keep-causes-iff s (length lent)) j z in
-    (λ e. same .0 (sym (keep-number s lent) ∙ e), λ f. keep-number s lent ∙ same .1 f)
+pub keep-refused-iff : (s lent : List ℕ) (j : ℕ) → (j ≡ 0 → ⊥) → (keepOf s lent .answer .refusal ≡ j) ↔ FirstKeepCause s (length lent) j
+unfolding keepOf keepCauses
+keep-refused-iff s lent = written-iff (keepCauses s (length lent)) _ lent (lent-tell s (length s) (length lent))
 
 -- restoring refuses nothing just if the kept form is accepted and the lent bytes are as many
-pub restore-accepted-iff : {k : List ℕ} → Bytes k → (lent : List ℕ) → (restoreOf k lent .refusal ≡ 0) ↔ (AcceptedKept k × (length k ≤ length lent))
+pub restore-accepted-iff : {k : List ℕ} → Bytes k → (lent : List ℕ) → (restoreOf k lent .answer .refusal ≡ 0) ↔ (AcceptedKept k × (length k ≤ length lent))
 unfolding restoreCauses
 restore-accepted-iff {k} b lent =
     let e = enough-iff (keptCauses k) (length lent) (length k) (kept-numbered k) in
@@ -296,16 +272,10 @@ restore-accepted-iff {k} b lent =
     (λ z. let h = e .0 (sym (restore-number k lent) ∙ z) in (a .0 (h .0), h .1), λ h. restore-number k lent ∙ e .1 (a .1 (h .0), h .1))
 
 -- keeping refuses nothing just if the sheet is accepted and the lent bytes are as many
-pub keep-accepted-iff : {s : List ℕ} → Bytes s → (lent : List ℕ) → (keepOf s lent .refusal ≡ 0) ↔ (Accepted s × (length s ≤ length lent))
+pub keep-accepted-iff : {s : List ℕ} → Bytes s → (lent : List ℕ) → (keepOf s lent .answer .refusal ≡ 0) ↔ (Accepted s × (length s ≤ length lent))
 unfolding keepCauses
-keep-accepted-iff {s} b lent =
-    let e = enough-iff (sheetCauses s) (length lent) (length s) (sheet-numbered s) in
-    let a = accepted-iff b in
-    (λ z. let h = e .0 (sym (keep-number s lent) ∙ z) in (a .0 (h .0), h .1), λ h. keep-number s lent ∙ e .1 (a .1 (h .0), h .1))
+keep-accepted-iff {s} b lent = lent-accepted-iff b (length s) (length lent) (keep-number s lent)
 
 -- in words alone: a kept form is accepted just if no cause is there
 pub accepted-kept-no-cause : {k : List ℕ} → Bytes k → AcceptedKept k ↔ ((j r : ℕ) → KeptCause k j r → ⊥)
-accepted-kept-no-cause {k} b = (
-  λ a j r h. none-iff (keptCauses k) (kept-numbered k) .0 (accepted-kept-iff b .1 a) j r (kept-cause-there k h),
-  λ n. accepted-kept-iff b .0 (none-iff (keptCauses k) (kept-numbered k) .1 (λ j r h. n j r (there-kept-cause k h))),
-)
+accepted-kept-no-cause {k} b = let none = tells-none (kept-tells k) in let a = accepted-kept-iff b in (λ h. none .0 (a .1 h), λ n. a .0 (none .1 n))

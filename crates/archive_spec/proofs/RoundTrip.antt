@@ -4,11 +4,10 @@ use mathlib.Core.Path.{_≡_, refl, sym, _∙_, ap, ap₂}
 use mathlib.Core.Bool.{true}
 use mathlib.Core.List.{List, [], _∷_, _++_}
 use native.Mathlib.Omega.{arith}
-use lib.ListN.{length, take, drop}
-use lib.Seq.{take-append-seam}
+use lib.ListN.{length, drop}
 use Rattle.refusal.specs.Cause.{firstOf}
-use Rattle.refusal.specs.Written.{wrote}
-use Rattle.refusal.proofs.Written.{wrote-all, wrote-enough}
+use Rattle.refusal.specs.Written.{wrote, writtenPart}
+use Rattle.refusal.proofs.Written.{wrote-enough, written-bytes}
 use Rattle.wire.specs.Number.{Bytes, bytesOf, bytesAt}
 use Rattle.wire.specs.Mark.{sheetMark, keptMark}
 use Rattle.turn.specs.declared.Turn.{Turn}
@@ -27,7 +26,7 @@ use Rattle.archive_spec.specs.Archive.{keepCauses, keepOf, keptCauses, r
 use Rattle.archive_spec.specs.AcceptedKept.{Together, KeptFor, AcceptedKept}
 use Rattle.archive_spec.proofs.Bodies.{together-length, records-length, together-records, records-mapped, maps-read}
 use Rattle.archive_spec.proofs.Accepting.{kept-reads, kept-long, kept-numbered}
-use Rattle.archive_spec.proofs.KeptCauses.{keep-number, restore-number, keep-accepted-iff, restore-accepted-iff}
+use Rattle.archive_spec.proofs.KeptCauses.{keep-accepted-iff, restore-accepted-iff}
 
 -- a sheet with its maps named
 pub record SheetWith (s : List ℕ) (counts : Counts) (ms : List ℕ) (ts : List Turn) : Type 0 where
@@ -165,21 +164,21 @@ restored-keeps k lent a h = keep-writes (restoredOf k) lent (restore-accepted k 
 -- ---- the entries one after the other
 
 -- the bytes that keeping says it wrote, where it refused nothing, are the kept form, whatever the lent bytes were
-pub keep-written : (s lent : List ℕ) → keepOf s lent .refusal ≡ 0 → take (keepOf s lent .bytes) (keepOf s lent .lent) ≡ keptOf s
+pub keep-written : (s lent : List ℕ) → keepOf s lent .answer .refusal ≡ 0 → writtenPart (keepOf s lent) ≡ keptOf s
 unfolding keepOf
-keep-written s lent e = rw (wrote-all (keepCauses s (length lent)) (keptOf s) lent (sym (keep-number s lent) ∙ e)) (take-append-seam _ _)
+keep-written s lent = written-bytes (keepCauses s (length lent)) (keptOf s) lent
 
 -- those that restoring says it wrote are the sheet
-pub restore-written : (k lent : List ℕ) → restoreOf k lent .refusal ≡ 0 → take (restoreOf k lent .bytes) (restoreOf k lent .lent) ≡ restoredOf k
+pub restore-written : (k lent : List ℕ) → restoreOf k lent .answer .refusal ≡ 0 → writtenPart (restoreOf k lent) ≡ restoredOf k
 unfolding restoreOf
-restore-written k lent e = rw (wrote-all (restoreCauses k (length lent)) (restoredOf k) lent (sym (restore-number k lent) ∙ e)) (take-append-seam _ _)
+restore-written k lent = written-bytes (restoreCauses k (length lent)) (restoredOf k) lent
 
 -- the bytes that keeping says it wrote, restored into any lent bytes that are enough, are the sheet again, and the rest stays
-pub keep-then-restore : {s : List ℕ} → Bytes s → (lent other : List ℕ) → keepOf s lent .refusal ≡ 0 → length s ≤ length other
-    → restoreOf (take (keepOf s lent .bytes) (keepOf s lent .lent)) other ≡ wrote s other
+pub keep-then-restore : {s : List ℕ} → Bytes s → (lent other : List ℕ) → keepOf s lent .answer .refusal ≡ 0 → length s ≤ length other
+    → restoreOf (writtenPart (keepOf s lent)) other ≡ wrote s other
 keep-then-restore {s} b lent other e h = rw (keep-written s lent e) (kept-restores s other (keep-accepted-iff b lent .0 e .0) h)
 
 -- and those that restoring says it wrote, kept, are the kept form again
-pub restore-then-keep : {k : List ℕ} → Bytes k → (lent other : List ℕ) → restoreOf k lent .refusal ≡ 0 → length k ≤ length other
-    → keepOf (take (restoreOf k lent .bytes) (restoreOf k lent .lent)) other ≡ wrote k other
+pub restore-then-keep : {k : List ℕ} → Bytes k → (lent other : List ℕ) → restoreOf k lent .answer .refusal ≡ 0 → length k ≤ length other
+    → keepOf (writtenPart (restoreOf k lent)) other ≡ wrote k other
 restore-then-keep {k} b lent other e h = rw (restore-written k lent e) (restored-keeps k other (restore-accepted-iff b lent .0 e .0) h)

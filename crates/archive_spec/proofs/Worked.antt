@@ -13,9 +13,10 @@ use Rattle.archive_spec.specs.Column.{fieldIn, sizeIn, fieldValue, value
 use Rattle.archive_spec.specs.Kept.{recordsBody, columnsBody, mapsFrom, sheetMaps, keptOf, archive, keptMaps, keptEnd, keptTurns, restoredOf}
 use Rattle.archive_spec.specs.Archive.{keepCauses, keepOf, mapsCauses, formCauses, keptCauses, restoreCauses, restoreOf}
 use Rattle.archive_spec.specs.Cases.{KeepCases}
+use Rattle.refusal.specs.Outcome.{unless}
 
 pub worked-keeping : KeepCases
-unfolding firstOf writtenUnless opensWith outsideRange pastShift turnCauses garage widthOf field turnFrom badMapFor endAt turnAt cursorAfter recordCauses firstCursor countCauses headerCauses recordsCauses turnsFrom causesFor sheetCauses turnsOf recordOf turnsCauses fieldIn sizeIn fieldValue valuesOf columnOf columnSize columnRead widths columnsOf columnsIn turnAcross turnsAcross recordsBody columnsBody mapsFrom sheetMaps keptOf archive keptMaps keptEnd keptTurns restoredOf keepCauses keepOf mapsCauses formCauses keptCauses restoreCauses restoreOf
+unfolding firstOf writtenUnless opensWith outsideRange pastShift turnCauses garage widthOf field turnFrom badMapFor endAt turnAt cursorAfter recordCauses firstCursor countCauses headerCauses recordsCauses turnsFrom causesFor sheetCauses turnsOf recordOf turnsCauses fieldIn sizeIn fieldValue valuesOf columnOf columnSize columnRead widths columnsOf columnsIn turnAcross turnsAcross recordsBody columnsBody mapsFrom sheetMaps keptOf archive keptMaps keptEnd keptTurns restoredOf keepCauses keepOf mapsCauses formCauses keptCauses restoreCauses restoreOf unless
 worked-keeping =
     record {
       shift-kept = refl;

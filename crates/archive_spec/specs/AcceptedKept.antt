@@ -4,7 +4,7 @@ use mathlib.Core.Path.{_≡_}
 use mathlib.Core.Bool.{Bool, true, false}
 use mathlib.Core.List.{List, [], _∷_, _++_}
 use lib.ListN.{length, getD}
-use Rattle.refusal.specs.Number.{truncated, badMap, badSlope, badGroomer, badTime, badWorth, badDriver, trailingBytes, bufferTooSmall}
+use Rattle.refusal.specs.Number.{truncated, badMap, badSlope, badGroomer, badTime, badWorth, badDriver, trailingBytes}
 use Rattle.refusal.specs.Cause.{FirstAmong}
 use Rattle.wire.specs.Mark.{keptMark}
 use Rattle.turn.specs.declared.Turn.{Turn}
@@ -17,6 +17,7 @@ use Rattle.sheet.specs.Layout.{headerFor}
 use Rattle.sheet.specs.Accepted.{GoodMap, Carried, Legal, CauseFor, WrongMap, WrongTime, Outside, LentCause}
 use Rattle.archive_spec.specs.Column.{columnsIn, turnAcross}
 use Rattle.archive_spec.specs.Kept.{columnsBody, archive, keptMaps, columnsAt, keptEnd}
+use Rattle.refusal.specs.Words.{ThenRoom}
 
 -- ---- accepted
 
@@ -72,9 +73,8 @@ pub data KeptCause (k : List ℕ) : ℕ → ℕ → Type 0 where
   driver : (i : ℕ) → i < mapCount k → mostDriver < keptTurn k i .driver → KeptCause k badDriver (valuePlace k i 4)
 
 -- a cause to refuse restoring into so many bytes: one of the kept form's, and after them all that the bytes are fewer than the form's
-pub data RestoreCause (k : List ℕ) (places : ℕ) : ℕ → ℕ → Type 0 where
-  of-kept : {j r : ℕ} → KeptCause k j r → RestoreCause k places j r
-  small-buffer : places < length k → RestoreCause k places bufferTooSmall (valuePlace k (mapCount k) 0)
+abbrev pub RestoreCause : List ℕ → ℕ → ℕ → ℕ → Type 0
+RestoreCause k = ThenRoom (KeptCause k) (valuePlace k (mapCount k) 0) (length k)
 
 -- the first cause to refuse keeping a sheet in so many bytes has number j
 abbrev pub FirstKeepCause : List ℕ → ℕ → ℕ → Type 0

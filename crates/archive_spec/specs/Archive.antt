@@ -4,7 +4,7 @@ use mathlib.Core.Bool.{Bool, true, false}
 use mathlib.Core.List.{List, [], _∷_, _++_}
 use lib.ListN.{length}
 use lib.Dec.{ltb}
-use Rattle.refusal.specs.Number.{truncated, badMap, trailingBytes, bufferTooSmall}
+use Rattle.refusal.specs.Number.{truncated, badMap, trailingBytes}
 use Rattle.refusal.specs.Cause.{Cause, _when_}
 use Rattle.refusal.specs.Written.{Written, writtenUnless}
 use Rattle.sheet.specs.declared.kind.Maps.{Maps}
@@ -12,12 +12,13 @@ use Rattle.sheet.specs.Record.{badMapFor}
 use Rattle.sheet.specs.Read.{countsIn, headerCauses, sheetCauses}
 use Rattle.write_spec.specs.Write.{turnsCauses}
 use Rattle.archive_spec.specs.Kept.{keptOf, archive, keptMaps, columnsAt, keptEnd, keptTurns, restoredOf}
+use Rattle.refusal.specs.Outcome.{thenRoom}
 
 -- ---- from a sheet: both forms are equally long, so the need is the sheet's length
 
 -- the sheet's causes, and last the lent bytes
 unfoldable pub keepCauses : List ℕ → ℕ → List Cause
-keepCauses s places = sheetCauses s ++ bufferTooSmall when ltb places (length s) ∷ []
+keepCauses s = thenRoom (sheetCauses s) (length s)
 
 -- on success the kept form, then what was there; on a refusal all as before
 unfoldable pub keepOf : List ℕ → List ℕ → Written
@@ -45,7 +46,7 @@ keptCauses k = headerCauses archive k ++ (formCauses k ++ turnsCauses (archive .
 
 -- and last the lent bytes
 unfoldable pub restoreCauses : List ℕ → ℕ → List Cause
-restoreCauses k places = keptCauses k ++ bufferTooSmall when ltb places (length k) ∷ []
+restoreCauses k = thenRoom (keptCauses k) (length k)
 
 -- on success the sheet, then what was there; on a refusal all as before
 unfoldable pub restoreOf : List ℕ → List ℕ → Written

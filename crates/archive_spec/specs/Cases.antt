@@ -4,6 +4,7 @@ use mathlib.Core.Path.{_≡_}
 use mathlib.Core.List.{List, [], _∷_, _++_}
 use lib.ListN.{replicate}
 use Rattle.archive_spec.specs.Archive.{keepOf, restoreOf}
+use Rattle.refusal.specs.Outcome.{beside}
 
 -- two groomers, three slopes, four turns
 abbrev pub shift : List ℕ
@@ -30,7 +31,7 @@ drivenKept = 0x47 ∷ 0x52 ∷ 0x43 ∷ 0x01 ∷ 0x02 ∷ 0x00 ∷ 0x02 ∷ 0x3F
 
 -- each with one lent byte more than is written; the lent bytes hold 9 before
 pub record KeepCases : Type 0 where
-  pub shift-kept : keepOf shift (replicate 40 9) ≡ record { refusal = 0; bytes = 39; lent = shiftKept ++ (9 ∷ []) }
-  pub shift-restored : restoreOf shiftKept (replicate 40 9) ≡ record { refusal = 0; bytes = 39; lent = shift ++ (9 ∷ []) }
-  pub driven-kept : keepOf driven (replicate 21 9) ≡ record { refusal = 0; bytes = 20; lent = drivenKept ++ (9 ∷ []) }
-  pub driven-restored : restoreOf drivenKept (replicate 21 9) ≡ record { refusal = 0; bytes = 20; lent = driven ++ (9 ∷ []) }
+  pub shift-kept : keepOf shift (replicate 40 9) ≡ beside (record { refusal = 0; bytes = 39 }) (shiftKept ++ (9 ∷ []))
+  pub shift-restored : restoreOf shiftKept (replicate 40 9) ≡ beside (record { refusal = 0; bytes = 39 }) (shift ++ (9 ∷ []))
+  pub driven-kept : keepOf driven (replicate 21 9) ≡ beside (record { refusal = 0; bytes = 20 }) (drivenKept ++ (9 ∷ []))
+  pub driven-restored : restoreOf drivenKept (replicate 21 9) ≡ beside (record { refusal = 0; bytes = 20 }) (driven ++ (9 ∷ []))

@@ -23,7 +23,7 @@ pub struct Groomers {
     pub earliest: u16,
 }
 
-// The lesser of two numbers, as far as it matters here: it is above neither.
+// The lesser of two numbers. The contract says only what the callers need: it is above neither.
 fn lesser(a: u16, b: u16) -> u16
     ensures { λ r. ⌜ (r ≤ a) × (r ≤ b) ⌝ }
 {
@@ -33,7 +33,7 @@ fn lesser(a: u16, b: u16) -> u16
     b
 }
 
-// No turn has a number.
+// Sets all numbers to 0: no turn has one yet.
 pub fn clear(numbers: &mut [u16])
     ensures { λ _. ⌜ now (numbers .exit) ≡ replicate (length (now (numbers .entry))) 0 ⌝ }
 {
@@ -59,7 +59,8 @@ fn first_free(busy: &[u16; MOST_TURNS], used: usize, start: u16) -> usize
     k
 }
 
-// The same; where all are known to be busy, none is looked at.
+// The first groomer that is free at a start, as first_free gives it; but where the earliest minute says that
+// all are busy, none is looked at.
 fn place_for(busy: &[u16; MOST_TURNS], g: Groomers, start: u16) -> usize
     requires { ⌜ (g .used ≤ mostTurns) × (length (now busy) ≡ mostTurns) × NoneBefore (now busy) g ⌝ }
     ensures { λ r. ⌜ FirstFree (now (busy .entry)) (g .used) start r ⌝ }
@@ -70,7 +71,7 @@ fn place_for(busy: &[u16; MOST_TURNS], g: Groomers, start: u16) -> usize
     first_free(busy, g.used, start)
 }
 
-// Turn t gets its number; returns the groomers that have got a turn then.
+// Gives turn t its number; returns the groomers that have a turn then.
 fn number_turn(
     p: Size,
     cols: &[u16; PLACES],
@@ -102,7 +103,7 @@ fn number_turn(
     }
 }
 
-// All turns get their numbers, in order; returns how many groomers are used.
+// Gives all turns their numbers, in order of start; returns how many groomers are used.
 pub fn number_all(p: Size, cols: &[u16; PLACES], order: &[u16], numbers: &mut [u16]) -> usize
     requires { ⌜ Held p (now cols) × (now numbers ≡ replicate (p .count) 0) × (now order ≡ orderByStart (turnsBy p (now cols))) ⌝ }
     requires { ⌜ shiftMinutes + p .gap < 65536 ⌝ }

@@ -6,12 +6,13 @@ ghost use lib.ListN.{length};
 ghost use Rattle.turn.specs.Turn.{shiftMinutes};
 ghost use Rattle.sheet.specs.Kind.{mostTurns};
 ghost use Rattle.instance.specs.Columns.{turnsBy, Held};
+ghost use Rattle.refusal.specs.Outcome.{beside};
 ghost use Rattle.assign_spec.specs.Numbering.{numbersOf, usedOf};
-ghost use Rattle.assign_spec.specs.Partition.{partitioned, partitionRefused, partitionOf};
+ghost use Rattle.assign_spec.specs.Assign.{assignRefused, assignOf};
 
 mod assigning;
 
-use assign_spec::PartitionAnswer;
+use assign_spec::AssignAnswer;
 use instance::MOST_TURNS;
 use instance::PLACES;
 use instance::Size;
@@ -28,7 +29,7 @@ fn number_by_order(p: Size, cols: &[u16; PLACES], order: &mut [u16], numbers: &m
     assigning::number_all(p, cols, &*order, &mut *numbers)
 }
 
-// The same with places of its own.
+// Writes each turn's number at its place. The order of the turns stands in a local array.
 fn number_turns(p: Size, cols: &[u16; PLACES], numbers: &mut [u16]) -> usize
     requires { ⌜ Held p (now cols) × (length (now numbers) ≡ p .count) × (shiftMinutes + p .gap < 65536) ⌝ }
     ensures { λ r. ⌜ (now (numbers .exit) ≡ numbersOf (turnsBy p (now (cols .entry))))
@@ -39,18 +40,18 @@ fn number_turns(p: Size, cols: &[u16; PLACES], numbers: &mut [u16]) -> usize
     number_by_order(p, cols, &mut order[..n], &mut *numbers)
 }
 
-fn refused(k: u8) -> PartitionAnswer
-    ensures { λ r. ⌜ r ≡ partitionRefused k ⌝ }
+fn refused(k: u8) -> AssignAnswer
+    ensures { λ r. ⌜ r ≡ assignRefused k ⌝ }
 {
-    PartitionAnswer {
+    AssignAnswer {
         refusal: k,
         groomers: 0,
     }
 }
 
 // Takes any bytes as a sheet, and writes the number of each turn's groomer into any lent places.
-pub fn assign(s: &[u8], places: &mut [u16]) -> PartitionAnswer
-    ensures { λ r. ⌜ partitioned r (now (places .exit)) ≡ partitionOf (now (s .entry)) (now (places .entry)) ⌝ }
+pub fn assign(s: &[u8], places: &mut [u16]) -> AssignAnswer
+    ensures { λ r. ⌜ beside r (now (places .exit)) ≡ assignOf (now (s .entry)) (now (places .entry)) ⌝ }
 {
     let mut cols = [0u16; PLACES];
     let r = instance::load(s, &mut cols);
@@ -64,7 +65,7 @@ pub fn assign(s: &[u8], places: &mut [u16]) -> PartitionAnswer
         return refused(refusal::BUFFER_TOO_SMALL);
     }
     let used = number_turns(instance::shift_size(r.turns), &cols, &mut places[..n]);
-    PartitionAnswer {
+    AssignAnswer {
         refusal: 0,
         groomers: used as u16,
     }

@@ -3,5 +3,5 @@ pub mod Counting
 pub mod Numbers
 pub mod Fewest
 pub mod Worked
-pub mod PartitionCauses
+pub mod AssignCauses
 pub mod Promised

@@ -6,21 +6,21 @@ use native.Mathlib.Omega.{arith}
 use native.Mathlib.Decide.{decLt, ℕ-discrete}
 use lib.ListN.{length, take, drop}
 use lib.Seq.{ext-getD, take-at}
-use Rattle.refusal.proofs.Written.{enough-iff}
 use Rattle.model.specs.Turns.{Turns, PositiveLengths}
 use Rattle.sheet.specs.Read.{turnCount, sheetCauses}
 use Rattle.sheet.proofs.Readings.{sheet-numbered}
 use Rattle.instance_spec.specs.Problem.{sheetTurns}
 use Rattle.instance_spec.proofs.SheetTurns.{sheet-count, sheet-lengths}
-use Rattle.assign_spec.specs.Numbering.{numberIn, numbersOf, usedOf, Before, GreedyNumbers, PartitionPromises}
-use Rattle.assign_spec.specs.Partition.{partitionCauses, partitionOf}
+use Rattle.assign_spec.specs.Numbering.{numberIn, numbersOf, usedOf, Before, GreedyNumbers, AssignPromises}
+use Rattle.assign_spec.specs.Assign.{assignCauses, assignOf}
 use Rattle.assign_spec.proofs.Numbers.{numbers-places, numbers-greedy, numbers-assignment}
 use Rattle.assign_spec.proofs.Fewest.{together-most, together-reached, fewest, used-different}
-use Rattle.assign_spec.proofs.PartitionCauses.{partition-number, answered}
+use Rattle.assign_spec.proofs.AssignCauses.{assign-number, answered}
+use Rattle.refusal.proofs.Outcome.{enough-iff}
 
 -- ---- for any turns, each at least a minute long
 
-pub numbers-promised : (T : Turns) → PositiveLengths T → PartitionPromises T (numbersOf T) (usedOf T)
+pub numbers-promised : (T : Turns) → PositiveLengths T → AssignPromises T (numbersOf T) (usedOf T)
 numbers-promised T lengths =
     record {
       greedy = numbers-greedy T lengths;
@@ -33,11 +33,11 @@ numbers-promised T lengths =
 
 -- ---- for any bytes as a sheet, where nothing is refused
 
-pub partition-promised : (s lent : List ℕ) → partitionOf s lent .answer .refusal ≡ 0 → PartitionPromises (sheetTurns s) (take (turnCount s) (partitionOf s lent .places)) (partitionOf s lent .answer .groomers)
-unfolding partitionCauses
-partition-promised s lent z =
+pub assign-promised : (s lent : List ℕ) → assignOf s lent .answer .refusal ≡ 0 → AssignPromises (sheetTurns s) (take (turnCount s) (assignOf s lent .lent)) (assignOf s lent .answer .groomers)
+unfolding assignCauses
+assign-promised s lent z =
     let T = sheetTurns s in
-    let clear = sym (partition-number s lent) ∙ z in
+    let clear = sym (assign-number s lent) ∙ z in
     let sound = enough-iff (sheetCauses s) (length lent) (turnCount s) (sheet-numbered s) .0 clear .0 in
     let size : length (numbersOf T) ≡ turnCount s = numbers-places T ∙ sheet-count s sound in
     rw (answered s lent clear, take-at (numbersOf T) (drop (length (numbersOf T)) lent) (turnCount s) size) (numbers-promised T (sheet-lengths s sound))

@@ -1,3 +1,3 @@
 pub mod Numbering
 pub mod Underway
-pub mod Partition
+pub mod Assign

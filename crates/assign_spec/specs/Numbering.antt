@@ -85,7 +85,7 @@ unfoldable pub heldTogether : Turns → ℕ → ℕ
 heldTogether T minute = howMany (holdsMinute T minute) (T .count)
 
 -- what is promised of the turns' numbers and of how many groomers they use
-pub record PartitionPromises (T : Turns) (numbers : List ℕ) (used : ℕ) : Type 0 where
+pub record AssignPromises (T : Turns) (numbers : List ℕ) (used : ℕ) : Type 0 where
   pub greedy : GreedyNumbers T numbers
   pub no-overlap : Assignment T (numberIn numbers)
   pub uses : different (numberIn numbers) (T .count) ≡ used

@@ -5,8 +5,8 @@ ghost use lib.ListN.{length, replicate};
 ghost use Rattle.choice_map.specs.Choice.{mapBytes, mapOf};
 ghost use Rattle.instance.specs.Columns.{turnsBy, Held};
 ghost use Rattle.best_spec.specs.Table.{bestWorth, bestChoice};
-ghost use Rattle.best_spec.specs.Exact.{bestIn, exactOf};
-ghost use Rattle.best_spec.specs.Answer.{earned, bestRefused};
+ghost use Rattle.refusal.specs.Outcome.{beside};
+ghost use Rattle.best_spec.specs.Exact.{bestRefused, bestIn, exactOf};
 ghost use Rattle.best_table.specs.Held.{Ranged};
 
 mod single;
@@ -46,10 +46,10 @@ fn refused(k: u8) -> BestAnswer
     }
 }
 
-// The best worth of a problem, and the map of the set that earns it into any lent bytes.
+// Answers a problem: refuses too few lent bytes; else writes the map of the best set and gives its worth.
 fn answer(p: Size, cols: &[u16; PLACES], map: &mut [u8]) -> BestAnswer
     requires { ⌜ Held p (now cols) × Ranged p (now cols) ⌝ }
-    ensures { λ r. ⌜ earned r (now (map .exit)) ≡ bestIn (turnsBy p (now (cols .entry))) (now (map .entry)) ⌝ }
+    ensures { λ r. ⌜ beside r (now (map .exit)) ≡ bestIn (turnsBy p (now (cols .entry))) (now (map .entry)) ⌝ }
 {
     let size = choice_map::map_bytes(p.count as u16);
     if map.len() < size {
@@ -62,9 +62,10 @@ fn answer(p: Size, cols: &[u16; PLACES], map: &mut [u8]) -> BestAnswer
     }
 }
 
-// The best worth of any bytes as a sheet, and the map of the set that earns it into any lent bytes.
+// Reads any bytes as a sheet, finds the best worth, and writes the map of the set that earns it into any
+// lent bytes.
 pub fn best(s: &[u8], map: &mut [u8]) -> BestAnswer
-    ensures { λ r. ⌜ earned r (now (map .exit)) ≡ exactOf (now (s .entry)) (now (map .entry)) ⌝ }
+    ensures { λ r. ⌜ beside r (now (map .exit)) ≡ exactOf (now (s .entry)) (now (map .entry)) ⌝ }
 {
     let mut cols = [0u16; PLACES];
     let r = instance::load(s, &mut cols);

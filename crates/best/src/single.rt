@@ -23,8 +23,8 @@ fn is_first(flags: &mut [u8; SLOPES], slope: u16) -> bool
     clear
 }
 
-// Whether no turn is on the slope of one before it and none names a driver, with flags that are clear.
-// There is no way out before the last turn.
+// Whether no turn is on the slope of one before it and none names a driver. The lent flags are clear. There
+// is no early exit: a jump at each turn would cost more than the few turns that it saves.
 fn all_single(p: Size, cols: &[u16; PLACES], flags: &mut [u8; SLOPES]) -> bool
     requires { ⌜ Held p (now cols) × Flagged (turnsBy p (now cols)) (λ u. true) 0 (now flags) ⌝ }
     ensures { λ r. ⌜ r ≡ singleTurns (turnsBy p (now (cols .entry))) ⌝ }

@@ -52,7 +52,7 @@ module _ (s : List ℕ) (z : firstOf (sheetCauses s) ≡ 0) (free : NoDrivers (s
 
 -- ---- of the entry itself
 
-module _ (s lent : List ℕ) (e : exactOf s lent .refusal ≡ 0) where
+module _ (s lent : List ℕ) (e : exactOf s lent .answer .refusal ≡ 0) where
   abbrev S : List Bool
   S = bestChoice (sheetTurns s)
 
@@ -66,8 +66,8 @@ module _ (s lent : List ℕ) (e : exactOf s lent .refusal ≡ 0) where
   size : length (mapOf S) ≡ mapBytes (turnCount s)
   size = map-length S ∙ ap mapBytes bits
 
-  worth-is : exactOf s lent .worth ≡ bestWorth (sheetTurns s)
-  worth-is = ap (λ (x : Earned). x .worth) (best-is-found s lent e)
+  worth-is : exactOf s lent .answer .worth ≡ bestWorth (sheetTurns s)
+  worth-is = ap (λ (x : Earned). x .answer .worth) (best-is-found s lent e)
 
   map-is : answeredMap s lent ≡ mapOf S
   map-is = rw (best-is-found s lent e) (take-at (mapOf S) _ (mapBytes (turnCount s)) size)

@@ -2,54 +2,61 @@
 use Prim.Native.Nat.{ℕ, _<_}
 use mathlib.Core.Path.{_≡_}
 use mathlib.Core.Logic.{_≢_}
-use mathlib.Core.Bool.{not, cond}
+use mathlib.Core.Bool.{not}
 use mathlib.Core.List.{List, [], _∷_, _++_}
-use lib.ListN.{length, drop}
-use lib.Dec.{ltb, eqb}
-use Rattle.refusal.specs.Number.{bufferTooSmall, notSingleTurns}
-use Rattle.refusal.specs.Cause.{Cause, _when_, firstOf, FirstAmong}
+use lib.ListN.{length}
+use Rattle.refusal.specs.Number.{notSingleTurns}
+use Rattle.refusal.specs.Cause.{Cause, _when_, FirstAmong}
 use Rattle.model.specs.Turns.{Turns}
 use Rattle.sheet.specs.Read.{turnCount, sheetCauses}
-use Rattle.sheet.specs.Accepted.{SheetCause, placeOf}
+use Rattle.sheet.specs.Accepted.{placeOf, MoreCause}
 use Rattle.choice_map.specs.Choice.{mapBytes, mapOf}
 use Rattle.instance_spec.specs.Problem.{sheetTurns}
 use Rattle.best_spec.specs.Table.{bestWorth, bestChoice}
 use Rattle.best_spec.specs.Single.{singleTurns}
+use Rattle.refusal.specs.Outcome.{Outcome, beside, unless, thenRoom}
+use Rattle.refusal.specs.Words.{ThenRoom}
+use Rattle.refusal.specs.Written.{atFront}
+use Rattle.best_spec.specs.declared.BestAnswer.{BestAnswer}
 
--- after the sheet's causes: a slope with two turns or a driver, then too few lent bytes for the map
+-- after the sheet's causes: a slope with two turns, or a driver
+unfoldable pub singleCauses : List ℕ → List Cause
+singleCauses s = sheetCauses s ++ notSingleTurns when not (singleTurns (sheetTurns s)) ∷ []
+
+-- and last too few lent bytes for the map
 unfoldable pub bestCauses : List ℕ → ℕ → List Cause
-bestCauses s places = sheetCauses s ++ notSingleTurns when not (singleTurns (sheetTurns s)) ∷ bufferTooSmall when ltb places (mapBytes (turnCount s)) ∷ []
+bestCauses s = thenRoom (singleCauses s) (mapBytes (turnCount s))
 
--- the refusal, 0 if none, the worth, 0 on a refusal, and what the lent bytes hold then
-pub record Earned : Type 0 where
-  pub refusal : ℕ
-  pub worth : ℕ
-  pub lent : List ℕ
+-- the refusal and the worth, and what the lent bytes hold then
+abbrev pub Earned : Type 0
+Earned = Outcome BestAnswer (List ℕ)
 
 -- the best worth, and the map of the set that earns it, then what was there
 abbrev pub found : Turns → List ℕ → Earned
-found T lent = record { refusal = 0; worth = bestWorth T; lent = mapOf (bestChoice T) ++ drop (length (mapOf (bestChoice T))) lent }
+found T lent = beside (record { refusal = 0; worth = bestWorth T }) (atFront (mapOf (bestChoice T)) lent)
 
--- a refusal, and the lent bytes as before
-abbrev pub refusedWith : ℕ → List ℕ → Earned
-refusedWith k lent = record { refusal = k; worth = 0; lent = lent }
+-- a refusal returns its number and no worth
+abbrev pub bestRefused : ℕ → BestAnswer
+bestRefused k = record { refusal = k; worth = 0 }
 
 -- the best of some turns, or a refusal where the lent bytes are too few for their map
 unfoldable pub bestIn : Turns → List ℕ → Earned
-bestIn T lent = cond (ltb (length lent) (mapBytes (T .count))) (refusedWith bufferTooSmall lent) (found T lent)
+bestIn T lent = unless (thenRoom [] (mapBytes (T .count)) (length lent)) (found T lent) (λ k. beside (bestRefused k) lent)
 
 -- the best of a sheet unless a cause is there
 unfoldable pub exactOf : List ℕ → List ℕ → Earned
-exactOf s lent = let f = firstOf (bestCauses s (length lent)) in cond (eqb f 0) (found (sheetTurns s) lent) (refusedWith f lent)
+exactOf s lent = unless (bestCauses s (length lent)) (found (sheetTurns s) lent) (λ k. beside (bestRefused k) lent)
 
 -- ---- as statements
 
--- a cause to refuse is there: its number, and its place in the order
-pub data BestCause (s : List ℕ) (places : ℕ) : ℕ → ℕ → Type 0 where
-  of-sheet : {k r : ℕ} → SheetCause s k r → BestCause s places k r
-  two-turns : (x y : ℕ) → x < sheetTurns s .count → y < sheetTurns s .count → x ≢ y → sheetTurns s .slope x ≡ sheetTurns s .slope y → BestCause s places notSingleTurns (placeOf (turnCount s) 1)
-  names-driver : (t : ℕ) → t < sheetTurns s .count → sheetTurns s .driver t ≢ 0 → BestCause s places notSingleTurns (placeOf (turnCount s) 1)
-  few-bytes : places < mapBytes (turnCount s) → BestCause s places bufferTooSmall (placeOf (turnCount s) 2)
+-- a slope has two turns, or a turn a driver
+pub data NotSingle (T : Turns) : Type 0 where
+  two-turns : (x y : ℕ) → x < T .count → y < T .count → x ≢ y → T .slope x ≡ T .slope y → NotSingle T
+  names-driver : (t : ℕ) → t < T .count → T .driver t ≢ 0 → NotSingle T
+
+-- a cause to refuse is there, at its place in the order: the sheet's, then a shift that is not single, and last too few lent bytes
+abbrev pub BestCause : List ℕ → ℕ → ℕ → ℕ → Type 0
+BestCause s = ThenRoom (MoreCause s notSingleTurns (NotSingle (sheetTurns s))) (placeOf (turnCount s) 2) (mapBytes (turnCount s))
 
 -- the first of them has number k
 abbrev pub FirstBestCause : List ℕ → ℕ → ℕ → Type 0

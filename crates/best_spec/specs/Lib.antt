@@ -2,5 +2,4 @@ pub mod Table
 pub mod Single
 pub mod Groomers
 pub mod Exact
-pub mod Answer
 pub mod Promises

@@ -51,22 +51,22 @@ pub record BestPromised (s lent : List ℕ) : Type 0 where
   pub places : length (answeredChoice s lent) ≡ sheetTurns s .count
   pub apart : Independent (sheetTurns s) (answeredChoice s lent)
   -- they earn the answer's worth
-  pub earns : chosen (sheetTurns s .count) (answeredChoice s lent) (sheetTurns s .worth) ≡ exactOf s lent .worth
+  pub earns : chosen (sheetTurns s .count) (answeredChoice s lent) (sheetTurns s .worth) ≡ exactOf s lent .answer .worth
   -- of two sets that earn as much, theirs leaves out the latest of a groomer's turns in which they differ
-  pub latest : (R : List ℕ) → Feasible (sheetTurns s) R → worthOf (sheetTurns s) R ≡ exactOf s lent .worth → (x : ℕ) → has (answeredChoice s lent) x ≡ true → isAmong R x ≡ false →
+  pub latest : (R : List ℕ) → Feasible (sheetTurns s) R → worthOf (sheetTurns s) R ≡ exactOf s lent .answer .worth → (x : ℕ) → has (answeredChoice s lent) x ≡ true → isAmong R x ≡ false →
       (y : ℕ) × (isAmong R y ≡ true) × (has (answeredChoice s lent) y ≡ false) × Later (sheetTurns s) y x
   -- the first bytes are their map: no other bit is set there
   pub map : answeredMap s lent ≡ mapOf (answeredChoice s lent)
   -- a feasible set earns the worth
-  pub attained : (R : List ℕ) × Feasible (sheetTurns s) R × (worthOf (sheetTurns s) R ≡ exactOf s lent .worth)
+  pub attained : (R : List ℕ) × Feasible (sheetTurns s) R × (worthOf (sheetTurns s) R ≡ exactOf s lent .answer .worth)
   -- none earns more
-  pub greatest : (R : List ℕ) → Feasible (sheetTurns s) R → worthOf (sheetTurns s) R ≤ exactOf s lent .worth
+  pub greatest : (R : List ℕ) → Feasible (sheetTurns s) R → worthOf (sheetTurns s) R ≤ exactOf s lent .answer .worth
   -- it is the sum over the sheet's groomers, from 1 on, of what the table over each one's own turns gives
-  pub by-groomer : exactOf s lent .worth ≡ groomersWorth (sheetTurns s) (countsIn s .groomers)
+  pub by-groomer : exactOf s lent .answer .worth ≡ groomersWorth (sheetTurns s) (countsIn s .groomers)
   -- and that is the most that a groomer's own turns earn
   pub groomer-most : (g : ℕ) → MostOfGroomer (sheetTurns s) g (groomerWorth (sheetTurns s) g)
   -- the planned board has this worth
-  pub planned-worth : boardWorth (plannedBoard s) ≡ exactOf s lent .worth
+  pub planned-worth : boardWorth (plannedBoard s) ≡ exactOf s lent .answer .worth
   -- those bytes are that board's choice map, bit for bit
   pub planned-map : answeredMap s lent ≡ boardMap (plannedBoard s)
   -- the bytes behind the map stay as they were

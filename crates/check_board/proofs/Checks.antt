@@ -5,40 +5,40 @@ use mathlib.Core.List.{List, _∷_}
 use mathlib.Core.Bool.{Bool, true, false}
 use native.Mathlib.Omega.{arith}
 use lib.ListN.{length}
-use borrow.Author.Tests.{ne-eqb}
 use Rattle.refusal.specs.Number.{malformedBoard}
 use Rattle.refusal.specs.Cause.{Cause, _when_, firstOf}
 use Rattle.refusal.proofs.Order.{first-stops, first-goes}
 use Rattle.model.specs.Turns.{Turns}
 use Rattle.lists.proofs.Bools.{or-false-1}
 use Rattle.sheet.specs.declared.answer.ReadAnswer.{ReadAnswer}
-use Rattle.sheet.specs.Read.{sheetCauses, answerOf}
+use Rattle.sheet.specs.Read.{sheetCauses}
 use Rattle.sheet.proofs.Readings.{sheet-numbered}
-use Rattle.sheet.proofs.Whole.{whole-refusal, whole-accepted, whole-turns}
 use Rattle.model.specs.Ceiling.{ceiling}
 use Rattle.board.specs.Board.{boardHeader, boardTally, boardWorth, writtenSteps}
 use Rattle.board_open.specs.Open.{malformed}
 use Rattle.board_open.proofs.Openings.{formed-header}
 use Rattle.instance.specs.declared.columns.Size.{Size}
-use Rattle.instance.specs.Columns.{turnsBy, Held}
+use Rattle.instance.specs.Columns.{turnsBy}
 use Rattle.instance_spec.specs.Problem.{sheetTurns}
-use Rattle.instance.specs.Load.{shiftSize, Posed}
+use Rattle.instance.specs.Load.{shiftSize, Loaded}
 use Rattle.check_spec.specs.declared.CheckAnswer.{CheckAnswer}
 use Rattle.replay.specs.declared.replay.Judgement.{Judgement}
 use Rattle.check_spec.specs.Check.{boardCauses, checkCauses, checked, checkOf}
 use Rattle.replay.specs.Judged.{judged}
 use Rattle.replay.proofs.Faults.{judged-number, judged-limit}
+use Rattle.refusal.proofs.Outcome.{unless-first, unless-none}
+use Rattle.instance.proofs.Posed.{loaded-held, loaded-turns}
 
 -- ---- a refusal, and a pass
 
 module _ (s b : List ℕ) where
   check-refused : (f : ℕ) → firstOf (checkCauses s b) ≡ f → (f ≡ 0 → ⊥) → checked f 0 0 0 ≡ checkOf s b
   unfolding checkOf
-  check-refused f e z = rw (e, ne-eqb f 0 z)
+  check-refused f e z = sym (unless-first (checkCauses s b) _ (λ k. checked k 0 0 0) f e z)
 
   check-fine : firstOf (checkCauses s b) ≡ 0 → checked 0 (boardTally b) (boardWorth b) (ceiling (sheetTurns s) (writtenSteps b)) ≡ checkOf s b
   unfolding checkOf
-  check-fine e = rw e
+  check-fine e = sym (unless-none (checkCauses s b) _ (λ k. checked k 0 0 0) e)
 
   by-sheet : (f : ℕ) → firstOf (sheetCauses s) ≡ f → (f ≡ 0 → ⊥) → firstOf (checkCauses s b) ≡ f
   unfolding checkCauses
@@ -60,23 +60,17 @@ passed-header T b limit e z = formed-header b (or-false-1 (malformed b) _ (head-
 
 -- ---- the entry
 
-module _ (s b : List ℕ) {a : ReadAnswer} (e : a ≡ answerOf s) where
+module _ (s b cols : List ℕ) {a : ReadAnswer} (e : Loaded s a cols) where
   pub check-sheet : {x : CheckAnswer} → (a .refusal ≡ 0 → ⊥) → x ≡ checked (a .refusal) 0 0 0 → x ≡ checkOf s b
-  check-sheet z x = x ∙ check-refused s b (a .refusal) (by-sheet s b (a .refusal) (sym (whole-refusal s e)) z) z
+  check-sheet z x = x ∙ check-refused s b (a .refusal) (by-sheet s b (a .refusal) (sym (e .refusal)) z) z
 
-  module _ (z : a .refusal ≡ 0) (cols : List ℕ) {p : Size} (w : a .refusal ≡ 0 → Posed s cols) (q : p ≡ shiftSize (a .turns)) where
-    pub check-held : Held p cols
-    check-held = rw (q, whole-turns s e z) (w z .held)
-
-    turns-are : turnsBy p cols ≡ sheetTurns s
-    turns-are = rw (q, whole-turns s e z) (w z .turns)
-
+  module _ (z : a .refusal ≡ 0) {p : Size} (q : p ≡ shiftSize (a .turns)) where
     module _ {j : Judgement} (g : j ≡ judged (firstOf (boardCauses (turnsBy p cols) b)) (ceiling (turnsBy p cols) (writtenSteps b))) where
       posed : j ≡ judged (firstOf (boardCauses (sheetTurns s) b)) (ceiling (sheetTurns s) (writtenSteps b))
-      posed = rw turns-are at g
+      posed = rw (loaded-turns s cols e z q) at g
 
       board-is : firstOf (checkCauses s b) ≡ j .fault
-      board-is = by-board s b (whole-accepted s e z) ∙ sym (judged-number (firstOf (boardCauses (sheetTurns s) b)) (ceiling (sheetTurns s) (writtenSteps b)) posed)
+      board-is = by-board s b (e .posed z .sound) ∙ sym (judged-number (firstOf (boardCauses (sheetTurns s) b)) (ceiling (sheetTurns s) (writtenSteps b)) posed)
 
       pub check-board : {x : CheckAnswer} → (j .fault ≡ 0 → ⊥) → x ≡ checked (j .fault) 0 0 0 → x ≡ checkOf s b
       check-board y x = x ∙ check-refused s b (j .fault) board-is y
@@ -84,4 +78,4 @@ module _ (s b : List ℕ) {a : ReadAnswer} (e : a ≡ answerOf s) where
       pub check-passed : {tallied worth : ℕ} → j .fault ≡ 0 → tallied ≡ boardTally b → worth ≡ boardWorth b → checked 0 tallied worth (j .ceiling) ≡ checkOf s b
       check-passed y t v = rw (t, v, judged-limit (firstOf (boardCauses (sheetTurns s) b)) (ceiling (sheetTurns s) (writtenSteps b)) posed y) (check-fine s b (board-is ∙ y))
 
-pub ruleset check-cases = (check-sheet, check-held, check-board, check-passed)
+pub ruleset check-cases = (check-sheet, loaded-held, check-board, check-passed)

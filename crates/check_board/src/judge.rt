@@ -38,8 +38,9 @@ fn choice_fault(p: Size, cols: &[u16; PLACES], map: &[u8], room: &mut [u16; PLAC
     }
 }
 
-// Whether the sums that a board names are not those of its steps and its choice.
-fn are_wrong(tally: u32, worth: u32, amounts: u32, earned: u32) -> bool
+// Whether the sums that a board names are not those of its steps and its choice, or its worth is below its
+// tally.
+fn sums_differ(tally: u32, worth: u32, amounts: u32, earned: u32) -> bool
     ensures { λ r. ⌜ not r ≡ (eqb tally amounts && (eqb worth earned && leb tally worth)) ⌝ }
 {
     if tally != amounts {
@@ -83,7 +84,7 @@ fn sums_fault(b: &[u8], p: Size, cols: &[u16; PLACES], map: &[u8], steps: &[u8],
     let worth = board::worth(b);
     let amounts = board::sum_amounts(steps, m);
     let earned = selection::chosen_worth(p, cols, map);
-    if are_wrong(tally, worth, amounts, earned) {
+    if sums_differ(tally, worth, amounts, earned) {
         refusal::WRONG_SUMS
     } else {
         0

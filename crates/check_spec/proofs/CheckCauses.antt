@@ -1,5 +1,5 @@
 -- The check gives exactly the number of the first cause in its order, and passes a board exactly where none is there. Assumes nothing.
-use Prim.Native.Nat.{ℕ, _+_, _<_, _≤_}
+use Prim.Native.Nat.{ℕ, _<_, _≤_}
 use mathlib.Core.Path.{_≡_, refl, sym, _∙_, ap}
 use mathlib.Core.Logic.{_↔_, _⊎_, inl, inr, _≢_}
 use mathlib.Core.List.{List, [], _∷_, _++_}
@@ -10,7 +10,7 @@ use lib.Dec.{eqb}
 use lib.IntN.{ℤ}
 use borrow.Author.Tests.{eqb-false, ne-eqb, not-true, not-false}
 use Rattle.refusal.specs.Cause.{firstOf, There, here, later}
-use Rattle.refusal.proofs.Order.{first-stops, first-goes, none-given, none-iff, first-same}
+use Rattle.refusal.proofs.Order.{first-goes}
 use Rattle.wire.specs.Number.{Bytes}
 use Rattle.model.specs.Turns.{Turns, conflict, PositiveLengths}
 use Rattle.model.specs.Steps.{Step, isOpen, initial, afterStep, afterSteps, tally}
@@ -22,9 +22,7 @@ use Rattle.model.proofs.Minutes.{conflict-is}
 use Rattle.model.proofs.Filled.{fits-apart}
 use Rattle.model.proofs.Readings.{independent-is, maximal-is, right-is, allRight-is, noneOpen-is, sums-is}
 use Rattle.sheet.specs.Read.{turnCount, sheetCauses}
-use Rattle.sheet.specs.Accepted
-use Rattle.sheet.specs.Accepted.{Accepted, SheetCause, placeOf, FirstAmong}
-use Rattle.sheet.proofs.Causes.{refused-iff, cause-there}
+use Rattle.sheet.specs.Accepted.{Accepted, placeOf}
 use Rattle.sheet.proofs.Readings.{sheet-numbered}
 use Rattle.sheet.proofs.Accepting.{accepted-iff}
 use Rattle.board.specs.Board.{boardTurns, boardTally, boardWorth, boardChoice, writtenSteps}
@@ -34,8 +32,12 @@ use Rattle.board_open.proofs.Openings.{open-refused, shut}
 use Rattle.board_open.proofs.OpenCauses.{open-refused-iff}
 use Rattle.instance_spec.specs.Problem.{sheetTurns}
 use Rattle.instance_spec.proofs.SheetTurns.{sheet-lengths}
-use Rattle.check_spec.specs.Check.{choiceCauses, stepCauses, ruleCauses, sumCauses, boardCauses, checkCauses, checkOf, OneWrong, BoardCause, no-board, other-count, two-conflict, room-left, step-wrong, turn-open, sums-differ, CheckCause, of-sheet, of-board, FirstCheckCause, Passes, BoardKeeps}
+use Rattle.check_spec.specs.Check.{choiceCauses, stepCauses, ruleCauses, sumCauses, boardCauses, checkCauses, checkOf, OneWrong, BoardCause, no-board, other-count, two-conflict, room-left, step-wrong, turn-open, sums-differ, CheckCause, FirstCheckCause, Passes, BoardKeeps}
 use Rattle.check_spec.proofs.Passing.{check-number, board-numbered, passes-parts, parts-pass}
+use Rattle.refusal.proofs.Words.{Within, Tells, tells-none, says-tells, then-within, then-tells}
+use Rattle.refusal.proofs.Outcome.{number-iff}
+use Rattle.sheet.proofs.ReadCauses.{sheet-tells, sheet-within}
+use Rattle.check_spec.specs.declared.CheckAnswer.{CheckAnswer}
 
 -- ---- steps of which one is not right
 
@@ -167,86 +169,46 @@ module _ (T : Turns) (lengths : PositiveLengths T) (b : List ℕ) where
 
 -- ---- the check's number
 
--- a sheet's cause stands no later than behind its last record
-sheet-place : (s : List ℕ) {k r : ℕ} → SheetCause s k r → r < placeOf (turnCount s) 1
-sheet-place s (Accepted.short-header h) = omega arith
-sheet-place s (Accepted.other-mark h) = omega arith
-sheet-place s (Accepted.groomer-count h) = omega arith
-sheet-place s (Accepted.slope-count h) = omega arith
-sheet-place s (Accepted.turn-count h) = omega arith
-sheet-place s (Accepted.no-map i l h) = omega arith
-sheet-place s (Accepted.wrong-map i l h) = omega arith
-sheet-place s (Accepted.short-fields i l h) = omega arith
-sheet-place s (Accepted.slope i l h) = omega arith
-sheet-place s (Accepted.groomer i l h) = omega arith
-sheet-place s (Accepted.time i l h) = omega arith
-sheet-place s (Accepted.worth i l h) = omega arith
-sheet-place s (Accepted.driver i l h) = omega arith
-sheet-place s (Accepted.bytes-behind h) = omega arith
+-- a board's causes have six places
+pub board-within : (T : Turns) (b : List ℕ) → Within (BoardCause T b) 6
+board-within T b k r (no-board c) = omega arith
+board-within T b k r (other-count n) = omega arith
+board-within T b k r (two-conflict x y l m d p q c) = omega arith
+board-within T b k r (room-left t l h n) = omega arith
+board-within T b k r (step-wrong n) = omega arith
+board-within T b k r (turn-open t l o) = omega arith
+board-within T b k r (sums-differ d) = omega arith
 
 module _ (s b : List ℕ) where
-  -- a cause of the sheet is the check's
-  sheet-first : (k : ℕ) → FirstAmong (SheetCause s) k → FirstCheckCause s b k
-  sheet-first k f = record { place = f .place; cause = of-sheet (f .cause); none-before = λ j r l c. before j r l c }
-    where
-      before : (j r : ℕ) → r < f .place → CheckCause s b j r → ⊥
-      before j r l (of-sheet c) = f .none-before j r l c
-      before j r l (of-board c) = omega (arith, sheet-place s (f .cause))
+  pub check-within : Within (CheckCause s b) (placeOf (turnCount s) 7)
+  check-within k r c = omega (arith, then-within (placeOf (turnCount s) 1) (sheet-within s) 6 (board-within (sheetTurns s) b) k r c)
 
-  module _ (e : firstOf (sheetCauses s) ≡ 0) where
-    none : {k r : ℕ} → SheetCause s k r → ⊥
-    none {k} {r} c = none-given (sheetCauses s) e (sheet-numbered s) k r (cause-there s c)
+  -- the words tell what the lists give: of a board once the sheet is not refused, since conflicts are in words only between turns that have a length
+  board-tells : firstOf (sheetCauses s) ≡ 0 → Tells (BoardCause (sheetTurns s) b) (boardCauses (sheetTurns s) b)
+  board-tells e =
+      says-tells (BoardCause (sheetTurns s) b) (boardCauses (sheetTurns s) b) (λ k r. (cause-board (sheetTurns s) (sheet-lengths s e) b, board-cause (sheetTurns s) (sheet-lengths s e) b))
+      (board-numbered (sheetTurns s) b)
 
-    board-first : (k : ℕ) → FirstAmong (BoardCause (sheetTurns s) b) k → FirstCheckCause s b k
-    board-first k f = record { place = placeOf (turnCount s) 1 + f .place; cause = of-board (f .cause); none-before = λ j r l c. before j r l c }
-      where
-        before : (j r : ℕ) → r < placeOf (turnCount s) 1 + f .place → CheckCause s b j r → ⊥
-        before j r l (of-sheet c) = none c
-        before j r l (of-board {r = q} c) = f .none-before j q (omega arith) c
-
-    board-number : (k : ℕ) → (k ≡ 0 → ⊥) → (firstOf (boardCauses (sheetTurns s) b) ≡ k) ↔ FirstAmong (BoardCause (sheetTurns s) b) k
-    board-number k z = first-same (boardCauses (sheetTurns s) b) (BoardCause (sheetTurns s) b) (λ j r. (cause-board (sheetTurns s) (sheet-lengths s e) b, board-cause (sheetTurns s) (sheet-lengths s e) b)) k z
-
-    after-sheet : firstOf (checkCauses s b) ≡ firstOf (boardCauses (sheetTurns s) b)
-    unfolding checkCauses
-    after-sheet = first-goes (sheetCauses s) (boardCauses (sheetTurns s) b) (sheet-numbered s) e
-
-  sheet-stops : (f : ℕ) → firstOf (sheetCauses s) ≡ f → (f ≡ 0 → ⊥) → firstOf (checkCauses s b) ≡ f
+  pub check-tells : Tells (CheckCause s b) (checkCauses s b)
   unfolding checkCauses
-  sheet-stops f e z = first-stops (sheetCauses s) (boardCauses (sheetTurns s) b) f e z
-
-  given : (k : ℕ) → (k ≡ 0 → ⊥) → firstOf (checkCauses s b) ≡ k → FirstCheckCause s b k
-  given k z g = go (ℕ-discrete (firstOf (sheetCauses s)) 0)
-    where
-      go : Dec (firstOf (sheetCauses s) ≡ 0) → FirstCheckCause s b k
-      go (yes e) = board-first e k (board-number e k z .0 (sym (after-sheet e) ∙ g))
-      go (no n) = sheet-first k (refused-iff s k z .0 (sym (sheet-stops (firstOf (sheetCauses s)) refl n) ∙ g))
-
-  found : (k : ℕ) → (k ≡ 0 → ⊥) → FirstCheckCause s b k → firstOf (checkCauses s b) ≡ k
-  found k z f = go (f .place) (f .cause) (f .none-before) (ℕ-discrete (firstOf (sheetCauses s)) 0)
-    where
-      go : (p : ℕ) → CheckCause s b k p → ((j r : ℕ) → r < p → CheckCause s b j r → ⊥) → Dec (firstOf (sheetCauses s) ≡ 0) → firstOf (checkCauses s b) ≡ k
-      go p (of-sheet c) n d = sheet-stops k (refused-iff s k z .1 (record { place = p; cause = c; none-before = λ j r l h. n j r l (of-sheet h) })) z
-      go p (of-board {r = q} c) n (yes e) = after-sheet e ∙ board-number e k z .1 (record { place = q; cause = c; none-before = λ j r l h. n j (placeOf (turnCount s) 1 + r) (omega arith) (of-board h) })
-      go p (of-board {r = q} c) n (no m) =
-          let w = refused-iff s (firstOf (sheetCauses s)) m .0 refl in
-          absurd (n (firstOf (sheetCauses s)) (w .place) (omega (arith, sheet-place s (w .cause))) (of-sheet (w .cause)))
+  check-tells = then-tells (placeOf (turnCount s) 1) (sheet-within s) (sheetCauses s) (boardCauses (sheetTurns s) b) (sheet-numbered s) (sheet-tells s) board-tells
 
   -- the check gives k exactly where the first cause has number k
   pub check-refused-iff : (k : ℕ) → (k ≡ 0 → ⊥) → (checkOf s b .refusal ≡ k) ↔ FirstCheckCause s b k
-  check-refused-iff k z = (λ e. given k z (sym (check-number s b) ∙ e), λ f. check-number s b ∙ found k z f)
+  unfolding checkOf
+  check-refused-iff = number-iff (checkCauses s b) _ _ (λ (x : CheckAnswer). x .refusal) refl (λ k. refl) check-tells
 
   -- ---- no cause
 
   -- of a sheet that is not refused: the rules are kept exactly where no cause to refuse the board is there
   keeps-none : firstOf (sheetCauses s) ≡ 0 → BoardKeeps s b ↔ ((k r : ℕ) → BoardCause (sheetTurns s) b k r → ⊥)
-  keeps-none e = (
-    λ w k r c. listed .0 (sym (after-sheet e) ∙ (sym (check-number s b) ∙ parts-pass s b e w)) k r (cause-board (sheetTurns s) (sheet-lengths s e) b c),
-    λ n. passes-parts s b (check-number s b ∙ (after-sheet e ∙ listed .1 (λ k r h. n k r (board-cause (sheetTurns s) (sheet-lengths s e) b h)))) .1,
-  )
-    where
-      listed : (firstOf (boardCauses (sheetTurns s) b) ≡ 0) ↔ ((k r : ℕ) → There (boardCauses (sheetTurns s) b) k r → ⊥)
-      listed = none-iff (boardCauses (sheetTurns s) b) (board-numbered (sheetTurns s) b)
+  unfolding checkCauses
+  keeps-none e =
+      let after = first-goes (sheetCauses s) (boardCauses (sheetTurns s) b) (sheet-numbered s) e in
+      let none = tells-none (board-tells e) in (
+        λ w. none .0 (sym after ∙ sym (check-number s b) ∙ parts-pass s b e w),
+        λ n. passes-parts s b (check-number s b ∙ after ∙ none .1 n) .1,
+      )
 
   -- for an accepted sheet, a board keeps the rules exactly where all causes from 12 to 17 are absent
   pub keeps-no-cause : Bytes s → Accepted s → BoardKeeps s b ↔ ((k r : ℕ) → BoardCause (sheetTurns s) b k r → ⊥)
@@ -254,12 +216,4 @@ module _ (s b : List ℕ) where
 
   -- for every list of numbers: the check gives 0 exactly where no cause is there, the sheet's or the board's
   pub passes-no-cause : Passes s b ↔ ((k r : ℕ) → CheckCause s b k r → ⊥)
-  passes-no-cause = (λ p. passed (passes-parts s b p .0) (passes-parts s b p .1), λ n. go n (ℕ-discrete (firstOf (sheetCauses s)) 0))
-    where
-      passed : firstOf (sheetCauses s) ≡ 0 → BoardKeeps s b → (k r : ℕ) → CheckCause s b k r → ⊥
-      passed e w k r (of-sheet c) = none e c
-      passed e w k r (of-board {r = q} c) = keeps-none e .0 w k q c
-
-      go : ((k r : ℕ) → CheckCause s b k r → ⊥) → Dec (firstOf (sheetCauses s) ≡ 0) → Passes s b
-      go n (yes e) = parts-pass s b e (keeps-none e .1 (λ k r c. n k (placeOf (turnCount s) 1 + r) (of-board c)))
-      go n (no m) = let w = refused-iff s (firstOf (sheetCauses s)) m .0 refl in absurd (n (firstOf (sheetCauses s)) (w .place) (of-sheet (w .cause)))
+  passes-no-cause = let none = tells-none check-tells in (λ p. none .0 (sym (check-number s b) ∙ p), λ n. check-number s b ∙ none .1 n)

@@ -3,7 +3,7 @@ use Prim.Native.Nat.{ℕ}
 use mathlib.Core.Path.{_≡_, refl, sym, _∙_}
 use mathlib.Core.Logic.{_↔_}
 use mathlib.Core.List.{List}
-use mathlib.Core.Bool.{Bool, true, false, not, cond}
+use mathlib.Core.Bool.{true, false, not}
 use native.Mathlib.Omega.{arith}
 use lib.Dec.{eqb}
 use borrow.Author.Tests.{eqb-true, eq-eqb, not-false}
@@ -29,19 +29,14 @@ use Rattle.board_open.proofs.OpenCauses.{board-formed}
 use Rattle.instance_spec.specs.Problem.{sheetTurns}
 use Rattle.instance_spec.proofs.SheetTurns.{sheet-count, sheet-lengths}
 use Rattle.check_spec.specs.Check.{choiceCauses, stepCauses, ruleCauses, sumCauses, boardCauses, checkCauses, checkOf, checked, Passes, BoardKeeps}
+use Rattle.refusal.proofs.Outcome.{number-first, number-none}
+use Rattle.check_spec.specs.declared.CheckAnswer.{CheckAnswer}
 
 -- ---- the number
 
-answer-number : (f t w c : ℕ) → cond (eqb f 0) (checked 0 t w c) (checked f 0 0 0) .refusal ≡ f
-answer-number f t w c = go (eqb f 0) refl
-  where
-    go : (b : Bool) → eqb f 0 ≡ b → cond b (checked 0 t w c) (checked f 0 0 0) .refusal ≡ f
-    go true e = sym (eqb-true f 0 e)
-    go false e = refl
-
 pub check-number : (s b : List ℕ) → checkOf s b .refusal ≡ firstOf (checkCauses s b)
 unfolding checkOf
-check-number s b = answer-number (firstOf (checkCauses s b)) _ _ _
+check-number s b = number-first (checkCauses s b) _ _ (λ (x : CheckAnswer). x .refusal) refl (λ k. refl)
 
 -- every number of the check's order is above 0
 
@@ -114,7 +109,7 @@ module _ (s b : List ℕ) where
       let c : Clear (sheetTurns s) b = record { formed = board-formed b (k .form); counted = k .form .turns ∙ sym (sheet-count s e); apart = t .0; full = t .1; all-right = t .2; closed = t .3; summed = t .4 } in
       check-number s b ∙ parts-check e (clear-board (sheetTurns s) b c)
 
-  -- exactly: of bytes, to pass the check is the same as: the sheet is accepted, and the board keeps the rules
+  -- exactly: bytes pass the check just if they are an accepted sheet and a board that keeps the rules for it
   pub passes-iff : Bytes s → Passes s b ↔ (Accepted s × BoardKeeps s b)
   passes-iff y = (
     λ p. let q = passes-parts p in (accepted-iff y .0 (q .0), q .1),
@@ -124,7 +119,7 @@ module _ (s b : List ℕ) where
   -- the answer of a check that passes is the board's own tally and worth, and the ceiling of its steps
   pub passes-answer : Passes s b → checkOf s b ≡ checked 0 (boardTally b) (boardWorth b) (ceiling (sheetTurns s) (writtenSteps b))
   unfolding checkOf
-  passes-answer p = let e : firstOf (checkCauses s b) ≡ 0 = sym (check-number s b) ∙ p in rw e
+  passes-answer = number-none (checkCauses s b) _ _ (λ (x : CheckAnswer). x .refusal) refl (λ k. refl)
 
   -- whoever made the board, and for every list of numbers: what passes binds every feasible set, by the ceiling that the check returns among others
   pub passes-promises : Passes s b → Promises (sheetTurns s) (boardChoice b) (boardTally b) (boardWorth b) (checkOf s b .ceiling)

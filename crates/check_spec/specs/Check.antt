@@ -1,12 +1,12 @@
 -- The check: any bytes as a sheet, any bytes as a board (document 01: the check, refusals 12 to 17; request R-7). Assumes nothing.
-use Prim.Native.Nat.{ℕ, _+_, _<_}
+use Prim.Native.Nat.{ℕ, _<_}
 use mathlib.Core.Path.{_≡_}
 use mathlib.Core.List.{List, [], _∷_, _++_}
-use mathlib.Core.Bool.{Bool, true, false, not, cond, _||_}
+use mathlib.Core.Bool.{Bool, true, false, not, _||_}
 use mathlib.Core.Logic.{_≢_, _⊎_}
 use lib.Dec.{eqb}
 use Rattle.refusal.specs.Number.{malformedBoard, chosenConflict, notMaximal, wrongStep, turnLeftOpen, wrongSums}
-use Rattle.refusal.specs.Cause.{Cause, _when_, firstOf}
+use Rattle.refusal.specs.Cause.{Cause, _when_}
 use Rattle.model.specs.Turns.{Turns, Conflict}
 use Rattle.model.specs.Steps.{Step, isOpen, initial, afterStep, afterSteps, tally}
 use Rattle.model.specs.Choice.{has, chosen}
@@ -18,6 +18,8 @@ use Rattle.instance_spec.specs.Problem.{sheetTurns}
 use Rattle.check_spec.specs.declared.CheckAnswer.{CheckAnswer}
 use Rattle.board.specs.Board.{boardTurns, boardSteps, boardTally, boardWorth, boardChoice, writtenSteps}
 use Rattle.board_open.specs.Open.{malformed, WellFormed, OpenCause}
+use Rattle.refusal.specs.Outcome.{unless}
+use Rattle.refusal.specs.Words.{Then}
 
 -- what may be wrong with a choice: two chosen turns conflict, or a turn still fits
 unfoldable pub choiceCauses : Turns → List Bool → List Cause
@@ -51,13 +53,11 @@ checkCauses s b = sheetCauses s ++ boardCauses (sheetTurns s) b
 
 -- the check's answer: a refusal, a tally, a worth, a ceiling
 abbrev pub checked : ℕ → ℕ → ℕ → ℕ → CheckAnswer
-checked refusal tally worth limit = record { refusal = refusal; tally = tally; worth = worth; ceiling = limit }
+checked refusal tally worth ceiling = record { refusal = refusal; tally = tally; worth = worth; ceiling = ceiling }
 
 -- the check: the first cause's number and no sums, or the board's own tally and worth, and the ceiling of its steps
 unfoldable pub checkOf : List ℕ → List ℕ → CheckAnswer
-checkOf s b =
-    let f = firstOf (checkCauses s b) in
-    cond (eqb f 0) (checked 0 (boardTally b) (boardWorth b) (ceiling (sheetTurns s) (writtenSteps b))) (checked f 0 0 0)
+checkOf s b = unless (checkCauses s b) (checked 0 (boardTally b) (boardWorth b) (ceiling (sheetTurns s) (writtenSteps b))) (λ k. checked k 0 0 0)
 
 -- the board passes: the check refuses nothing
 abbrev pub Passes : List ℕ → List ℕ → Type 0
@@ -96,9 +96,8 @@ pub data BoardCause (T : Turns) (b : List ℕ) : ℕ → ℕ → Type 0 where
   sums-differ : (boardTally b ≢ tally (writtenSteps b)) ⊎ (boardWorth b ≢ chosen (T .count) (boardChoice b) (T .worth)) ⊎ (boardWorth b < boardTally b) → BoardCause T b wrongSums 5
 
 -- a cause to refuse s or b: the sheet's come first; the board's places count from behind the sheet's last
-pub data CheckCause (s b : List ℕ) : ℕ → ℕ → Type 0 where
-  of-sheet : {k r : ℕ} → SheetCause s k r → CheckCause s b k r
-  of-board : {k r : ℕ} → BoardCause (sheetTurns s) b k r → CheckCause s b k (placeOf (turnCount s) 1 + r)
+abbrev pub CheckCause : List ℕ → List ℕ → ℕ → ℕ → Type 0
+CheckCause s b = Then (SheetCause s) (placeOf (turnCount s) 1) (BoardCause (sheetTurns s) b)
 
 -- the first cause to refuse s or b has number k
 abbrev pub FirstCheckCause : List ℕ → List ℕ → ℕ → Type 0

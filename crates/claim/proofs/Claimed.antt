@@ -2,13 +2,11 @@
 use mathlib.Core.Path.{_≡_, sym, ap, _∙_}
 use mathlib.Core.Bool.{Bool}
 use mathlib.Core.List.{List}
-use lib.ListN.{length, take, drop}
-use lib.Seq.{take-append-seam}
+use lib.ListN.{length}
 use Prim.Native.Nat.{ℕ}
 use Rattle.refusal.specs.Cause.{firstOf}
-use Rattle.refusal.specs.Written.{wrote}
-use Rattle.refusal.proofs.Order.{clear-append}
-use Rattle.refusal.proofs.Written.{wrote-all}
+use Rattle.refusal.specs.Written.{writtenPart}
+use Rattle.refusal.proofs.Written.{written-bytes}
 use Rattle.wire.specs.Number.{Bytes}
 use Rattle.model.specs.Steps.{Step, tally}
 use Rattle.model.specs.Pick.{steps}
@@ -33,8 +31,9 @@ use Rattle.check_spec.proofs.Passing.{formed-board, parts-pass, passes-iff, pas
 use Rattle.check_spec.proofs.CheckCauses.{keeps-no-cause, passes-no-cause}
 use Rattle.plan_spec.specs.Plan.{planCauses, plannedBoard, planOf}
 use Rattle.plan_spec.proofs.PlanCauses.{plan-number, plan-accepted-iff}
-use Rattle.plan_spec.proofs.Planned.{planned-back}
+use Rattle.plan_spec.proofs.Planned.{planned-back, plan-written}
 use Rattle.claim.specs.Claim.{ByMethod, Claim}
+use Rattle.refusal.proofs.Outcome.{enough-iff}
 
 -- ---- the planner's board of a sheet that is not refused
 
@@ -53,21 +52,15 @@ module _ (s : List ℕ) (e : firstOf (sheetCauses s) ≡ 0) where
 
 -- ---- what a plan that is not refused has
 
-module _ (s lent : List ℕ) (z : planOf s lent .refusal ≡ 0) where
-  plan-fine : firstOf (planCauses s (length lent)) ≡ 0
-  plan-fine = sym (plan-number s lent) ∙ z
-
+module _ (s lent : List ℕ) (z : planOf s lent .answer .refusal ≡ 0) where
   pub plan-accepted : firstOf (sheetCauses s) ≡ 0
   unfolding planCauses
-  plan-accepted = clear-append (sheetCauses s) _ (sheet-numbered s) plan-fine .0
+  plan-accepted = enough-iff (sheetCauses s) (length lent) _ (sheet-numbered s) .0 (sym (plan-number s lent) ∙ z) .0
 
-  pub plan-wrote : planOf s lent ≡ wrote (plannedBoard s) lent
+  -- the bytes that the planner says it wrote are the board
+  pub plan-front : writtenPart (planOf s lent) ≡ plannedBoard s
   unfolding planOf
-  plan-wrote = wrote-all (planCauses s (length lent)) (plannedBoard s) lent plan-fine
-
-  -- the first so many of the lent bytes are the board
-  pub plan-front : take (planOf s lent .bytes) (planOf s lent .lent) ≡ plannedBoard s
-  plan-front = rw plan-wrote (take-append-seam (plannedBoard s) (drop (length (plannedBoard s)) lent))
+  plan-front = written-bytes (planCauses s (length lent)) (plannedBoard s) lent z
 
 -- ---- the method
 
@@ -98,7 +91,7 @@ claim s b y =
       answers = passes-answer s b;
       ours = λ a. planned-passes s (accepted-iff y .1 a);
       plans = plan-accepted-iff y;
-      writes = plan-wrote s;
+      writes = plan-written s;
       method-returns = λ a. (goBack (sheetTurns s) (steps (sheetTurns s)), steps (sheetTurns s), selection-exists (sheetTurns s) (sheet-lengths s (accepted-iff y .1 a)));
       method = λ a S xs d. made s (accepted-iff y .1 a) d;
       promises = passes-promises s b;

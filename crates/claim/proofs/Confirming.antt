@@ -9,29 +9,30 @@ use borrow.Author.Tests.{ne-eqb}
 use Rattle.refusal.specs.Written.{Written, wrote}
 use Rattle.check_spec.specs.declared.CheckAnswer.{CheckAnswer}
 use Rattle.check_spec.specs.Check.{checkOf}
-use Rattle.plan_spec.specs.declared.PlanAnswer.{PlanAnswer}
+use Rattle.refusal.specs.declared.WriteAnswer.{WriteAnswer}
 use Rattle.plan_spec.specs.Plan.{plannedBoard, planOf}
-use Rattle.plan_spec.specs.Answer.{planned}
+use Rattle.refusal.specs.Outcome.{beside}
 use Rattle.claim.specs.Confirm.{confirmed, confirmOf}
-use Rattle.claim.proofs.Claimed.{planned-answer, plan-accepted, plan-wrote}
+use Rattle.claim.proofs.Claimed.{planned-answer, plan-accepted}
+use Rattle.plan_spec.proofs.Planned.{plan-written}
 
-module _ (s lent out : List ℕ) (a : PlanAnswer) (e : planned a out ≡ planOf s lent) where
-  number : planOf s lent .refusal ≡ a .refusal
-  number = ap (λ (p : Written). p .refusal) (sym e)
+module _ (s lent out : List ℕ) (a : WriteAnswer) (e : beside a out ≡ planOf s lent) where
+  number : planOf s lent .answer .refusal ≡ a .refusal
+  number = ap (λ (p : Written). p .answer .refusal) (sym e)
 
   pub confirm-refused : (a .refusal ≡ 0 → ⊥) → confirmed (record { plan = a; check = record { refusal = a .refusal; tally = 0; worth = 0; ceiling = 0 } }) out ≡ confirmOf s lent
   unfolding confirmOf
   confirm-refused n = rw (e, number, ne-eqb (a .refusal) 0 n)
 
   module _ (z : a .refusal ≡ 0) where
-    fine : planOf s lent .refusal ≡ 0
+    fine : planOf s lent .answer .refusal ≡ 0
     fine = number ∙ z
 
-    same : planned a out ≡ wrote (plannedBoard s) lent
-    same = e ∙ plan-wrote s lent fine
+    same : beside a out ≡ wrote (plannedBoard s) lent
+    same = e ∙ plan-written s lent fine
 
     bytes-are : a .bytes ≡ length (plannedBoard s)
-    bytes-are = ap (λ (p : Written). p .bytes) same
+    bytes-are = ap (λ (p : Written). p .answer .bytes) same
 
     out-is : out ≡ plannedBoard s ++ drop (length (plannedBoard s)) lent
     out-is = ap (λ (p : Written). p .lent) same

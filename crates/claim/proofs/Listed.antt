@@ -2,11 +2,10 @@
 use Prim.Native.Nat.{ℕ}
 use mathlib.Core.Path.{_≡_, sym, _∙_, ap}
 use mathlib.Core.List.{List}
-use lib.ListN.{length, take}
+use lib.ListN.{length}
 use Rattle.refusal.specs.Cause.{firstOf}
-use Rattle.refusal.specs.Written.{wrote}
-use Rattle.refusal.proofs.Order.{clear-append}
-use Rattle.refusal.proofs.Written.{wrote-all}
+use Rattle.refusal.specs.Written.{wrote, writtenPart}
+use Rattle.refusal.proofs.Written.{written-all}
 use Rattle.sheet.specs.Read.{sheetCauses}
 use Rattle.sheet.proofs.Readings.{sheet-numbered}
 use Rattle.instance_spec.specs.Problem.{sheetTurns}
@@ -17,6 +16,7 @@ use Rattle.listing_spec.specs.List.{sumsFor, listingFor, sheetListing, listCaus
 use Rattle.listing_spec.proofs.Listed.{sheet-rounds, sheet-lines, list-number}
 use Rattle.claim.specs.Listed.{sumsIn, textFor, ListPromised}
 use Rattle.claim.proofs.Claimed.{planned-passes, planned-answer, plan-front}
+use Rattle.refusal.proofs.Outcome.{enough-iff}
 
 -- ---- of the planner's board
 
@@ -31,17 +31,14 @@ module _ (s : List ℕ) (e : firstOf (sheetCauses s) ≡ 0) where
 
 -- ---- of an answer that refuses nothing
 
-module _ (s lent : List ℕ) (z : listOf s lent .refusal ≡ 0) where
-  list-fine : firstOf (listCauses s (length lent)) ≡ 0
-  list-fine = sym (list-number s lent) ∙ z
-
+module _ (s lent : List ℕ) (z : listOf s lent .answer .refusal ≡ 0) where
   list-accepted : firstOf (sheetCauses s) ≡ 0
   unfolding listCauses
-  list-accepted = clear-append (sheetCauses s) _ (sheet-numbered s) list-fine .0
+  list-accepted = enough-iff (sheetCauses s) (length lent) _ (sheet-numbered s) .0 (sym (list-number s lent) ∙ z) .0
 
   list-wrote : listOf s lent ≡ wrote (sheetListing s) lent
   unfolding listOf
-  list-wrote = wrote-all (listCauses s (length lent)) (sheetListing s) lent list-fine
+  list-wrote = written-all (listCauses s (length lent)) (sheetListing s) lent z
 
   listing-promised : ListPromised s (plannedBoard s) lent
   listing-promised =
@@ -54,5 +51,5 @@ module _ (s lent : List ℕ) (z : listOf s lent .refusal ≡ 0) where
       }
 
   -- whatever places are lent, the text is that of the board that the planner writes
-  pub list-promised : (place : List ℕ) → planOf s place .refusal ≡ 0 → ListPromised s (take (planOf s place .bytes) (planOf s place .lent)) lent
+  pub list-promised : (place : List ℕ) → planOf s place .answer .refusal ≡ 0 → ListPromised s (writtenPart (planOf s place)) lent
   list-promised place y = rw (plan-front s place y) listing-promised

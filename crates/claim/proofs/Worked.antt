@@ -14,7 +14,7 @@ use Rattle.write_spec.specs.Write.{mapFor, recordsOf, sheetOf, turnsCauses, tab
 use Rattle.lists.specs.Lists.{every, tab}
 use Rattle.model.specs.Turns.{overlapping, overlap, bySlope, oneGroomer, byGroomer, oneDriver, byDriver, conflict}
 use Rattle.instance_spec.specs.Problem.{problemOf, sheetTurns}
-use Rattle.model.specs.Steps.{isOpen, left, initial, touches, reduced, change, afterStep, afterSteps, tally}
+use Rattle.model.specs.Steps.{isOpen, left, initial, touches, lessened, change, afterStepBy, conflictTakes, afterStep, afterSteps, tally}
 use Rattle.model.specs.Pick.{sooner, better, best, pick, nextStep, planBy, plan, steps}
 use Rattle.model.specs.Choice.{chosen, fits, choose, chooseEach, back, fill, goBack, choice}
 use Rattle.model.specs.Ceiling.{inGroups, holdAll, fewestGroups, stepCost, ceiling}
@@ -31,10 +31,11 @@ use Rattle.listing_spec.specs.Text.{labelled, twoLabelled, headingOf, lineOf, l
 use Rattle.listing_spec.specs.List.{sumsFor, listingFor, sheetListing, listCauses, listOf}
 use Rattle.claim.specs.Cases.{WorkedCases}
 use Rattle.claim.specs.Further.{FurtherCases}
+use Rattle.refusal.specs.Outcome.{unless}
 
 -- both at once, so that what is opened is named once
 both : WorkedCases × FurtherCases
-unfolding insertBy sortBy numbersAtMost turnAtMost sortedTurns firstOf opensWith widthOf field turnFrom badMapFor endAt turnAt cursorAfter recordCauses firstCursor countCauses headerCauses recordsCauses turnsFrom rows garage causesFor sheetCauses turnsOf tableOf readCausesFor readFor readOf outsideRange pastShift turnCauses writtenUnless recordOf mapFor recordsOf sheetOf turnsOfTable turnsCauses tableCauses writeCauses writeOf problemOf sheetTurns overlapping overlap bySlope oneGroomer byGroomer oneDriver byDriver conflict every tab isOpen left initial touches reduced change inGroups holdAll fewestGroups stepCost ceiling afterStep afterSteps tally sooner better best pick nextStep planBy plan steps chosen fits choose chooseEach back fill goBack choice bitOf chosenIn choiceIn clearPast byteOf mapOf boardMap boardChoice stepsIn writtenSteps stepBytes boardOf badSizes malformed openOf stepsPart boardFor plannedBoard planCauses planOf decimalIn decimal startsAt startsBelow roundFrom roundOf labelled twoLabelled headingOf lineOf linesOf groomerText groomersFrom sumsLine listingOf sumsFor listingFor sheetListing listCauses listOf onesOf onesIn countOf turnChosen independent maximal noEarlier right allRight noneOpen sums choiceCauses stepCauses ruleCauses sumCauses boardCauses checkCauses checkOf
+unfolding insertBy sortBy numbersAtMost turnAtMost sortedTurns firstOf opensWith widthOf field turnFrom badMapFor endAt turnAt cursorAfter recordCauses firstCursor countCauses headerCauses recordsCauses turnsFrom rows garage causesFor sheetCauses turnsOf tableOf readCausesFor readFor readOf outsideRange pastShift turnCauses writtenUnless recordOf mapFor recordsOf sheetOf turnsOfTable turnsCauses tableCauses writeCauses writeOf problemOf sheetTurns overlapping overlap bySlope oneGroomer byGroomer oneDriver byDriver conflict every tab isOpen left initial touches lessened change afterStepBy conflictTakes inGroups holdAll fewestGroups stepCost ceiling afterStep afterSteps tally sooner better best pick nextStep planBy plan steps chosen fits choose chooseEach back fill goBack choice bitOf chosenIn choiceIn clearPast byteOf mapOf boardMap boardChoice stepsIn writtenSteps stepBytes boardOf badSizes malformed openOf stepsPart boardFor plannedBoard planCauses planOf decimalIn decimal startsAt startsBelow roundFrom roundOf labelled twoLabelled headingOf lineOf linesOf groomerText groomersFrom sumsLine listingOf sumsFor listingFor sheetListing listCauses listOf onesOf onesIn countOf turnChosen independent maximal noEarlier right allRight noneOpen sums choiceCauses stepCauses ruleCauses sumCauses boardCauses checkCauses checkOf unless
 both = (
   record {
     shift-read = refl;

@@ -54,9 +54,9 @@ pub record Claim (s b : List ℕ) : Type 0 where
   -- the planner's board of an accepted sheet passes
   pub ours : Accepted s → Passes s (plannedBoard s)
   -- the planner refuses nothing exactly if s is accepted and the lent bytes hold a board with as many steps as turns
-  pub plans : (lent : List ℕ) → (planOf s lent .refusal ≡ 0) ↔ (Accepted s × (boardLength (turnCount s) (turnCount s) ≤ length lent))
+  pub plans : (lent : List ℕ) → (planOf s lent .answer .refusal ≡ 0) ↔ (Accepted s × (boardLength (turnCount s) (turnCount s) ≤ length lent))
   -- then, whatever bytes it is lent, it returns as many bytes as its board has; the lent bytes begin with this board, and behind it hold what they held
-  pub writes : (lent : List ℕ) → planOf s lent .refusal ≡ 0 → planOf s lent ≡ wrote (plannedBoard s) lent
+  pub writes : (lent : List ℕ) → planOf s lent .answer .refusal ≡ 0 → planOf s lent ≡ wrote (plannedBoard s) lent
   -- the published algorithm returns a choice and makes steps, and whatever these are, the planner's board is theirs
   pub method-returns : Accepted s → (S : List Bool) × (xs : List Step) × Selects (sheetTurns s) S xs
   pub method : Accepted s → (S : List Bool) (xs : List Step) → Selects (sheetTurns s) S xs → ByMethod s S xs

@@ -12,7 +12,7 @@ use Rattle.check_spec.specs.declared.CheckAnswer.{CheckAnswer}
 use Rattle.instance_spec.specs.Problem.{sheetTurns}
 use Rattle.check_spec.specs.Check.{checked}
 use Rattle.plan_spec.specs.Plan.{planOf}
-use Rattle.plan_spec.specs.Answer.{planned}
+use Rattle.refusal.specs.Outcome.{beside}
 use Rattle.claim.specs.declared.Confirmed.{Confirmed}
 
 -- what planning and checking at once return, and what the lent bytes hold then
@@ -22,7 +22,7 @@ pub record Confirmation : Type 0 where
 
 -- a program's answer beside the lent bytes
 abbrev pub confirmed : Confirmed → List ℕ → Confirmation
-confirmed answer lent = record { plan = planned (answer .plan) lent; check = answer .check }
+confirmed answer lent = record { plan = beside (answer .plan) lent; check = answer .check }
 
 -- the tally, the worth and the ceiling of the planner's board of a sheet
 abbrev pub plannedSums : List ℕ → CheckAnswer
@@ -32,4 +32,4 @@ plannedSums s = checked 0 (tally (steps (sheetTurns s))) (chosen (sheetTurns s .
 unfoldable pub confirmOf : List ℕ → List ℕ → Confirmation
 confirmOf s lent =
     let p = planOf s lent in
-    record { plan = p; check = cond (eqb (p .refusal) 0) (plannedSums s) (checked (p .refusal) 0 0 0) }
+    record { plan = p; check = cond (eqb (p .answer .refusal) 0) (plannedSums s) (checked (p .answer .refusal) 0 0 0) }

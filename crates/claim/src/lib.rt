@@ -2,10 +2,10 @@
 ghost use mathlib.Core.Path.{_≡_};
 ghost use Rattle.claim.specs.Confirm.{confirmed, confirmOf};
 use check_spec::CheckAnswer;
-use plan_spec::PlanAnswer;
+use refusal::WriteAnswer;
 
 pub struct Confirmed {
-    pub plan: PlanAnswer,
+    pub plan: WriteAnswer,
     pub check: CheckAnswer,
 }
 

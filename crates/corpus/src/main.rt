@@ -1,186 +1,111 @@
-// Runs the cases of standard input through the library and prints a line for each. The cases and the
-// lines that must come are made by the independent Rust version: the head of
+// Runs the cases of standard input through the library and prints a line for each: the case's name, the
+// refusal and what else the entry returned, then all that was lent as it is after the call. The cases and
+// the lines that must come are made by the independent Rust version: the head of
 // reference/src/bin/corpus.rs says how a case is laid out.
 //
+// No contract can say what is printed. It is proved that each case runs safely to its end; what the
+// entries return is in their own contracts; and the lines are held to the file stdout.
+//
 // A further entry is an arm of run_entry, and a function in entries.rt.
+ghost use Prim.Native.Nat.{_≤_};
+ghost use lib.ListN.{length};
+
 mod entries;
-mod tools;
+mod print;
 
-use board_open::CountAnswer;
 use libc::STDIN_FILENO;
-use libc::STDOUT_FILENO;
 
-// Most bytes of a case's input, and most places of the two lent buffers.
-const MOST_INPUT: usize = 16384;
+// Bytes before a case's name.
+const HEAD: usize = 10;
 
-const MOST_NUMBERS: usize = 2560;
+// Most bytes of a case's name and input, and most places that are lent.
+const MOST_INPUT: usize = 8192;
 
-const MOST_BYTES: usize = 8192;
+const MOST_LENT: usize = 4096;
 
-// How many bytes of input follow a case's head.
-fn input_size(entry: u8, first: u16, second: u16) -> usize {
+// What each lent place holds before the call.
+const NUMBER_BEFORE: u16 = 42405;
+
+const BYTE_BEFORE: u8 = 165;
+
+// Calls the entry, which prints what it returns.
+fn run_entry(entry: u8, front: &[u8], rest: &[u8], numbers: &mut [u16], bytes: &mut [u8]) {
     match entry {
-        1 | 3 | 4 | 6 | 7 | 8 | 9 | 10 | 11 | 13 | 14 | 15 | 17 => second as usize,
-        2 => 8 + 2 * (second as usize),
-        12 => 8 + second as usize,
-        5 => first as usize + second as usize,
-        _ => 0,
+        1 => entries::read(front, &mut *numbers),
+        2 => entries::write(front, rest, &mut *bytes),
+        3 => entries::plan(front, &mut *bytes),
+        4 => entries::open(front, &mut *numbers),
+        5 => entries::check(front, rest),
+        6 => entries::list(front, &mut *bytes),
+        9 => entries::assign(front, &mut *numbers),
+        10 => entries::short(front, &mut *numbers),
+        11 => entries::best(front, &mut *bytes),
+        12 => entries::improve(front, rest, &mut *bytes),
+        13 => entries::draw(front, &mut *bytes),
+        14 => entries::keep(front, &mut *bytes),
+        15 => entries::restore(front, &mut *bytes),
+        17 => entries::charge(front, &mut *bytes),
+        _ => {}
     }
 }
 
-// How many of them are the first part: a sheet, a board, the writer's two counts, what a sheet is drawn
-// from, or a limit of visits. The rest is the board to be checked, the numbers of the writer's table, or the
-// sheet to be searched.
-fn front_size(entry: u8, first: u16, second: u16) -> usize {
-    match entry {
-        1 | 3 | 4 | 6 | 7 | 8 | 9 | 10 | 11 | 13 | 14 | 15 | 17 => second as usize,
-        2 | 12 => 8,
-        5 => first as usize,
-        _ => 0,
-    }
+// How many bytes of name and input follow a case's head.
+fn input_size(head: &[u8; HEAD]) -> usize {
+    wire::byte_at(head, 1) as usize
+        + wire::word_at(head, 6) as usize
+        + wire::word_at(head, 8) as usize
 }
 
-// How many places of the table of numbers are lent: the reader's, those of the table to be written, or
-// those for the turns' groomers.
-fn numbers_lent(entry: u8, first: u16, second: u16) -> usize {
-    match entry {
-        1 | 9 | 10 => first as usize,
-        2 => second as usize,
-        _ => 0,
-    }
-}
-
-// How many bytes are lent.
-fn bytes_lent(entry: u8, first: u16) -> usize {
-    match entry {
-        2 | 3 | 6 | 11 | 12 | 13 | 14 | 15 | 17 => first as usize,
-        _ => 0,
-    }
-}
-
-// A value, with a space before it.
-fn put(value: u64) {
-    io::write_all(STDOUT_FILENO, b" ");
-    io::print_decimal(STDOUT_FILENO, value);
-}
-
-// A case's line: the name of the entry, then the values.
-fn print_line(name: &[u8], line: entries::Line) {
-    io::write_all(STDOUT_FILENO, name);
-    put(line.refusal as u64);
-    put(line.value);
-    put(line.last as u64);
-    io::write_all(STDOUT_FILENO, b"\n");
-}
-
-fn print_read(name: &[u8], line: entries::ReadLine) {
-    io::write_all(STDOUT_FILENO, name);
-    put(line.refusal as u64);
-    put(line.groomers as u64);
-    put(line.slopes as u64);
-    put(line.turns as u64);
-    put(line.last as u64);
-    io::write_all(STDOUT_FILENO, b"\n");
-}
-
-fn print_check(line: entries::CheckLine) {
-    io::write_all(STDOUT_FILENO, b"check");
-    put(line.refusal as u64);
-    put(line.tally as u64);
-    put(line.worth as u64);
-    put(line.ceiling as u64);
-    io::write_all(STDOUT_FILENO, b"\n");
-}
-
-fn print_improve(line: entries::ImproveLine) {
-    io::write_all(STDOUT_FILENO, b"improve");
-    put(line.refusal as u64);
-    put(line.whole as u64);
-    put(line.worth as u64);
-    put(line.above as u64);
-    put(line.visits);
-    put(line.last as u64);
-    io::write_all(STDOUT_FILENO, b"\n");
-}
-
-fn print_count(line: CountAnswer) {
-    io::write_all(STDOUT_FILENO, b"count");
-    put(line.refusal as u64);
-    put(line.turns as u64);
-    io::write_all(STDOUT_FILENO, b"\n");
-}
-
-fn print_chosen(is: bool) {
-    io::write_all(STDOUT_FILENO, b"chosen");
-    put(is as u64);
-    io::write_all(STDOUT_FILENO, b"\n");
-}
-
-// Runs one case, and says whether there is such an entry.
-fn run_entry(
+// Prints the line of a case with this name.
+fn print_line(
     entry: u8,
-    first: u16,
-    front: &[u8],
-    rest: &[u8],
-    numbers: &mut [u16],
-    bytes: &mut [u8],
-) -> bool {
-    tools::fill_numbers(&mut *numbers);
-    tools::fill_bytes(&mut *bytes);
-    match entry {
-        1 => print_read(b"read", entries::read(front, &mut *numbers)),
-        2 => print_line(
-            b"write",
-            entries::write(front, rest, &mut *numbers, &mut *bytes),
-        ),
-        3 => print_line(b"plan", entries::plan(front, &mut *bytes)),
-        4 => print_line(b"open", entries::open(front)),
-        5 => print_check(entries::check(front, rest)),
-        6 => print_line(b"list", entries::list(front, &mut *bytes)),
-        7 => print_count(entries::count(front)),
-        8 => print_chosen(entries::chosen(front, first)),
-        9 => print_line(b"assign", entries::assign(front, &mut *numbers)),
-        10 => print_read(b"short", entries::short(front, &mut *numbers)),
-        11 => print_line(b"best", entries::best(front, &mut *bytes)),
-        12 => print_improve(entries::improve(front, rest, &mut *bytes)),
-        13 => print_line(b"draw", entries::draw(front, &mut *bytes)),
-        14 => print_line(b"keep", entries::keep(front, &mut *bytes)),
-        15 => print_line(b"restore", entries::restore(front, &mut *bytes)),
-        17 => print_line(b"charge", entries::charge(front, &mut *bytes)),
-        _ => {
-            return false;
-        }
-    }
-    true
-}
-
-// Runs a case whose input has been fetched; false where the case does not fit here.
-fn run_case(
-    entry: u8,
-    first: u16,
-    second: u16,
+    name: &[u8],
     input: &[u8],
+    cut: usize,
     numbers: &mut [u16],
     bytes: &mut [u8],
-) -> bool {
-    let cut = front_size(entry, first, second);
-    let end = input_size(entry, first, second);
-    let places = numbers_lent(entry, first, second);
-    let lent = bytes_lent(entry, first);
-    if input.len() < end || end < cut {
-        return false;
-    }
-    if numbers.len() < places || bytes.len() < lent {
-        return false;
-    }
+)
+    requires { ⌜ cut ≤ length (now input) ⌝ }
+{
+    print::text(name);
     run_entry(
         entry,
-        first,
         &input[..cut],
-        &input[cut..end],
+        &input[cut..],
+        &mut *numbers,
+        &mut *bytes,
+    );
+    print::numbers(&*numbers);
+    print::bytes(&*bytes);
+    print::text(b"\n");
+}
+
+// Runs a case, which is lent so many of the numbers and bytes here; false where it asks for more.
+fn run_case(head: &[u8; HEAD], input: &[u8], numbers: &mut [u16], bytes: &mut [u8]) -> bool {
+    let name = wire::byte_at(head, 1) as usize;
+    let places = wire::word_at(head, 2) as usize;
+    let lent = wire::word_at(head, 4) as usize;
+    let cut = wire::word_at(head, 6) as usize;
+    let end = name + cut + wire::word_at(head, 8) as usize;
+    if input.len() < end {
+        return false;
+    }
+    if numbers.len() < places {
+        return false;
+    }
+    if bytes.len() < lent {
+        return false;
+    }
+    let entry = head[0];
+    print_line(
+        entry,
+        &input[..name],
+        &input[name..end],
+        cut,
         &mut numbers[..places],
         &mut bytes[..lent],
-    )
+    );
+    true
 }
 
 // Fetches so many bytes of standard input to the front; false where they are not there, or do not fit.
@@ -193,22 +118,19 @@ fn fetch(buffer: &mut [u8], count: usize) -> bool {
 
 // Fetches and runs the next case; false where standard input ends, or where the case does not fit.
 fn next_case() -> bool {
-    let mut head = [0u8; 5];
-    let whole = fetch(&mut head, 5);
+    let mut head = [0u8; HEAD];
+    let whole = fetch(&mut head, HEAD);
     if !whole {
         return false;
     }
-    let entry = head[0];
-    let first = wire::word_at(&head, 1);
-    let second = wire::word_at(&head, 3);
     let mut input = [0u8; MOST_INPUT];
-    let there = fetch(&mut input, input_size(entry, first, second));
+    let there = fetch(&mut input, input_size(&head));
     if !there {
         return false;
     }
-    let mut numbers = [0u16; MOST_NUMBERS];
-    let mut bytes = [0u8; MOST_BYTES];
-    run_case(entry, first, second, &input, &mut numbers, &mut bytes)
+    let mut numbers = [NUMBER_BEFORE; MOST_LENT];
+    let mut bytes = [BYTE_BEFORE; MOST_LENT];
+    run_case(&head, &input, &mut numbers, &mut bytes)
 }
 
 // The loop has to end, and nothing says that the input does: so it counts down.

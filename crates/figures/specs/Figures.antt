@@ -130,7 +130,7 @@ pub record Figures : Type 0 where
   pub step-bytes : stepSize ≡ 4
   pub board-bytes : (n m : ℕ) → boardLength n m ≡ 15 + (n + 7) / 8 + 4 * m
   -- the planner needs the bytes of a board with as many steps as turns
-  pub planner-need : {s : List ℕ} → Bytes s → (lent : List ℕ) → (planOf s lent .refusal ≡ 0) ↔ (Accepted s × (15 + (turnCount s + 7) / 8 + 4 * turnCount s ≤ length lent))
+  pub planner-need : {s : List ℕ} → Bytes s → (lent : List ℕ) → (planOf s lent .answer .refusal ≡ 0) ↔ (Accepted s × (15 + (turnCount s + 7) / 8 + 4 * turnCount s ≤ length lent))
   -- ---- the other parts
 
   -- the lift desk's screen shows 96 turns; 64 turns are searched
@@ -176,7 +176,7 @@ pub record Figures : Type 0 where
   -- a hall's prices are sixteenths
   pub window-pays : (H : Hall) (prices : List ℕ) (t : ℕ) → windowPays H prices t ≡ draw H t * minutesCost H prices t / 16
   pub supply-costs : (H : Hall) (prices : List ℕ) → supplyCost H prices ≡ H .units * sum (minutePrice prices) (below 960) / 16
-  -- the first change is a quarter of the greatest worth, in a hall an eighth, rounded up; then it falls by a sixteenth of itself
+  -- the first change is a quarter of the greatest worth, in a hall an eighth, rounded up; from round to round it loses a sixteenth, and is never below 1
   pub first-change : (T : Turns) (groomers slopes : ℕ) → shiftStart T groomers slopes .change ≡ (greatestWorth T + 3) / 4
   pub first-hall-change : (H : Hall) (vehicles : ℕ) → hallStart H vehicles .change ≡ (greatestOf (H .windows .worth) (below (windowCount H)) + 7) / 8
   pub next-change : (change : ℕ) → nextChange change ≡ max 1 (15 * change / 16)
@@ -188,10 +188,10 @@ pub record Figures : Type 0 where
   -- ---- the factors in the promises
 
   -- without drivers no feasible set is worth more than twice the tally
-  pub factor : {T : Turns} {S : List Bool} {tallied worth limit : ℕ} → Promises T S tallied worth limit → NoDrivers T → (R : List ℕ) → Feasible T R → worthOf T R ≤ 2 * tallied
+  pub factor : {T : Turns} {S : List Bool} {tallied worth bound : ℕ} → Promises T S tallied worth bound → NoDrivers T → (R : List ℕ) → Feasible T R → worthOf T R ≤ 2 * tallied
   -- with drivers, than three times the tally, or twice where no slope has two turns
-  pub driven-factor : {T : Turns} {S : List Bool} {tallied worth limit : ℕ} → Promises T S tallied worth limit → (R : List ℕ) → Feasible T R → worthOf T R ≤ 3 * tallied
-  pub driven-one-turn : {T : Turns} {S : List Bool} {tallied worth limit : ℕ} → Promises T S tallied worth limit → OneTurnASlope T → (R : List ℕ) → Feasible T R → worthOf T R ≤ 2 * tallied
+  pub driven-factor : {T : Turns} {S : List Bool} {tallied worth bound : ℕ} → Promises T S tallied worth bound → (R : List ℕ) → Feasible T R → worthOf T R ≤ 3 * tallied
+  pub driven-one-turn : {T : Turns} {S : List Bool} {tallied worth bound : ℕ} → Promises T S tallied worth bound → OneTurnASlope T → (R : List ℕ) → Feasible T R → worthOf T R ≤ 2 * tallied
   -- no allowed set of windows is worth more than five times the hall's plan, and the units for each step of the small draws
   pub hall-factor : {H : Hall} → HallPromises H → (R : List ℕ) → Allowed H R → worthOfWindows H R ≤ 5 * hallWorth H + H .units * length (smallSteps H)
   -- ---- the refusals

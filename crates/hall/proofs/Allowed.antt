@@ -1,7 +1,7 @@
 -- Choosing windows by its cases: one window, one of a kind, and all of a list. Assumes nothing.
 use Prim.Native.Nat.{ℕ, _<_}
 use mathlib.Core.Path.{_≡_, sym, _∙_, ap}
-use mathlib.Core.Bool.{Bool, true, false, cond, _&&_}
+use mathlib.Core.Bool.{Bool, true, false, cond, _&&_, _||_}
 use mathlib.Core.List.{List}
 use native.Mathlib.Omega.{arith}
 use lib.ListN.{set, replicate}
@@ -14,25 +14,25 @@ use Rattle.choice_map.proofs.Clean.{choice-with, choice-length}
 use Rattle.instance.specs.declared.ways.Row.{Row}
 use Rattle.instance.specs.Ways.{turnRow}
 use Rattle.instance.specs.Columns.{rowIn, turnsBy}
-use Rattle.instance.proofs.Rows.{count-is, row-is}
+use Rattle.instance.proofs.Rows.{count-is, groomer-at, row-is}
 use Rattle.selection.specs.Asked.{askedTurns}
 use Rattle.selection.proofs.Numbers.{asked-room, asked-size, asked-numbers, asked-chosen, each-start, each-more, each-done}
 use Rattle.selection.proofs.Fitting.{bit-inside, room-clean}
 use Rattle.hall_spec.specs.Hall.{Hall, windowCount, vehicleFree, supplyLasts, staysAllowed}
 use Rattle.hall_spec.specs.Plan.{fitsAmong, chooseAmong}
 use Rattle.hall_steps.specs.declared.among.Among.{Among}
-use Rattle.hall_steps.specs.Among.{hallBy, ofKind, kindRow}
+use Rattle.hall_steps.specs.Among.{hallAmong, kindDraw, ofKind}
 use Rattle.hall_steps.specs.Bounds.{HallHeld}
-use Rattle.hall_steps.proofs.OneKind.{kind-is}
+use Rattle.hall.specs.OneKind.{meant}
 use Rattle.hall.specs.Supply.{allowedRow, RoomFor, WithWindow, Supplied}
 use Rattle.hall.proofs.Supplies.{row-in-hall, lasts-room, row-stays, supplied-put, supplied-none}
 
 -- ---- one window
 
-module _ (a : Among) (cols map used : List ℕ) (j : ℕ) {r : Row} {q : Bool} (held : HallHeld a cols) (l : j < a .size .count) (e : r ≡ rowIn cols j)
-    (s : Supplied (hallBy a cols) (choiceIn (a .size .count) map) used) (f : q ≡ allowedRow (a .units) used r) where
+module _ (a : Among) (cols map used : List ℕ) (j : ℕ) {r : Row} {q : Bool} (held : HallHeld (a .units) (a .size) cols) (l : j < a .size .count) (e : r ≡ rowIn cols j)
+    (s : Supplied (hallAmong a cols) (choiceIn (a .size .count) map) used) (f : q ≡ allowedRow (a .units) used r) where
   abbrev H : Hall
-  H = hallBy a cols
+  H = hallAmong a cols
 
   abbrev S : List Bool
   S = choiceIn (a .size .count) map
@@ -66,35 +66,41 @@ module _ (a : Among) (cols map used : List ℕ) (j : ℕ) {r : Row} {q : Bool} (
 
 pub ruleset allowed-cases = (row-in-hall, bit-inside, room-clean, allowed-none, allowed-room, allowed-added, allowed-supplied)
 
--- ---- one window of a kind
+-- ---- one window that is meant
 
-module _ (a : Among) (cols : List ℕ) (j : ℕ) {r : Row} {q : Bool} (l : j < a .size .count) (e : r ≡ rowIn cols j) (f : q ≡ kindRow a r) (S : List Bool) where
-  kind-of : q ≡ ofKind a cols j
-  kind-of = f ∙ rw (e, row-is (a .size) cols j l) (kind-is a cols j)
+module _ (a : Among) (any : Bool) (cols : List ℕ) (j : ℕ) {r : Row} {own : Bool} (l : j < a .size .count) (e : r ≡ rowIn cols j) (f : own ≡ kindDraw a (r .groomer)) (S : List Bool) where
+  meant-is : (any || own) ≡ meant a any cols j
+  unfolding meant ofKind
+  meant-is = rw (f, groomer-at (a .size) cols j l e)
 
-  -- what fits among the kind is what stays allowed
-  fits-is : fitsAmong (hallBy a cols) (ofKind a cols) S j ≡ (q && staysAllowed (hallBy a cols) S j)
+  -- what fits among those that are meant is what stays allowed
+  fits-is : fitsAmong (hallAmong a cols) (meant a any cols) S j ≡ ((any || own) && staysAllowed (hallAmong a cols) S j)
   unfolding fitsAmong
-  fits-is = rw kind-of
+  fits-is = rw meant-is
 
-  pub kind-added : {S′ : List Bool} → q ≡ true → S′ ≡ choose (staysAllowed (hallBy a cols)) S j → S′ ≡ choose (fitsAmong (hallBy a cols) (ofKind a cols)) S j
+  pub meant-added : {S′ : List Bool} → (any || own) ≡ true → S′ ≡ choose (staysAllowed (hallAmong a cols)) S j → S′ ≡ choose (fitsAmong (hallAmong a cols) (meant a any cols)) S j
   unfolding choose
-  kind-added g h = let z : fitsAmong (hallBy a cols) (ofKind a cols) S j ≡ staysAllowed (hallBy a cols) S j = fits-is ∙ rw g in h ∙ ap (λ (b : Bool). cond b (set S j true) S) (sym z)
+  meant-added g h = let z : fitsAmong (hallAmong a cols) (meant a any cols) S j ≡ staysAllowed (hallAmong a cols) S j = fits-is ∙ rw g in h ∙ ap (λ (b : Bool). cond b (set S j true) S) (sym z)
 
-  pub kind-none : q ≡ false → S ≡ choose (fitsAmong (hallBy a cols) (ofKind a cols)) S j
-  kind-none g = sym (choose-not (fitsAmong (hallBy a cols) (ofKind a cols)) S j (fits-is ∙ rw g))
+  pub meant-none : (any || own) ≡ false → S ≡ choose (fitsAmong (hallAmong a cols) (meant a any cols)) S j
+  meant-none g = sym (choose-not (fitsAmong (hallAmong a cols) (meant a any cols)) S j (fits-is ∙ rw g))
 
-pub ruleset kind-cases = (kind-added, kind-none)
+pub ruleset meant-cases = (meant-added, meant-none)
 
 -- ---- all windows of the list
 
 -- none chosen yet
 pub ruleset list-cases = (supplied-none, each-start, each-more, each-done)
 
+-- any window: those of the list that stay allowed
+pub any-chosen : (a : Among) (cols list : List ℕ) (n : ℕ) {S : List Bool} → S ≡ chooseEach (fitsAmong (hallAmong a cols) (meant a true cols)) list (replicate n false) → S ≡ chooseEach (staysAllowed (hallAmong a cols)) list (replicate n false)
+unfolding fitsAmong meant
+any-chosen a cols list n e = e
+
 -- going back over the steps, then filling
-pub chosen-among : (a : Among) (cols : List ℕ) (xs : List Step) {list : List ℕ} {S : List Bool} → list ≡ askedTurns (a .size .count) xs → S ≡ chooseEach (fitsAmong (hallBy a cols) (ofKind a cols)) list (replicate (a .size .count) false)
-    → S ≡ chooseAmong (hallBy a cols) (ofKind a cols) xs
-unfolding chooseAmong turnsBy
-chosen-among a cols xs e f = f ∙ rw e (asked-chosen (fitsAmong (hallBy a cols) (ofKind a cols)) (a .size .count) xs)
+pub chosen-among : (a : Among) (cols : List ℕ) (xs : List Step) {list : List ℕ} {S : List Bool} → list ≡ askedTurns (a .size .count) xs → S ≡ chooseEach (fitsAmong (hallAmong a cols) (meant a false cols)) list (replicate (a .size .count) false)
+    → S ≡ chooseAmong (hallAmong a cols) (ofKind a cols) xs
+unfolding chooseAmong turnsBy meant
+chosen-among a cols xs e f = f ∙ rw e (asked-chosen (fitsAmong (hallAmong a cols) (ofKind a cols)) (a .size .count) xs)
 
 pub ruleset both-cases = (asked-room, asked-size, asked-numbers, chosen-among)

@@ -1,16 +1,13 @@
 -- The plans and the entry's answer by their cases, each premise in the form in which the code's calls and tests leave it. Assumes nothing.
 use Prim.Native.Nat.{ℕ, _+_, _*_, _<_, _≤_}
 use mathlib.Core.Path.{_≡_, refl, sym, ap, _∙_}
-use mathlib.Core.Bool.{Bool, true, false, cond}
-use mathlib.Core.List.{List, [], _∷_, _++_, append-nil}
+use mathlib.Core.Bool.{true, false}
+use mathlib.Core.List.{List, [], _++_, append-nil}
 use native.Mathlib.Omega.{arith}
-use lib.Dec.{ltb, eqb}
 use lib.ListN.{length, drop, take, replicate, length-replicate, drop-of-length-le}
 use lib.Seq.{length-take-le}
-use borrow.Author.Tests.{ne-eqb, lt-ltb, le-ltb}
 use Rattle.refusal.specs.Number.{bufferTooSmall}
-use Rattle.refusal.specs.Cause.{Cause, _when_, firstOf}
-use Rattle.refusal.proofs.Order.{first-stops, first-goes}
+use Rattle.refusal.specs.Cause.{firstOf}
 use Rattle.wire.specs.Number.{puts}
 use Rattle.wire.proofs.Puts.{puts-front, puts-length}
 use Rattle.sheet.specs.declared.kind.Kind.{Kind}
@@ -31,19 +28,21 @@ use Rattle.instance_spec.proofs.SheetTurns.{sheet-count-for}
 use Rattle.instance.proofs.Rows.{count-is}
 use Rattle.selection.specs.Below.{chosenBelow}
 use Rattle.selection.specs.Bounds.{StepsOf}
-use Rattle.hall_spec.specs.Hall.{hallGap, Hall, windowCount}
+use Rattle.hall_spec.specs.Hall.{hallGap, Hall, windowCount, isWide, isSmall}
 use Rattle.hall_spec.specs.Plan.{chooseAmong, wideChoice, smallChoice, worthIn, hallChoice, hallWorth}
 use Rattle.hall_spec.proofs.Allowing.{chosen-length}
 use Rattle.hall_spec.proofs.Halls.{greater-first, greater-second, plan-length}
+use Rattle.shares.specs.Taking.{hallBy}
 use Rattle.hall_steps.specs.declared.among.Among.{Among}
-use Rattle.hall_steps.specs.Among.{hallBy, ofKind, stepsBy}
+use Rattle.hall_steps.specs.Among.{hallAmong, kindDraw, ofKind, stepsBy}
 use Rattle.hall_steps.specs.Bounds.{HallHeld}
 use Rattle.hall_steps.proofs.Written.{written-few, written-read, written-inside}
 use Rattle.hall_spec.specs.declared.ChargeAnswer.{ChargeAnswer}
-use Rattle.hall.specs.OneKind.{kindChoice, hallIn, HeldHall}
-use Rattle.hall_spec.specs.Charge.{chargingSheet, hallOf, chargeCauses, hallFound, hallRefused, chargeIn, chargeOf}
-use Rattle.hall_spec.specs.Answer.{charged, chargeRefused}
+use Rattle.hall.specs.OneKind.{kindChoice}
+use Rattle.hall_spec.specs.Charge.{chargingSheet, hallOf, chargeCauses, hallFound, chargeIn, chargeOf, chargeRefused}
 use Rattle.hall_spec.proofs.ChargingSheets.{charging-sound, charging-given, units-of, vehicle-of, draw-of}
+use Rattle.refusal.specs.Outcome.{beside, unless, thenRoom}
+use Rattle.refusal.proofs.Outcome.{room-stopped, room-short, room-enough, room-left}
 
 -- ---- the plan of one kind
 
@@ -51,7 +50,7 @@ use Rattle.hall_spec.proofs.ChargingSheets.{charging-sound, charging-given, uni
 abbrev stepsPlaces : ℕ
 stepsPlaces = stepSize * mostTurns
 
-module _ (a : Among) (cols : List ℕ) (held : HallHeld a cols) {m : ℕ} (e : m ≡ length (stepsBy a cols)) {l′ : List ℕ} (p : l′ ≡ puts (replicate stepsPlaces 0) 0 (stepBytes (stepsBy a cols))) where
+module _ (a : Among) (cols : List ℕ) (held : HallHeld (a .units) (a .size) cols) {m : ℕ} (e : m ≡ length (stepsBy a cols)) {l′ : List ℕ} (p : l′ ≡ puts (replicate stepsPlaces 0) 0 (stepBytes (stepsBy a cols))) where
   abbrev l : List ℕ
   l = replicate stepsPlaces 0
 
@@ -68,12 +67,12 @@ module _ (a : Among) (cols : List ℕ) (held : HallHeld a cols) {m : ℕ} (e : m
   unfolding StepsOf
   kind-steps-of = written-inside a cols held e l room p
 
-  module _ (map : List ℕ) (c : choiceIn (a .size .count) map ≡ chooseAmong (hallBy a cols) (ofKind a cols) (stepsIn m l′)) where
+  module _ (map : List ℕ) (c : choiceIn (a .size .count) map ≡ chooseAmong (hallAmong a cols) (ofKind a cols) (stepsIn m l′)) where
     choice-is : choiceIn (a .size .count) map ≡ kindChoice a cols
     unfolding kindChoice
-    choice-is = c ∙ ap (chooseAmong (hallBy a cols) (ofKind a cols)) (written-read a cols held e l room p)
+    choice-is = c ∙ ap (chooseAmong (hallAmong a cols) (ofKind a cols)) (written-read a cols held e l room p)
 
-    pub kind-worth-is : {r : ℕ} → r ≡ chosenBelow (turnsBy (a .size) cols) (choiceIn (a .size .count) map) (a .size .count) → r ≡ worthIn (hallBy a cols) (kindChoice a cols)
+    pub kind-worth-is : {r : ℕ} → r ≡ chosenBelow (turnsBy (a .size) cols) (choiceIn (a .size .count) map) (a .size .count) → r ≡ worthIn (hallAmong a cols) (kindChoice a cols)
     unfolding chosenBelow worthIn chosen
     kind-worth-is q = q ∙ rw (choice-is, count-is (a .size) cols)
 
@@ -92,25 +91,22 @@ module _ (units : ℕ) (p : Size) (cols : List ℕ) where
   small = record { units = units; size = p; wide = false }
 
   abbrev H : Hall
-  H = hallIn units p cols
+  H = hallBy units p cols
 
-  pub held-wide : HeldHall units p cols → HallHeld wide cols
-  held-wide h = record { held = h .held; gapless = h .gapless; units-from = h .units-from; units-to = h .units-to; vehicles = h .vehicles; draws = h .draws }
-
-  pub size-of : HeldHall units p cols → p .count ≤ mostTurns
+  pub size-of : HallHeld units p cols → p .count ≤ mostTurns
   size-of h = h .held .few
 
   wide-is : kindChoice wide cols ≡ wideChoice H
-  unfolding kindChoice wideChoice ofKind stepsBy
+  unfolding kindChoice wideChoice ofKind kindDraw isWide stepsBy
   wide-is = refl
 
   small-is : kindChoice small cols ≡ smallChoice H
-  unfolding kindChoice smallChoice ofKind stepsBy
+  unfolding kindChoice smallChoice ofKind kindDraw isSmall isWide stepsBy
   small-is = refl
 
   kind-length : (a : Among) → a .size ≡ p → length (mapOf (kindChoice a cols)) ≡ mapBytes (p .count)
   unfolding kindChoice chooseAmong
-  kind-length a e = map-length (kindChoice a cols) ∙ ap mapBytes (chosen-length (hallBy a cols) (ofKind a cols) (windowCount (hallBy a cols)) (stepsBy a cols) ∙ count-is (a .size) cols ∙ ap (λ (q : Size). q .count) e)
+  kind-length a e = map-length (kindChoice a cols) ∙ ap mapBytes (chosen-length (hallAmong a cols) (ofKind a cols) (windowCount (hallAmong a cols)) (stepsBy a cols) ∙ count-is (a .size) cols ∙ ap (λ (q : Size). q .count) e)
 
   -- bytes put over as many
   over : (l vs : List ℕ) → length vs ≡ length l → puts l 0 vs ≡ vs
@@ -146,25 +142,27 @@ module _ (units : ℕ) (p : Size) (cols : List ℕ) where
   pub small-room : (map own : List ℕ) → own ≡ mapOf (kindChoice small cols) → length map ≡ mapBytes (p .count) → 0 + length own ≤ length map
   small-room map own o l = omega (arith, ap length o, kind-length small refl)
 
-pub ruleset greater-cases = (held-wide, size-of, wide-worth, small-worth, wide-map, small-map)
+pub ruleset greater-cases = (size-of, wide-worth, small-worth, wide-map, small-map)
 
 -- ---- a hall's answer
 
 module _ (units : ℕ) (p : Size) (cols lent : List ℕ) {size : ℕ} (m : size ≡ mapBytes (p .count)) where
-  pub hall-small : {x : ChargeAnswer} → length lent < size → x ≡ chargeRefused bufferTooSmall → charged x lent ≡ chargeIn (hallIn units p cols) lent
-  unfolding chargeIn turnsBy
-  hall-small l h = rw (h, lt-ltb (length lent) (mapBytes (p .count)) (omega (arith, m)))
+  pub hall-small : {x : ChargeAnswer} → length lent < size → x ≡ chargeRefused bufferTooSmall → beside x lent ≡ chargeIn (hallBy units p cols) lent
+  unfolding chargeIn turnsBy firstOf
+  hall-small l h = rw h (sym (room-short [] (mapBytes (p .count)) (length lent) _ (λ k. beside (chargeRefused k) lent) refl refl (omega (arith, m))))
 
   pub hall-room : size ≤ length lent → length (take size lent) ≡ mapBytes (p .count)
   hall-room l = length-take-le size lent l ∙ m
 
-  plan-places : length (mapOf (hallChoice (hallIn units p cols))) ≡ size
-  plan-places = map-length (hallChoice (hallIn units p cols)) ∙ ap mapBytes (plan-length (hallIn units p cols) ∙ count-is p cols) ∙ sym m
+  plan-places : length (mapOf (hallChoice (hallBy units p cols))) ≡ size
+  plan-places = map-length (hallChoice (hallBy units p cols)) ∙ ap mapBytes (plan-length (hallBy units p cols) ∙ count-is p cols) ∙ sym m
 
-  pub hall-done : {worth : ℕ} {map : List ℕ} → size ≤ length lent → worth ≡ hallWorth (hallIn units p cols) → map ≡ mapOf (hallChoice (hallIn units p cols))
-      → charged (record { refusal = 0; worth = worth }) (map ++ drop size lent) ≡ chargeIn (hallIn units p cols) lent
-  unfolding chargeIn
-  hall-done l h k = rw (le-ltb (length lent) (mapBytes (turnsBy p cols .count)) (omega (arith, m, ap mapBytes (count-is p cols))), h, k, plan-places)
+  pub hall-done : {worth : ℕ} {map : List ℕ} → size ≤ length lent → worth ≡ hallWorth (hallBy units p cols) → map ≡ mapOf (hallChoice (hallBy units p cols))
+      → beside (record { refusal = 0; worth = worth }) (map ++ drop size lent) ≡ chargeIn (hallBy units p cols) lent
+  unfolding chargeIn firstOf
+  hall-done l h k =
+      let H = hallBy units p cols in
+      rw (h, k, ← plan-places) (sym (room-enough [] (mapBytes (windowCount H)) (length lent) (hallFound H lent) (λ k. beside (chargeRefused k) lent) refl refl (omega (arith, m, ap mapBytes (count-is p cols)))))
 
 pub ruleset charge-in-cases = (hall-small, hall-room, hall-done)
 
@@ -174,14 +172,9 @@ module _ (s lent : List ℕ) {K : Kind} {r : ReadAnswer} (k : K ≡ chargingShee
   own : r ≡ answerFor chargingSheet s
   own = e ∙ ap (λ (J : Kind). answerFor J s) k
 
-  abbrev after : List Cause
-  after = bufferTooSmall when ltb (length lent) (mapBytes (turnCount s)) ∷ []
-
-  pub charge-fault : {x : ChargeAnswer} → (r .refusal ≡ 0 → ⊥) → x ≡ chargeRefused (r .refusal) → charged x lent ≡ chargeOf s lent
+  pub charge-fault : {x : ChargeAnswer} → (r .refusal ≡ 0 → ⊥) → x ≡ chargeRefused (r .refusal) → beside x lent ≡ chargeOf s lent
   unfolding chargeOf chargeCauses
-  charge-fault f g =
-      let q : firstOf (causesFor chargingSheet s ++ after) ≡ r .refusal = first-stops (causesFor chargingSheet s) after (r .refusal) (sym (whole-refusal-for chargingSheet s own)) f in
-      rw (g, q, ne-eqb (r .refusal) 0 f)
+  charge-fault f g = rw g (sym (room-stopped (causesFor chargingSheet s) (mapBytes (turnCount s)) (length lent) _ (λ k. beside (chargeRefused k) lent) (r .refusal) (sym (whole-refusal-for chargingSheet s own)) f))
 
   module _ (f : r .refusal ≡ 0) where
     pub accepted : firstOf (causesFor chargingSheet s) ≡ 0
@@ -200,7 +193,7 @@ module _ (s lent : List ℕ) {K : Kind} {r : ReadAnswer} (k : K ≡ chargingShee
       turns-are : turnsBy size cols ≡ problemOf hallGap (turnsOf s)
       turns-are = rw count (w f hallGap .turns)
 
-      pub charge-held : HeldHall (r .groomers) (record { count = r .turns; gap = hallGap }) cols
+      pub charge-held : HallHeld (r .groomers) (record { count = r .turns; gap = hallGap }) cols
       charge-held =
           record {
             held = rw count (w f hallGap .held);
@@ -211,7 +204,7 @@ module _ (s lent : List ℕ) {K : Kind} {r : ReadAnswer} (k : K ≡ chargingShee
             draws = λ t l. rw (turns-are, units) (draw-of s accepted t (omega (arith, count)) .1);
           }
 
-      pub hall-is : hallIn (r .groomers) (record { count = r .turns; gap = hallGap }) cols ≡ hallOf s
+      pub hall-is : hallBy (r .groomers) (record { count = r .turns; gap = hallGap }) cols ≡ hallOf s
       unfolding hallOf
       hall-is = rw (units, turns-are)
 
@@ -219,19 +212,13 @@ module _ (s lent : List ℕ) {K : Kind} {r : ReadAnswer} (k : K ≡ chargingShee
       unfolding hallOf
       window-count = sheet-count-for chargingSheet charging-sound hallGap s accepted
 
-      causes-first : firstOf (chargeCauses s (length lent)) ≡ cond (ltb (length lent) (mapBytes (turnCount s))) bufferTooSmall 0
-      unfolding chargeCauses firstOf
-      causes-first = first-goes (causesFor chargingSheet s) after (causes-numbered chargingSheet (charging-sound .numbers) s) accepted
-
       whole : chargeIn (hallOf s) lent ≡ chargeOf s lent
-      unfolding chargeIn chargeOf
-      whole = ap (λ (n : ℕ). cond (ltb (length lent) (mapBytes n)) (hallRefused bufferTooSmall lent) (hallFound (hallOf s) lent)) window-count ∙ rw causes-first (go (ltb (length lent) (mapBytes (turnCount s))))
-        where
-          go : (c : Bool) → cond c (hallRefused bufferTooSmall lent) (hallFound (hallOf s) lent) ≡ cond (eqb (cond c bufferTooSmall 0) 0) (hallFound (hallOf s) lent) (hallRefused (cond c bufferTooSmall 0) lent)
-          go true = refl
-          go false = refl
+      unfolding chargeIn chargeOf chargeCauses
+      whole =
+          ap (λ (n : ℕ). unless (thenRoom [] (mapBytes n) (length lent)) (hallFound (hallOf s) lent) (λ k. beside (chargeRefused k) lent)) window-count
+          ∙ room-left (causesFor chargingSheet s) (mapBytes (turnCount s)) (length lent) _ (λ k. beside (chargeRefused k) lent) (causes-numbered chargingSheet (charging-sound .numbers) s) accepted
 
-      pub charge-found : {x : ChargeAnswer} {lent′ : List ℕ} → charged x lent′ ≡ chargeIn (hallIn (r .groomers) (record { count = r .turns; gap = hallGap }) cols) lent → charged x lent′ ≡ chargeOf s lent
+      pub charge-found : {x : ChargeAnswer} {lent′ : List ℕ} → beside x lent′ ≡ chargeIn (hallBy (r .groomers) (record { count = r .turns; gap = hallGap }) cols) lent → beside x lent′ ≡ chargeOf s lent
       charge-found h = h ∙ ap (λ (H : Hall). chargeIn H lent) hall-is ∙ whole
 
 pub ruleset charge-cases = (charging-given, charge-fault, charge-held, charge-found)

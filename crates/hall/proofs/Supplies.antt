@@ -143,7 +143,7 @@ pub ruleset draw-cases = (draw-start, draw-in-8, draw-fits, draw-more, draw-done
 -- ---- the places say what is used
 
 -- a row of the columns is one of the hall
-pub row-in-hall : (a : Among) (cols : List ℕ) (j : ℕ) {r : Row} → HallHeld a cols → j < a .size .count → r ≡ rowIn cols j → RowInHall (a .units) r
+pub row-in-hall : (a : Among) (cols : List ℕ) (j : ℕ) {r : Row} → HallHeld (a .units) (a .size) cols → j < a .size .count → r ≡ rowIn cols j → RowInHall (a .units) r
 row-in-hall a cols j held l e =
     record {
       units-to = held .units-to;

@@ -5,11 +5,12 @@ ghost use mathlib.Core.Bool.{false};
 ghost use lib.ListN.{length, replicate};
 ghost use Rattle.choice_map.specs.Choice.{choiceIn, mapBytes, mapOf, Clean};
 ghost use Rattle.hall_spec.specs.Plan.{hallChoice, hallWorth, worthIn};
-ghost use Rattle.hall_steps.specs.Among.{hallBy};
+ghost use Rattle.shares.specs.Taking.{hallBy};
+ghost use Rattle.hall_steps.specs.Among.{hallAmong};
 ghost use Rattle.hall_steps.specs.Bounds.{HallHeld};
-ghost use Rattle.hall.specs.OneKind.{kindChoice, hallIn, HeldHall};
-ghost use Rattle.hall_spec.specs.Charge.{chargingSheet, chargeIn, chargeOf};
-ghost use Rattle.hall_spec.specs.Answer.{charged, chargeRefused};
+ghost use Rattle.hall.specs.OneKind.{kindChoice};
+ghost use Rattle.refusal.specs.Outcome.{beside};
+ghost use Rattle.hall_spec.specs.Charge.{chargingSheet, chargeRefused, chargeIn, chargeOf};
 
 mod choosing;
 mod supply;
@@ -21,6 +22,7 @@ use hall_steps::Among;
 use instance::MOST_TURNS;
 use instance::PLACES;
 use instance::Size;
+pub use shares::HALL_GAP;
 use sheet::Kind;
 use sheet::Maps;
 use sheet::Most;
@@ -29,9 +31,6 @@ use turn::Refusals;
 
 // The most units that a hall has.
 const MOST_UNITS: u16 = 48;
-
-// The free minutes between two windows: none.
-pub const HALL_GAP: u16 = 0;
 
 // A bit for each window that a sheet can have, and steps for as many.
 const MAP_BYTES: usize = (MOST_TURNS + 7) / 8;
@@ -65,8 +64,9 @@ pub fn charging_sheet() -> Kind
 
 // The plan of one kind into a map that has none chosen; returns its worth.
 fn plan_kind(a: Among, cols: &[u16; PLACES], map: &mut [u8]) -> u32
-    requires { ⌜ HallHeld a (now cols) × Clean (a .size .count) (now map) × (choiceIn (a .size .count) (now map) ≡ replicate (a .size .count) false) ⌝ }
-    ensures { λ r. ⌜ r ≡ worthIn (hallBy a (now (cols .entry))) (kindChoice a (now (cols .entry))) ⌝ }
+    requires { ⌜ HallHeld (a .units) (a .size) (now cols) × Clean (a .size .count) (now map)
+        × (choiceIn (a .size .count) (now map) ≡ replicate (a .size .count) false) ⌝ }
+    ensures { λ r. ⌜ r ≡ worthIn (hallAmong a (now (cols .entry))) (kindChoice a (now (cols .entry))) ⌝ }
     ensures { λ _. ⌜ now (map .exit) ≡ mapOf (kindChoice a (now (cols .entry))) ⌝ }
 {
     let mut steps = [0u8; STEPS_BYTES];
@@ -78,9 +78,9 @@ fn plan_kind(a: Among, cols: &[u16; PLACES], map: &mut [u8]) -> u32
 // Plans both kinds, each into a map of its own, and copies one of them out: the wide windows' only if it earns
 // more than the other. Returns what the copied one earns.
 pub fn write_plan(units: u16, p: Size, cols: &[u16; PLACES], map: &mut [u8]) -> u32
-    requires { ⌜ HeldHall units p (now cols) × (length (now map) ≡ mapBytes (p .count)) ⌝ }
-    ensures { λ r. ⌜ r ≡ hallWorth (hallIn units p (now (cols .entry))) ⌝ }
-    ensures { λ _. ⌜ now (map .exit) ≡ mapOf (hallChoice (hallIn units p (now (cols .entry)))) ⌝ }
+    requires { ⌜ HallHeld units p (now cols) × (length (now map) ≡ mapBytes (p .count)) ⌝ }
+    ensures { λ r. ⌜ r ≡ hallWorth (hallBy units p (now (cols .entry))) ⌝ }
+    ensures { λ _. ⌜ now (map .exit) ≡ mapOf (hallChoice (hallBy units p (now (cols .entry)))) ⌝ }
 {
     let size = map.len();
     let mut first = [0u8; MAP_BYTES];
@@ -124,8 +124,8 @@ fn refused(k: u8) -> ChargeAnswer
 
 // The worth of a hall's plan, and its map into any lent bytes.
 fn answer(units: u16, p: Size, cols: &[u16; PLACES], map: &mut [u8]) -> ChargeAnswer
-    requires { ⌜ HeldHall units p (now cols) ⌝ }
-    ensures { λ r. ⌜ charged r (now (map .exit)) ≡ chargeIn (hallIn units p (now (cols .entry))) (now (map .entry)) ⌝ }
+    requires { ⌜ HallHeld units p (now cols) ⌝ }
+    ensures { λ r. ⌜ beside r (now (map .exit)) ≡ chargeIn (hallBy units p (now (cols .entry))) (now (map .entry)) ⌝ }
 {
     let size = choice_map::map_bytes(p.count as u16);
     if map.len() < size {
@@ -140,7 +140,7 @@ fn answer(units: u16, p: Size, cols: &[u16; PLACES], map: &mut [u8]) -> ChargeAn
 
 // Plans any bytes as a charging sheet: the worth of the hall's plan, and its choice map into any lent bytes.
 pub fn charge(s: &[u8], map: &mut [u8]) -> ChargeAnswer
-    ensures { λ r. ⌜ charged r (now (map .exit)) ≡ chargeOf (now (s .entry)) (now (map .entry)) ⌝ }
+    ensures { λ r. ⌜ beside r (now (map .exit)) ≡ chargeOf (now (s .entry)) (now (map .entry)) ⌝ }
 {
     let mut cols = [0u16; PLACES];
     let mut room = [0u16; PLACES];

@@ -12,8 +12,8 @@ pub const MOST_VEHICLES: u16 = 60;
 
 pub const USED: usize = MINUTES + MOST_VEHICLES as usize + 1;
 
-// Whether at each of a window's minutes the supply has its draw left. There is no way out before the last:
-// the minutes are gone through many at a time.
+// Whether the supply has the window's draw left at each of its minutes. No early exit, so that the loop
+// vectorises.
 fn lasts(units: u16, used: &[u8; USED], r: Row) -> bool
     requires { ⌜ RowInHall units r ⌝ }
     ensures { λ q. ⌜ q ≡ lastsRow units (now (used .entry)) r ⌝ }
@@ -43,7 +43,7 @@ pub fn is_allowed(units: u16, used: &[u8; USED], r: Row) -> bool
     lasts(units, used, r)
 }
 
-// A window draws at its minutes.
+// Adds a window's draw at each of its minutes.
 fn draw_row(used: &mut [u8; USED], units: u16, r: Row)
     requires { ⌜ RowInHall units r × RoomFor units (now used) r × (length (now used) ≡ usedPlaces) ⌝ }
     ensures { λ _. ⌜ Drawn (r .start) (r .groomer) (r .end) (now (used .entry)) (now (used .exit)) ⌝ }
@@ -59,7 +59,7 @@ fn draw_row(used: &mut [u8; USED], units: u16, r: Row)
     }
 }
 
-// A window is chosen besides.
+// Puts down that a window is chosen: its draw at its minutes, and its vehicle.
 pub fn use_row(used: &mut [u8; USED], units: u16, r: Row)
     requires { ⌜ RowInHall units r × RoomFor units (now used) r × (length (now used) ≡ usedPlaces) ⌝ }
     ensures { λ _. ⌜ WithWindow r (now (used .entry)) (now (used .exit)) ⌝ }

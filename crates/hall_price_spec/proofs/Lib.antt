@@ -1,5 +1,4 @@
 pub mod HallLimits
-pub mod LastCause
 pub mod LimitCauses
 pub mod Promised
 pub mod Chosen

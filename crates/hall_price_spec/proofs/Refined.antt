@@ -2,15 +2,14 @@
 use Prim.Native.Nat.{ℕ, _≤_, _<_}
 use mathlib.Core.Path.{_≡_, sym, ap, _∙_}
 use mathlib.Core.Logic.{_≢_}
-use mathlib.Core.Bool.{false}
 use mathlib.Core.List.{List}
 use native.Mathlib.Omega.{arith}
-use lib.Dec.{ltb}
 use lib.ListN.{length, drop}
 use lib.Seq.{take-at, drop-at}
-use borrow.Author.Tests.{le-ltb}
-use Rattle.refusal.specs.Number.{bufferTooSmall}
-use Rattle.refusal.specs.Cause.{_when_, firstOf}
+use Rattle.refusal.specs.Cause.{firstOf}
+use Rattle.refusal.proofs.Outcome.{enough-iff}
+use Rattle.sheet.proofs.Readings.{causes-numbered}
+use Rattle.hall_spec.proofs.ChargingSheets.{charging-sound}
 use Rattle.turn.specs.Turn.{shiftMinutes}
 use Rattle.sheet.specs.Read.{countsIn, turnCount, causesFor}
 use Rattle.refusal.specs.Written.{atFront}
@@ -27,7 +26,6 @@ use Rattle.hall_price_spec.specs.Hall.{hallRefined}
 use Rattle.hall_price_spec.specs.Limit.{sheetHallLimit, chargeLimitOf}
 use Rattle.hall_price_spec.specs.Refine.{ChargeRefinement, chargeRefineCauses, chargeRefinement, chargeRefineOf}
 use Rattle.hall_price_spec.specs.Promises.{refinedMap, refinedWindows, refinedMinutes, ChargeRefinePromised}
-use Rattle.hall_price_spec.proofs.LastCause.{clear-last}
 use Rattle.hall_price_spec.proofs.LimitCauses.{charge-limit-is}
 use Rattle.hall_price_spec.proofs.Promised.{window-count, vehicle-numbers}
 use Rattle.hall_price_spec.proofs.RefineCauses.{refine-clear, charge-refine-number, charge-refine-answers}
@@ -75,11 +73,11 @@ module _ (s : List ℕ) (rounds : ℕ) (map prices : List ℕ) (e : chargeRefine
   sound = clear .0
 
   -- the plan of the hall is not refused either
-  plan-worth : chargeOf s map .worth ≡ hallWorth H
+  plan-worth : chargeOf s map .answer .worth ≡ hallWorth H
   unfolding chargeCauses
   plan-worth =
-      let few : ltb (length map) (mapBytes (turnCount s)) ≡ false = le-ltb (length map) (mapBytes (turnCount s)) (clear .1) in
-      ap (λ (x : Charged). x .worth) (charge-answers s map (charge-number s map ∙ clear-last s (bufferTooSmall when ltb (length map) (mapBytes (turnCount s))) sound few))
+      ap (λ (x : Charged). x .answer .worth)
+      (charge-answers s map (charge-number s map ∙ enough-iff (causesFor chargingSheet s) (length map) (mapBytes (turnCount s)) (causes-numbered chargingSheet (charging-sound .numbers) s) .1 (sound, clear .1)))
 
   -- ---- what is written
 

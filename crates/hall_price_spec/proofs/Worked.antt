@@ -8,6 +8,7 @@ use lib.Dec.{leb}
 use lib.ListN.{length, replicate}
 use borrow.Author.Tests.{leb-true}
 use Rattle.refusal.specs.Cause.{firstOf}
+use Rattle.refusal.specs.Outcome.{unless}
 use Rattle.wire.specs.Mark.{opensWith}
 use Rattle.turn.specs.Turn.{shiftMinutes, outsideRange, pastShift, turnCauses}
 use Rattle.sheet.specs.Record.{widthOf, field, turnFrom, badMapFor, endAt, turnAt, cursorAfter, recordCauses, firstCursor}
@@ -18,7 +19,7 @@ use Rattle.lists.specs.Lists.{every, tab}
 use Rattle.lists.proofs.Bools.{every-at}
 use Rattle.lists.specs.Sorting.{insertBy, sortBy}
 use Rattle.model.specs.Turns.{overlapping, overlap, bySlope, oneGroomer, byGroomer, oneDriver, byDriver, conflict}
-use Rattle.model.specs.Steps.{isOpen, left, initial, reduced, lessened, change, afterStep, afterStepBy}
+use Rattle.model.specs.Steps.{isOpen, left, initial, lessened, change, afterStepBy, conflictTakes, afterStep}
 use Rattle.model.specs.Pick.{sooner, better, best, pick, nextStep, planBy, plan, steps}
 use Rattle.model.specs.Choice.{chosen, choose, chooseEach, back, fill}
 use Rattle.best_spec.specs.Table.{greater, isAmong}
@@ -38,7 +39,7 @@ use Rattle.hall_price_spec.proofs.RefineCauses.{charge-refine-answers}
 use Rattle.hall_price_spec.proofs.Fronts.{OverBy, lengthened, wholeList, frontRule, frontStart, front-refined}
 
 pub hall-limit-cases : HallLimitCases
-unfolding firstOf opensWith outsideRange pastShift turnCauses widthOf field turnFrom badMapFor endAt turnAt cursorAfter recordCauses firstCursor countCauses headerCauses recordsCauses turnsFrom causesFor turnsOf problemOf greater chargesAt hallWith chargingSheet hallOf minutePrice minutesCost windowPays windowCounts richestOf vehicleBest supplyCost hallLimit chargeLimitCauses sheetHallLimit chargeLimitOf tenUnits
+unfolding firstOf opensWith outsideRange pastShift turnCauses widthOf field turnFrom badMapFor endAt turnAt cursorAfter recordCauses firstCursor countCauses headerCauses recordsCauses turnsFrom causesFor turnsOf problemOf greater chargesAt hallWith chargingSheet hallOf minutePrice minutesCost windowPays windowCounts richestOf vehicleBest supplyCost hallLimit chargeLimitCauses sheetHallLimit chargeLimitOf tenUnits unless
 hall-limit-cases =
     record {
       free = refl;
@@ -86,7 +87,7 @@ module _ (s : List ℕ) (n : ℕ) (short : n ≤ shiftMinutes) (ends : every (λ
       charge-refine-answers s rounds map prices clear ∙ ap (λ (x : Stage). chargeRefinement x map prices) (front-refined (hallOf s) vehicles n short (over (hallOf s) vehicles n short ends) rounds) ∙ e
 
 pub hall-round-cases : HallRoundCases
-unfolding firstOf opensWith outsideRange pastShift turnCauses widthOf field turnFrom badMapFor endAt turnAt cursorAfter recordCauses firstCursor countCauses headerCauses recordsCauses turnsFrom causesFor turnsOf every tab insertBy sortBy overlapping overlap bySlope oneGroomer byGroomer oneDriver byDriver conflict isOpen left initial reduced lessened change afterStep afterStepBy sooner better best pick nextStep planBy plan steps chosen choose chooseEach back fill greater isAmong keep sameVehicle shareMinute chargesAt drawAt wideDraw isWide isSmall drawnAt vehicleFree supplyLasts staysAllowed turnsAmong wideSteps roundedUp smallTakes smallSteps fitsAmong chooseAmong wideChoice smallChoice worthIn greaterOf hallChoice hallWith oneUnit twelveUnits startFrom lowerLimit betterChoice looked nextChange moving refined greatestOf firstChange poorerFirst byWorth choiceFrom chargingSheet minutePrice minutesCost windowPays windowCounts richestOf vehicleBest supplyCost hallLimit hallRelaxed movedMinute chargeRefineCauses chargeRefinement chargeRefineOf threeUnits problemOf hallOf byteOf mapOf
+unfolding firstOf opensWith outsideRange pastShift turnCauses widthOf field turnFrom badMapFor endAt turnAt cursorAfter recordCauses firstCursor countCauses headerCauses recordsCauses turnsFrom causesFor turnsOf every tab insertBy sortBy overlapping overlap bySlope oneGroomer byGroomer oneDriver byDriver conflict isOpen left initial lessened change afterStepBy conflictTakes afterStep sooner better best pick nextStep planBy plan steps chosen choose chooseEach back fill greater isAmong keep sameVehicle shareMinute chargesAt drawAt wideDraw isWide isSmall drawnAt vehicleFree supplyLasts staysAllowed turnsAmong wideSteps roundedUp smallTakes smallSteps fitsAmong chooseAmong wideChoice smallChoice worthIn greaterOf hallChoice hallWith oneUnit twelveUnits startFrom lowerLimit betterChoice looked nextChange moving refined greatestOf firstChange poorerFirst byWorth choiceFrom chargingSheet minutePrice minutesCost windowPays windowCounts richestOf vehicleBest supplyCost hallLimit hallRelaxed movedMinute chargeRefineCauses chargeRefinement chargeRefineOf threeUnits problemOf hallOf byteOf mapOf unless
 hall-round-cases =
     record {
       rises = refl;

@@ -48,7 +48,7 @@ pub record ChargeRefinePromised (s : List ℕ) (rounds : ℕ) (map prices : List
   pub map-is : refinedMap s rounds map prices ≡ mapOf (refinedWindows s rounds map prices)
   pub worth-is : worthIn (hallOf s) (refinedWindows s rounds map prices) ≡ chargeRefineOf s rounds map prices .worth
   -- that is no less than what the hall's plan is worth
-  pub no-less : chargeOf s map .worth ≤ chargeRefineOf s rounds map prices .worth
+  pub no-less : chargeOf s map .answer .worth ≤ chargeRefineOf s rounds map prices .worth
   -- the limit is what the limit's entry gives for the written prices
   pub limit-is : chargeLimitOf s (refinedMinutes s rounds map prices) ≡ limitIs (chargeRefineOf s rounds map prices .limit)
   -- no allowed set is worth more than the limit; the written one is not

@@ -1,15 +1,16 @@
 -- The hall by rounds as an entry: any bytes as a charging sheet, any number of rounds, lent bytes for the choice map and lent numbers for the price list (request P-3). Assumes nothing.
 use Prim.Native.Nat.{ℕ, _<_}
-use mathlib.Core.Bool.{cond, _||_}
+use mathlib.Core.Bool.{_||_}
 use mathlib.Core.List.{List, [], _∷_, _++_}
 use lib.ListN.{length}
-use lib.Dec.{ltb, eqb}
+use lib.Dec.{ltb}
 use Rattle.refusal.specs.Number.{bufferTooSmall}
-use Rattle.refusal.specs.Cause.{Cause, _when_, firstOf, FirstAmong}
+use Rattle.refusal.specs.Cause.{Cause, _when_, FirstAmong}
+use Rattle.refusal.specs.Outcome.{unless}
 use Rattle.turn.specs.Turn.{shiftMinutes}
 use Rattle.sheet.specs.Read.{countsIn, turnCount, causesFor}
 use Rattle.refusal.specs.Written.{atFront}
-use Rattle.sheet.specs.Accepted.{CauseFor, placeOf}
+use Rattle.sheet.specs.Accepted.{MoreCauseFor}
 use Rattle.choice_map.specs.Choice.{mapBytes, mapOf}
 use Rattle.hall_spec.specs.Charge.{chargingSheet, hallOf}
 use Rattle.refine_spec.specs.Rounds.{Stage}
@@ -40,16 +41,18 @@ notChargeRefined k map prices = record { refusal = k; worth = 0; limit = 0; roun
 -- for a charging sheet, unless a cause is there
 unfoldable pub chargeRefineOf : List ℕ → ℕ → List ℕ → List ℕ → ChargeRefinement
 chargeRefineOf s rounds map prices =
-    let f = firstOf (chargeRefineCauses s (length map) (length prices)) in
-    cond (eqb f 0) (chargeRefinement (hallRefined (hallOf s) (countsIn s .slopes) rounds) map prices) (notChargeRefined f map prices)
+    unless (chargeRefineCauses s (length map) (length prices)) (chargeRefinement (hallRefined (hallOf s) (countsIn s .slopes) rounds) map prices) (λ k. notChargeRefined k map prices)
 
 -- ---- as statements
 
--- a cause to refuse is there: its number, and its place in the order
-pub data ChargeRefineCause (s : List ℕ) (bytes numbers : ℕ) : ℕ → ℕ → Type 0 where
-  of-sheet : {k r : ℕ} → CauseFor chargingSheet s k r → ChargeRefineCause s bytes numbers k r
-  few-bytes : bytes < mapBytes (turnCount s) → ChargeRefineCause s bytes numbers bufferTooSmall (placeOf (turnCount s) 1)
-  few-prices : numbers < shiftMinutes → ChargeRefineCause s bytes numbers bufferTooSmall (placeOf (turnCount s) 1)
+-- one of the lent places is too short
+pub data HallPlacesFail (s : List ℕ) (bytes numbers : ℕ) : Type 0 where
+  few-bytes : bytes < mapBytes (turnCount s) → HallPlacesFail s bytes numbers
+  few-prices : numbers < shiftMinutes → HallPlacesFail s bytes numbers
+
+-- a cause to refuse is there, at its place in the order: the sheet's, then a lent place that is too short
+abbrev pub ChargeRefineCause : List ℕ → ℕ → ℕ → ℕ → ℕ → Type 0
+ChargeRefineCause s bytes numbers = MoreCauseFor chargingSheet s bufferTooSmall (HallPlacesFail s bytes numbers)
 
 -- the first of them has number k
 abbrev pub FirstChargeRefineCause : List ℕ → ℕ → ℕ → ℕ → Type 0

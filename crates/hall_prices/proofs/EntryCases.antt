@@ -10,6 +10,7 @@ use borrow.Author.Tests.{eq-eqb, ne-eqb}
 use Rattle.refusal.specs.Number.{badPrices}
 use Rattle.refusal.specs.Cause.{Cause, _when_, firstOf}
 use Rattle.refusal.proofs.Order.{first-stops, first-goes}
+use Rattle.refusal.proofs.Outcome.{unless-first, unless-none}
 use Rattle.turn.specs.Turn.{shiftMinutes}
 use Rattle.sheet.specs.declared.kind.Kind.{Kind}
 use Rattle.sheet.specs.declared.answer.ReadAnswer.{ReadAnswer}
@@ -25,8 +26,8 @@ use Rattle.price_spec.specs.declared.LimitAnswer.{LimitAnswer}
 use Rattle.price_spec.specs.Limit.{limitIs, limitRefused}
 use Rattle.hall_price_spec.specs.Prices.{hallLimit}
 use Rattle.hall_price_spec.specs.Limit.{chargeLimitCauses, sheetHallLimit, chargeLimitOf}
-use Rattle.hall_prices.specs.declared.HallSize.{HallSize}
-use Rattle.hall_prices.specs.Held.{hallFor, HallPosed}
+use Rattle.hall_look.specs.declared.HallSize.{HallSize}
+use Rattle.hall_look.specs.Look.{hallFor, HallPosed}
 
 -- ---- a sheet that is not refused
 
@@ -60,7 +61,7 @@ module _ (s prices : List ℕ) {K : Kind} {r : ReadAnswer} (k : K ≡ chargingSh
 
   declines : (n : ℕ) → firstOf (chargeLimitCauses s prices) ≡ n → (n ≡ 0 → ⊥) → chargeLimitOf s prices ≡ limitRefused n
   unfolding chargeLimitOf
-  declines n f z = rw (f, ne-eqb n 0 z)
+  declines n f z = unless-first (chargeLimitCauses s prices) (limitIs (sheetHallLimit s prices)) limitRefused n f z
 
   pub limit-fault : {x : LimitAnswer} → (r .refusal ≡ 0 → ⊥) → x ≡ limitRefused (r .refusal) → x ≡ chargeLimitOf s prices
   unfolding chargeLimitCauses
@@ -78,7 +79,6 @@ module _ (s prices : List ℕ) {K : Kind} {r : ReadAnswer} (k : K ≡ chargingSh
         x ≡ hallLimit (hallFor (record { units = r .groomers; vehicles = r .slopes; size = record { count = r .turns; gap = hallGap } }) cols) (r .slopes) prices → limitIs x ≡ chargeLimitOf s prices
     unfolding chargeLimitOf sheetHallLimit
     limit-found cols w l h =
-        rw (later (eq-eqb (length prices) shiftMinutes l))
-        (ap limitIs (h ∙ rw (hall-for s k e f cols w, vehicles-are s k e f)))
+        ap limitIs (h ∙ rw (hall-for s k e f cols w, vehicles-are s k e f)) ∙ sym (unless-none (chargeLimitCauses s prices) (limitIs (sheetHallLimit s prices)) limitRefused (later (eq-eqb (length prices) shiftMinutes l)))
 
 pub ruleset limit-cases = (charging-given, hall-posed, limit-fault, limit-other, limit-found)

@@ -1,43 +1,47 @@
 -- The rounds' entry by its cases, each premise in the form in which the code's calls and tests leave it. Assumes nothing.
 use Prim.Native.Nat.{ℕ, _≤_, _<_}
-use mathlib.Core.Path.{_≡_, sym, ap, _∙_}
+use mathlib.Core.Path.{_≡_, refl, sym, ap, _∙_}
 use mathlib.Core.Bool.{Bool, false, cond, _||_}
 use mathlib.Core.List.{List, [], _∷_, _++_}
 use native.Mathlib.Omega.{arith}
 use lib.Dec.{ltb}
-use lib.ListN.{length, take, drop}
+use lib.ListN.{length, take, drop, replicate}
 use lib.Seq.{length-take-le}
-use borrow.Author.Tests.{lt-ltb, le-ltb, ne-eqb}
+use borrow.Author.Tests.{lt-ltb, le-ltb}
 use Rattle.lists.proofs.Bools.{or-1, or-2}
 use Rattle.refusal.specs.Number.{bufferTooSmall}
 use Rattle.refusal.specs.Cause.{Cause, _when_, firstOf}
 use Rattle.refusal.proofs.Order.{first-stops, first-goes}
+use Rattle.refusal.proofs.Outcome.{unless-first, unless-none}
 use Rattle.turn.specs.Turn.{shiftMinutes}
 use Rattle.sheet.specs.declared.kind.Kind.{Kind}
 use Rattle.sheet.specs.declared.answer.ReadAnswer.{ReadAnswer}
-use Rattle.sheet.specs.Read.{turnCount, causesFor, answerFor}
+use Rattle.sheet.specs.Read.{countsIn, turnCount, causesFor, answerFor}
 use Rattle.sheet.proofs.Readings.{causes-numbered}
 use Rattle.sheet.proofs.Whole.{whole-refusal-for}
 use Rattle.choice_map.specs.Choice.{mapBytes, choiceIn, mapOf, Clean}
 use Rattle.choice_map.proofs.Clean.{clean-map, map-choice, map-clean}
+use Rattle.instance.specs.Columns.{columnPlaces, turnsBy}
 use Rattle.instance.specs.Load.{PosedFor}
 use Rattle.instance.proofs.Rows.{count-is}
 use Rattle.hall_spec.specs.Hall.{hallGap}
 use Rattle.hall_spec.specs.Plan.{hallChoice, hallWorth, worthIn}
 use Rattle.hall_spec.proofs.Halls.{plan-length}
-use Rattle.hall_spec.specs.Charge.{chargingSheet}
+use Rattle.hall_spec.specs.Charge.{chargingSheet, hallOf}
 use Rattle.hall_spec.proofs.ChargingSheets.{charging-sound, charging-given}
 use Rattle.hall.proofs.Charges.{accepted, count}
-use Rattle.refine_spec.specs.Rounds.{Stage}
-use Rattle.price_rounds.specs.declared.lowest.Reached.{Reached}
-use Rattle.price_rounds.specs.Held.{Reaches}
+use Rattle.refine_spec.specs.Rounds.{Rule, Stage, startFrom, refined, firstChange}
+use Rattle.refine_spec.specs.Shift.{greatestWorth}
+use Rattle.price_rule.specs.declared.RuleFor.the-variants.{Hall}
+use Rattle.price_rule.specs.Rules.{sizeOf, pricesOf, changeOf, limitOf, relaxedOf, fitsOf, movedOf, choiceOf, worthOf, ruleOf, RulePosed}
+use Rattle.price_rounds.specs.declared.Reached.{Reached}
+use Rattle.price_rounds.specs.Rounds.{roundsFrom, Reaches, RoundsStart}
 use Rattle.hall_price_spec.specs.declared.ChargeRefineAnswer.{ChargeRefineAnswer}
-use Rattle.hall_price_spec.specs.Hall.{hallStart, hallRefined}
+use Rattle.hall_price_spec.specs.Hall.{hallRule, hallStart, hallRefined}
 use Rattle.hall_price_spec.specs.Refine.{chargeRefineCauses, chargeRefinement, notChargeRefined, chargeRefineOf}
 use Rattle.hall_price_spec.specs.Answer.{chargeRefinedBy, chargeRefineRefused}
-use Rattle.hall_prices.specs.declared.HallSize.{HallSize}
-use Rattle.hall_prices.specs.Held.{hallFor, HallPosed}
-use Rattle.hall_prices.specs.Stages.{roundsFrom, HallStarts}
+use Rattle.hall_look.specs.declared.HallSize.{HallSize}
+use Rattle.hall_look.specs.Look.{hallFor, HallPosed}
 use Rattle.hall_prices.proofs.EntryCases.{own, vehicles-are, hall-posed, hall-for}
 
 -- ---- the rounds from the hall's plan
@@ -52,14 +56,24 @@ module _ (h : HallSize) (cols : List ℕ) {map : List ℕ} (m : map ≡ mapOf (h
   plan-clean : Clean (h .size .count) map
   plan-clean = let c : Clean (length (hallChoice (hallFor h cols))) (mapOf (hallChoice (hallFor h cols))) = map-clean (hallChoice (hallFor h cols)) in rw m (rw plan-size at c)
 
-  pub plan-starts : (rounds : ℕ) (list : List ℕ) {worth : ℕ} → HallPosed h cols → worth ≡ hallWorth (hallFor h cols) → length list ≡ shiftMinutes → HallStarts (record { hall = h; rounds = rounds; worth = worth }) cols list map
-  unfolding hallWorth
-  plan-starts rounds list q w l = record { posed = q; places = l; clean = plan-clean; worth-is = w ∙ ap (worthIn (hallFor h cols)) (sym plan-choice) }
+  pub plan-starts : (rounds : ℕ) (list room : List ℕ) {worth : ℕ} → HallPosed h cols → worth ≡ hallWorth (hallFor h cols) → length list ≡ shiftMinutes → length room ≡ columnPlaces
+      → RoundsStart (record { rule = Hall h; rounds = rounds; worth = worth }) cols list map room
+  unfolding hallWorth worthIn worthOf sizeOf pricesOf RulePosed
+  plan-starts rounds list room q w l p = record { posed = q; prices = l; clean = plan-clean; worth-is = w ∙ ap (worthIn (hallFor h cols)) (sym plan-choice); places = p }
 
-  pub plan-reaches : (rounds : ℕ) {r : Reached} {list map′ : List ℕ} → Reaches (h .size .count) (roundsFrom (hallFor h cols) (h .vehicles) rounds (choiceIn (h .size .count) map)) r list map′
+  -- the rule that the functions compute is the hall's
+  rule-is : ruleOf (Hall h) cols ≡ hallRule (hallFor h cols) (h .vehicles)
+  unfolding ruleOf limitOf relaxedOf fitsOf movedOf choiceOf worthOf sizeOf hallRule worthIn
+  rule-is = refl
+
+  rounds-are : (rounds : ℕ) → roundsFrom (Hall h) cols rounds (hallChoice (hallFor h cols)) ≡ hallRefined (hallFor h cols) (h .vehicles) rounds
+  unfolding roundsFrom changeOf pricesOf hallRefined hallStart greatestWorth
+  rounds-are rounds = ap (λ (R : Rule). refined R rounds (startFrom R (firstChange 8 (greatestWorth (turnsBy (h .size) cols))) (replicate shiftMinutes 0) (hallChoice (hallFor h cols)))) rule-is
+
+  pub plan-reaches : (rounds : ℕ) {r : Reached} {list map′ : List ℕ} → Reaches (sizeOf (Hall h) .count) (roundsFrom (Hall h) cols rounds (choiceIn (sizeOf (Hall h) .count) map)) r list map′
       → Reaches (h .size .count) (hallRefined (hallFor h cols) (h .vehicles) rounds) r list map′
-  unfolding roundsFrom hallRefined hallStart
-  plan-reaches rounds z = rw plan-choice at z
+  unfolding sizeOf
+  plan-reaches rounds z = rw (sym (rounds-are rounds)) (rw plan-choice at z)
 
 pub ruleset plan-cases = (plan-starts, plan-reaches)
 
@@ -102,7 +116,7 @@ module _ (s : List ℕ) (rounds : ℕ) (map prices : List ℕ) {K : Kind} {r : R
 
   declines : (n : ℕ) → firstOf (chargeRefineCauses s (length map) (length prices)) ≡ n → (n ≡ 0 → ⊥) → chargeRefineOf s rounds map prices ≡ notChargeRefined n map prices
   unfolding chargeRefineOf
-  declines n f z = rw (f, ne-eqb n 0 z)
+  declines n f z = unless-first (chargeRefineCauses s (length map) (length prices)) _ (λ k. notChargeRefined k map prices) n f z
 
   pub refine-fault : {x : ChargeRefineAnswer} → (r .refusal ≡ 0 → ⊥) → x ≡ chargeRefineRefused (r .refusal) → chargeRefinedBy x map prices ≡ chargeRefineOf s rounds map prices
   unfolding chargeRefineCauses
@@ -129,6 +143,6 @@ module _ (s : List ℕ) (rounds : ℕ) (map prices : List ℕ) {K : Kind} {r : R
     refine-done cols w m l p z =
         let none : (ltb (length map) (mapBytes (turnCount s)) || ltb (length prices) shiftMinutes) ≡ false =
         rw (le-ltb (length map) (mapBytes (turnCount s)) (omega (arith, m, windows-are)), le-ltb (length prices) shiftMinutes p) in
-        z ∙ rw (later none, hall-for s k e f cols w, vehicles-are s k e f)
+        z ∙ rw (unless-none (chargeRefineCauses s (length map) (length prices)) (chargeRefinement (hallRefined (hallOf s) (countsIn s .slopes) rounds) map prices) (λ k. notChargeRefined k map prices) (later none), hall-for s k e f cols w, vehicles-are s k e f)
 
 pub ruleset refine-cases = (charging-given, hall-posed, refine-fault, refine-short, refine-few, refine-done)

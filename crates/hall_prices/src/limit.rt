@@ -2,10 +2,8 @@
 ghost use mathlib.Core.Path.{_≡_};
 ghost use Rattle.price_spec.specs.Limit.{limitRefused};
 ghost use Rattle.hall_price_spec.specs.Limit.{chargeLimitOf};
-use super::HallSize;
-use super::looking::VEHICLES;
-use super::looking::look;
-use super::sums::MINUTES;
+use hall_look::HallSize;
+use hall_look::MINUTES;
 use instance::PLACES;
 use instance::Size;
 use price_spec::LimitAnswer;
@@ -41,10 +39,8 @@ pub fn charge_limit(s: &[u8], prices: &[u16]) -> LimitAnswer
             gap: hall::HALL_GAP,
         },
     };
-    let mut most = [0u16; VEHICLES];
-    let mut taken = [0u16; VEHICLES];
     LimitAnswer {
         refusal: 0,
-        limit: look(h, &cols, prices, &mut most, &mut taken),
+        limit: hall_look::limit_at(h, &cols, prices),
     }
 }

@@ -4,38 +4,41 @@ ghost use Prim.Native.Nat.{_≤_};
 ghost use lib.ListN.{length};
 ghost use Rattle.turn.specs.Turn.{shiftMinutes};
 ghost use Rattle.choice_map.specs.Choice.{mapBytes};
-ghost use Rattle.price_rounds.specs.Held.{Reaches};
+ghost use Rattle.instance.specs.Columns.{columnPlaces};
+ghost use Rattle.price_rounds.specs.Rounds.{Reaches};
 ghost use Rattle.hall_price_spec.specs.Hall.{hallRefined};
 ghost use Rattle.hall_price_spec.specs.Refine.{chargeRefinement, chargeRefineOf};
 ghost use Rattle.hall_price_spec.specs.Answer.{chargeRefinedBy, chargeRefineRefused};
-ghost use Rattle.hall_prices.specs.Held.{hallFor, HallPosed};
-use super::HallSize;
-use super::rounds::HallTask;
-use super::rounds::make_rounds;
-use super::sums::MINUTES;
+ghost use Rattle.hall_look.specs.Look.{hallFor, HallPosed};
+use hall_look::HallSize;
+use hall_look::MINUTES;
 use hall_price_spec::ChargeRefineAnswer;
 use instance::PLACES;
 use instance::Size;
 use price_rounds::Reached;
+use price_rounds::Start;
+use price_rounds::hall_rounds;
 
-// Plans the hall into a map, and makes the rounds from that choice.
+// Plans the hall into a map, and makes the rounds from that choice. The room is lent because the loop asks
+// for one; for a hall nothing is put there.
 fn plan_rounds(
     h: HallSize,
     rounds: u32,
     cols: &[u16; PLACES],
     map: &mut [u8],
     list: &mut [u16],
+    room: &mut [u16; PLACES],
 ) -> Reached
     requires { ⌜ HallPosed h (now cols) × (length (now map) ≡ mapBytes (h .size .count)) × (length (now list) ≡ shiftMinutes) ⌝ }
+    requires { ⌜ length (now room) ≡ columnPlaces ⌝ }
     ensures { λ r. ⌜ Reaches (h .size .count) (hallRefined (hallFor h (now (cols .entry))) (h .vehicles) rounds) r (now (list .exit)) (now (map .exit)) ⌝ }
 {
     let worth = hall::write_plan(h.units, h.size, cols, &mut *map);
-    let t = HallTask {
-        hall: h,
+    let start = Start {
         rounds: rounds,
         worth: worth,
     };
-    make_rounds(t, cols, &mut *list, &mut *map)
+    hall_rounds(h, start, cols, &mut *list, &mut *map, &mut *room)
 }
 
 // The rounds into lent places that suffice.
@@ -45,13 +48,16 @@ fn refine_hall(
     cols: &[u16; PLACES],
     map: &mut [u8],
     prices: &mut [u16],
+    room: &mut [u16; PLACES],
 ) -> ChargeRefineAnswer
     requires { ⌜ HallPosed h (now cols) × (mapBytes (h .size .count) ≤ length (now map)) × (shiftMinutes ≤ length (now prices)) ⌝ }
+    requires { ⌜ length (now room) ≡ columnPlaces ⌝ }
     ensures { λ r. ⌜ chargeRefinedBy r (now (map .exit)) (now (prices .exit))
         ≡ chargeRefinement (hallRefined (hallFor h (now (cols .entry))) (h .vehicles) rounds) (now (map .entry)) (now (prices .entry)) ⌝ }
 {
     let size = choice_map::map_bytes(h.size.count as u16);
-    let r = plan_rounds(h, rounds, cols, &mut map[..size], &mut prices[..MINUTES]);
+    let list = &mut prices[..MINUTES];
+    let r = plan_rounds(h, rounds, cols, &mut map[..size], &mut *list, &mut *room);
     ChargeRefineAnswer {
         refusal: 0,
         worth: r.worth,
@@ -103,5 +109,5 @@ pub fn charge_refine(
             gap: hall::HALL_GAP,
         },
     };
-    refine_hall(h, rounds, &cols, &mut *map, &mut *prices)
+    refine_hall(h, rounds, &cols, &mut *map, &mut *prices, &mut room)
 }

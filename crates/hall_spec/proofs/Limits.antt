@@ -10,18 +10,13 @@ use lib.ListN.{length}
 use Rattle.model.specs.Turns.{Turns}
 use Rattle.model.specs.Steps.{Step, residual, above, isOpen, initial, lessened, afterStepBy, final}
 use Rattle.model.specs.Rules.{Right, Each, done, step}
-use Rattle.model.proofs.Residuals.{residual-after-by}
+use Rattle.model.proofs.Residuals.{lessened-closed, residual-after-by}
 use Rattle.model.proofs.Planned.{planBy-right, steps-most, opens-most}
 use Rattle.model.proofs.Limits.{Within, AllWithin, within-mag, within-range, initial-within, amount-within, lessened-within, chosen-within}
 use Rattle.hall_spec.specs.Hall.{Hall, windowCount, isSmall}
 use Rattle.hall_spec.specs.Plan.{turnsAmong, smallTakes, smallSteps, worthIn}
 use Rattle.hall_spec.proofs.Takes.{takes-most, small-taking}
 use Rattle.hall_spec.proofs.Open.{OnlyKind, first-only, after-only}
-
--- from a closed turn nothing is taken
-pub lessened-closed : (a : ℕ) (z : ℤ) → above z ≡ false → lessened a z ≡ z
-unfolding lessened
-lessened-closed a z e = rw e
 
 module _ (H : Hall) (supplied : 0 < H .units) where
   abbrev T : Turns

@@ -17,7 +17,7 @@ use Rattle.hall_spec.specs.SheetPromises.{answeredMap, answeredChoice, C
 use Rattle.hall_spec.proofs.ChargingSheets.{charging-sound}
 use Rattle.hall_spec.proofs.ChargeCauses.{charge-accepted, charge-answers, charge-promises}
 
-module _ (s lent : List ℕ) (e : chargeOf s lent .refusal ≡ 0) where
+module _ (s lent : List ℕ) (e : chargeOf s lent .answer .refusal ≡ 0) where
   abbrev S : List Bool
   S = hallChoice (hallOf s)
 
@@ -29,8 +29,8 @@ module _ (s lent : List ℕ) (e : chargeOf s lent .refusal ≡ 0) where
   places : length (mapOf S) ≡ mapBytes (turnCount s)
   places = map-length S ∙ ap mapBytes bits
 
-  worth-is : chargeOf s lent .worth ≡ hallWorth (hallOf s)
-  worth-is = ap (λ (x : Charged). x .worth) (charge-answers s lent e)
+  worth-is : chargeOf s lent .answer .worth ≡ hallWorth (hallOf s)
+  worth-is = ap (λ (x : Charged). x .answer .worth) (charge-answers s lent e)
 
   map-is : answeredMap s lent ≡ mapOf S
   map-is = rw (charge-answers s lent e) (take-at (mapOf S) _ (mapBytes (turnCount s)) places)

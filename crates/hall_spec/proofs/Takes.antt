@@ -1,12 +1,12 @@
 -- What a step takes from a small window: rounding up, and how much it is at most. Assumes nothing.
-use mathlib.Core.Path.{_≡_, refl, _∙_}
+use mathlib.Core.Path.{_≡_, refl}
 use mathlib.Core.Bool.{Bool, true, false, cond}
 use Prim.Native.Nat.{ℕ, _+_, _-_, _*_, _≤_, _<_}
 use native.Mathlib.Nat.{div-add-mod', mod-lt, mul-le-mul-right, lt-of-mul-lt-mul-left}
 use native.Mathlib.Omega.{arith}
 use Rattle.model.specs.Steps.{afterStepBy}
-use Rattle.model.proofs.Residuals.{takenBy, left-after-by, takenBy-open}
-use Rattle.model.proofs.Planned.{Taking}
+use Rattle.model.proofs.Residuals.{takenBy}
+use Rattle.model.proofs.Planned.{Taking, taking-by}
 use Rattle.hall_spec.specs.Hall.{Hall, draw, sameVehicle, shareMinute, isSmall}
 use Rattle.hall_spec.specs.Plan.{roundedUp, smallTakes}
 use Rattle.hall_spec.proofs.Windows.{is-vehicle, small-is}
@@ -56,8 +56,4 @@ module _ (H : Hall) where
       go false false = omega arith
 
   pub small-taking : Taking (afterStepBy (smallTakes H)) (takenBy (smallTakes H))
-  small-taking =
-      record {
-        after = left-after-by (smallTakes H);
-        own = λ s x o. takenBy-open (smallTakes H) s x (x .turn) o ∙ takes-vehicle (x .turn) (x .amount) (x .turn) (is-vehicle H (x .turn) (x .turn) refl);
-      }
+  small-taking = taking-by (smallTakes H) (λ j amount. takes-vehicle j amount j (is-vehicle H j j refl))

@@ -10,11 +10,9 @@ use lib.IntN.{ℤ}
 use borrow.Author.Tests.{ltb-true, ltb-false, lt-ltb, leb-true, le-leb, eqb-true, eq-eqb, not-true}
 use Rattle.model.specs.Turns.{Turns, overlapping, conflict, PositiveLengths, NoDrivers}
 use Rattle.model.specs.Steps.{Step, isOpen}
-use Rattle.model.specs.Pick.{pick}
 use Rattle.model.specs.Rules.{Right}
 use Rattle.lists.proofs.Bools.{and-1, and-2, and-of}
 use Rattle.model.proofs.Conflicts
-use Rattle.model.proofs.Picks.{pick-same}
 use Rattle.hall_spec.specs.Hall.{Hall, windowCount, vehicle, draw, sameVehicle, shareMinute, chargesAt, drawAt, wideDraw, isWide, isSmall}
 use Rattle.hall_spec.specs.Plan.{turnsAmong}
 
@@ -108,10 +106,6 @@ module _ (H : Hall) where
     unfolding turnsAmong
     among-count = refl
 
-    pub among-end : (t : ℕ) → T .end t ≡ H .windows .end t
-    unfolding turnsAmong
-    among-end t = refl
-
     pub among-worth : (t : ℕ) → T .worth t ≡ cond (kind t) (H .windows .worth t) 0
     unfolding turnsAmong
     among-worth t = refl
@@ -123,10 +117,6 @@ module _ (H : Hall) where
     pub among-lengths : PositiveLengths (H .windows) → PositiveLengths T
     unfolding turnsAmong
     among-lengths h t l = h t l
-
-    -- the pick is that of the windows themselves
-    pub among-pick : (s : List ℤ) → pick T s ≡ pick (H .windows) s
-    among-pick s = pick-same T (H .windows) among-count among-end s
 
     pub vehicle-conflict : (x y : ℕ) → sameVehicle H x y ≡ true → conflict T x y ≡ true
     unfolding turnsAmong

@@ -1,11 +1,9 @@
 -- The charging hall: any bytes as a charging sheet, and lent bytes for the choice map (request R-14). Assumes nothing.
 use Prim.Native.Nat.{ℕ}
-use mathlib.Core.Bool.{cond}
-use mathlib.Core.List.{List, [], _∷_, _++_}
+use mathlib.Core.List.{List, []}
 use lib.ListN.{length}
-use lib.Dec.{ltb, eqb}
-use Rattle.refusal.specs.Number.{badCounts, tooManyTurns, badSlope, badDraw, bufferTooSmall}
-use Rattle.refusal.specs.Cause.{Cause, _when_, firstOf, FirstAmong}
+use Rattle.refusal.specs.Number.{badCounts, tooManyTurns, badSlope, badDraw}
+use Rattle.refusal.specs.Cause.{Cause, FirstAmong}
 use Rattle.wire.specs.Mark.{chargingMark}
 use Rattle.sheet.specs.declared.kind.Kind.{Kind}
 use Rattle.sheet.specs.Kind.{firstMap, mostTurns}
@@ -16,6 +14,8 @@ use Rattle.choice_map.specs.Choice.{mapBytes, mapOf}
 use Rattle.instance_spec.specs.Problem.{problemOf}
 use Rattle.hall_spec.specs.Hall.{hallGap, mostUnits, mostVehicles, Hall, windowCount}
 use Rattle.hall_spec.specs.Plan.{hallChoice, hallWorth}
+use Rattle.refusal.specs.Outcome.{Outcome, beside, unless, thenRoom}
+use Rattle.hall_spec.specs.declared.ChargeAnswer.{ChargeAnswer}
 
 -- a charging sheet: where the garage's has groomers and slopes, it has units and vehicles; every map is without the driver; and a draw out of range has a number of its own
 unfoldable pub chargingSheet : Kind
@@ -33,29 +33,27 @@ hallOf s = record { units = countsIn s .groomers; windows = problemOf hallGap (t
 
 -- after the sheet's causes: too few lent bytes for the map
 unfoldable pub chargeCauses : List ℕ → ℕ → List Cause
-chargeCauses s places = causesFor chargingSheet s ++ bufferTooSmall when ltb places (mapBytes (turnCount s)) ∷ []
+chargeCauses s = thenRoom (causesFor chargingSheet s) (mapBytes (turnCount s))
 
--- the refusal, 0 if none, the worth, 0 on a refusal, and what the lent bytes hold then
-pub record Charged : Type 0 where
-  pub refusal : ℕ
-  pub worth : ℕ
-  pub lent : List ℕ
+-- the refusal and the worth, and what the lent bytes hold then
+abbrev pub Charged : Type 0
+Charged = Outcome ChargeAnswer (List ℕ)
 
 -- the worth of the hall's plan, and its map, then what was there
 abbrev pub hallFound : Hall → List ℕ → Charged
-hallFound H lent = record { refusal = 0; worth = hallWorth H; lent = atFront (mapOf (hallChoice H)) lent }
+hallFound H lent = beside (record { refusal = 0; worth = hallWorth H }) (atFront (mapOf (hallChoice H)) lent)
 
--- a refusal, and the lent bytes as before
-abbrev pub hallRefused : ℕ → List ℕ → Charged
-hallRefused k lent = record { refusal = k; worth = 0; lent = lent }
+-- a refusal returns its number and no worth
+abbrev pub chargeRefused : ℕ → ChargeAnswer
+chargeRefused k = record { refusal = k; worth = 0 }
 
 -- the plan of a hall, or a refusal where the lent bytes are too few for its map
 unfoldable pub chargeIn : Hall → List ℕ → Charged
-chargeIn H lent = cond (ltb (length lent) (mapBytes (windowCount H))) (hallRefused bufferTooSmall lent) (hallFound H lent)
+chargeIn H lent = unless (thenRoom [] (mapBytes (windowCount H)) (length lent)) (hallFound H lent) (λ k. beside (chargeRefused k) lent)
 
 -- the plan of a sheet's hall unless a cause is there
 unfoldable pub chargeOf : List ℕ → List ℕ → Charged
-chargeOf s lent = let f = firstOf (chargeCauses s (length lent)) in cond (eqb f 0) (hallFound (hallOf s) lent) (hallRefused f lent)
+chargeOf s lent = unless (chargeCauses s (length lent)) (hallFound (hallOf s) lent) (λ k. beside (chargeRefused k) lent)
 
 -- ---- as statements
 
@@ -65,7 +63,7 @@ AcceptedCharging = AcceptedFor chargingSheet
 
 -- a cause to refuse is there: the sheet's, or too few lent bytes
 abbrev pub ChargeCause : List ℕ → ℕ → ℕ → ℕ → Type 0
-ChargeCause s places = LentCauseFor chargingSheet s (mapBytes (turnCount s)) places
+ChargeCause s = LentCauseFor chargingSheet s (mapBytes (turnCount s))
 
 -- the first of them has number k
 abbrev pub FirstChargeCause : List ℕ → ℕ → ℕ → Type 0

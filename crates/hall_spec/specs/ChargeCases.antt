@@ -3,6 +3,7 @@ use mathlib.Core.Path.{_≡_}
 use mathlib.Core.List.{List, [], _∷_}
 use Prim.Native.Nat.{ℕ}
 use Rattle.hall_spec.specs.Charge.{chargeOf}
+use Rattle.refusal.specs.Outcome.{beside}
 
 -- one unit, two vehicles, three windows of draw 1: vehicle 1 from 0 to 1, worth 1; vehicle 2 from 0 to 1 and from 1 to 2, worth 2 each
 abbrev pub oneUnitSheet : List ℕ
@@ -14,5 +15,5 @@ twelveUnitsSheet = 0x47 ∷ 0x52 ∷ 0x45 ∷ 0x0C ∷ 0x0E ∷ 0x00 ∷ 0x0E �
 
 -- each with one lent byte more than its map has; the lent bytes hold 9 before
 pub record ChargeCases : Type 0 where
-  pub one-unit : chargeOf oneUnitSheet (9 ∷ 9 ∷ []) ≡ record { refusal = 0; worth = 2; lent = 0x02 ∷ 9 ∷ [] }
-  pub twelve-units : chargeOf twelveUnitsSheet (9 ∷ 9 ∷ 9 ∷ []) ≡ record { refusal = 0; worth = 2; lent = 0x03 ∷ 0x00 ∷ 9 ∷ [] }
+  pub one-unit : chargeOf oneUnitSheet (9 ∷ 9 ∷ []) ≡ beside (record { refusal = 0; worth = 2 }) (0x02 ∷ 9 ∷ [])
+  pub twelve-units : chargeOf twelveUnitsSheet (9 ∷ 9 ∷ 9 ∷ []) ≡ beside (record { refusal = 0; worth = 2 }) (0x03 ∷ 0x00 ∷ 9 ∷ [])

@@ -3,6 +3,5 @@ pub mod Plan
 pub mod Promises
 pub mod Cases
 pub mod Charge
-pub mod Answer
 pub mod SheetPromises
 pub mod ChargeCases

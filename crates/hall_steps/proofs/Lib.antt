@@ -1,4 +1,3 @@
 pub mod OneKind
-pub mod Takes
 pub mod Planned
 pub mod Written

@@ -18,39 +18,28 @@ use Rattle.instance.specs.Ways.{turnRow}
 use Rattle.instance.specs.Columns.{columnPlaces, rowIn, withRow, within, turnsBy, Held}
 use Rattle.instance.proofs.Posed.{put-length}
 use Rattle.instance.proofs.Rows.{row-new, row-other, row-is}
-use Rattle.hall_spec.specs.Hall.{Hall, wideDraw, isWide, isSmall}
-use Rattle.hall_spec.specs.Plan.{turnsAmong}
+use Rattle.hall_spec.specs.Hall.{Hall, draw, wideDraw}
 use Rattle.hall_steps.specs.declared.among.Among.{Among}
-use Rattle.hall_steps.specs.Among.{hallBy, ofKind, kindRow, amongRow}
+use Rattle.hall_steps.specs.Among.{hallAmong, kindDraw, ofKind, amongRow, engineTurns}
 use Rattle.hall_steps.specs.Bounds.{HallHeld}
 
 -- ---- one row
 
-module _ (a : Among) (r : Row) {u d : ℕ} (e : u ≡ a .units) (f : d ≡ r .groomer) where
-  pub kind-wide : a .wide ≡ true → ltb u (2 * d) ≡ kindRow a r
-  unfolding kindRow wideDraw
+module _ (a : Among) (draw : ℕ) {u d : ℕ} (e : u ≡ a .units) (f : d ≡ draw) where
+  pub kind-wide : a .wide ≡ true → ltb u (2 * d) ≡ kindDraw a draw
+  unfolding kindDraw wideDraw
   kind-wide w = rw (w, e, f)
 
-  pub kind-small : a .wide ≡ false → not (ltb u (2 * d)) ≡ kindRow a r
-  unfolding kindRow wideDraw
+  pub kind-small : a .wide ≡ false → not (ltb u (2 * d)) ≡ kindDraw a draw
+  unfolding kindDraw wideDraw
   kind-small w = rw (w, e, f)
 
-pub worth-own : (a : Among) (r : Row) {b : Bool} → b ≡ kindRow a r → b ≡ true → r .worth ≡ cond (kindRow a r) (r .worth) 0
-worth-own a r e f = rw (← e, f)
-
-pub worth-other : (a : Among) (r : Row) {b : Bool} → b ≡ kindRow a r → b ≡ false → 0 ≡ cond (kindRow a r) (r .worth) 0
-worth-other a r e f = rw (← e, f)
-
-pub row-among : (a : Among) (r : Row) {w : ℕ} → w ≡ cond (kindRow a r) (r .worth) 0 → _≡_ {A = Row} (record { slope = r .slope; groomer = 0; start = r .start; end = r .end; worth = w; driver = 0 }) (amongRow a r)
+pub row-among : (a : Among) (r : Row) {own : Bool} {d g w : ℕ} → own ≡ kindDraw a (r .groomer) → d ≡ cond own (r .groomer) 0 → g ≡ cond (not (a .wide)) d 0 → w ≡ cond own (r .worth) 0
+    → _≡_ {A = Row} (record { slope = r .slope; groomer = g; start = r .start; end = r .end; worth = w; driver = 0 }) (amongRow a r)
 unfolding amongRow
-row-among a r e = rw e
+row-among a r o e f h = rw (f, h, e, o)
 
-pub ruleset row-cases = (kind-wide, kind-small, worth-own, worth-other, row-among)
-
--- a row is of the kind just if its window is
-pub kind-is : (a : Among) (cols : List ℕ) (t : ℕ) → kindRow a (turnRow (hallBy a cols .windows) t) ≡ ofKind a cols t
-unfolding kindRow ofKind isWide isSmall turnRow
-kind-is a cols t = refl
+pub ruleset row-cases = (kind-wide, kind-small, row-among)
 
 -- ---- all rows
 
@@ -63,15 +52,15 @@ module _ (a : Among) (cols own : List ℕ) where
   unfolding RowsAmong
   among-none = λ t h. absurd (omega arith)
 
-  pub among-more : (i : ℕ) {x r : Row} {own′ : List ℕ} → HallHeld a cols → i < a .size .count → length own ≡ columnPlaces → x ≡ rowIn cols i → r ≡ amongRow a x → own′ ≡ withRow own i r → RowsAmong a cols own i → RowsAmong a cols own′ (i + 1)
+  pub among-more : (i : ℕ) {x r : Row} {own′ : List ℕ} → HallHeld (a .units) (a .size) cols → i < a .size .count → length own ≡ columnPlaces → x ≡ rowIn cols i → r ≡ amongRow a x → own′ ≡ withRow own i r → RowsAmong a cols own i → RowsAmong a cols own′ (i + 1)
   unfolding RowsAmong
   among-more i {r = r} held l w e f q o =
       let h : i < mostTurns = omega (arith, held .held .few) in
       rw (add-one, q) (up-to (λ t. rowIn (withRow own i r) t ≡ amongRow a (rowIn cols t)) i (λ t k. row-other own i r t (omega arith) h (omega arith) ∙ o t k) (row-new own i r h w ∙ f ∙ ap (amongRow a) e))
 
-  module _ (i : ℕ) (held : HallHeld a cols) (h : a .size .count ≤ i) (w : length own ≡ columnPlaces) (o : RowsAmong a cols own i) where
+  module _ (i : ℕ) (held : HallHeld (a .units) (a .size) cols) (h : a .size .count ≤ i) (w : length own ≡ columnPlaces) (o : RowsAmong a cols own i) where
     abbrev H : Hall
-    H = hallBy a cols
+    H = hallAmong a cols
 
     abbrev p : Size
     p = a .size
@@ -94,24 +83,21 @@ module _ (a : Among) (cols own : List ℕ) where
     unfolding within
     behind f t l = rw (le-ltb t (p .count) l)
 
-    no-worth : (t : ℕ) → p .count ≤ t → 0 ≡ cond (ofKind a cols t) (H .windows .worth t) 0
-    unfolding turnsBy
-    no-worth t l = go (ofKind a cols t)
-      where
-        go : (b : Bool) → 0 ≡ cond b (H .windows .worth t) 0
-        go true = behind (λ (r : Row). r .worth) t l
-        go false = refl
+    -- a number of a window, or 0, by a test
+    none-there : (b : Bool) {x : ℕ} → 0 ≡ x → 0 ≡ cond b x 0
+    none-there true e = e
+    none-there false e = refl
 
-    pub among-turns : turnsBy (a .size) own ≡ turnsAmong (hallBy a cols) (ofKind a cols)
-    unfolding turnsBy turnsAmong amongRow turnRow
+    pub among-turns : turnsBy (a .size) own ≡ engineTurns a cols
+    unfolding turnsBy engineTurns amongRow turnRow ofKind
     among-turns = λ j. record {
       count = p .count;
       gap = held .gapless j;
       slope = λ t. own-number (λ r. r .slope) (H .windows .slope) (λ u l. refl) (behind (λ r. r .slope)) t j;
-      groomer = λ t. own-number (λ r. r .groomer) (λ u. 0) (λ u l. refl) (λ u l. refl) t j;
+      groomer = λ t. own-number (λ r. r .groomer) (λ u. cond (not (a .wide)) (cond (ofKind a cols u) (draw H u) 0) 0) (λ u l. refl) (λ u l. none-there (not (a .wide)) (none-there (ofKind a cols u) (behind (λ r. r .groomer) u l))) t j;
       start = λ t. own-number (λ r. r .start) (H .windows .start) (λ u l. refl) (behind (λ r. r .start)) t j;
       end = λ t. own-number (λ r. r .end) (H .windows .end) (λ u l. refl) (behind (λ r. r .end)) t j;
-      worth = λ t. own-number (λ r. r .worth) (λ u. cond (ofKind a cols u) (H .windows .worth u) 0) (λ u l. ap (λ (b : Bool). cond b (H .windows .worth u) 0) (kind-is a cols u)) no-worth t j;
+      worth = λ t. own-number (λ r. r .worth) (λ u. cond (ofKind a cols u) (H .windows .worth u) 0) (λ u l. refl) (λ u l. none-there (ofKind a cols u) (behind (λ r. r .worth) u l)) t j;
       driver = λ t. own-number (λ r. r .driver) (λ u. 0) (λ u l. refl) (λ u l. refl) t j;
     }
 
@@ -120,7 +106,7 @@ module _ (a : Among) (cols own : List ℕ) where
     least-worth false w h = omega arith
 
     pub among-held : Held (a .size) own
-    unfolding turnsAmong
+    unfolding engineTurns
     among-held =
         record {
           places = w;

@@ -1,129 +1,141 @@
--- The steps of one kind: what the loop over the small windows' steps keeps, and that the steps written are the kind's. Assumes nothing.
+-- The steps of one kind: those that the planner's loop makes of the engine's turns are the kind's. Assumes nothing.
 use mathlib.Core.Path.{_≡_, refl, sym, _∙_, ap}
-use mathlib.Core.Bool.{true, false, cond}
+use mathlib.Core.Bool.{Bool, true, false, not, cond}
 use mathlib.Core.List.{List, [], _∷_}
-use Prim.Native.Nat.{ℕ}
-use lib.IntN.{ℤ}
+use Prim.Native.Nat.{ℕ, _*_, _≤_, _<_}
+use native.Mathlib.Omega.{arith}
 use lib.ListN.{length}
 use Rattle.wire.specs.Number.{puts}
-use Rattle.model.specs.Turns.{Turns}
-use Rattle.model.specs.Steps.{Step, left, initial, afterStepBy}
-use Rattle.model.specs.Pick.{pick, nextStep, planBy, steps}
+use Rattle.model.specs.Steps.{Step}
+use Rattle.model.specs.Pick.{steps}
 use Rattle.board.specs.Board.{stepBytes}
 use Rattle.instance.specs.Columns.{turnsBy}
-use Rattle.instance.proofs.Rows.{count-is}
-use Rattle.model_relabel.specs.Relabelling.{relabel, relabelAll}
-use Rattle.steps.proofs.Planning.{Put, put-start}
-use Rattle.hall_spec.specs.Hall.{Hall, isWide, isSmall}
+use Rattle.model_relabel.specs.Relabelling.{Places, SameTimes, SameTakes, TiesKept, relabelAll}
+use Rattle.model_relabel.proofs.Relabelling.{steps-same-by}
+use Rattle.hall_spec.specs.Hall.{Hall, draw, isWide, isSmall, sameVehicle, shareMinute}
 use Rattle.hall_spec.specs.Plan.{turnsAmong, smallTakes, wideSteps, smallSteps}
-use Rattle.hall_spec.proofs.Open.{first-only}
+use Rattle.hall_spec.proofs.Windows.{small-is}
+use Rattle.steps.specs.declared.stepping.Rule.{Rule}
+use Rattle.steps.specs.declared.stepping.Rule.the-variants.{Conflicts, Shares}
+use Rattle.steps.specs.Rule.{takesBy, nextBy, planFor, stepsFor, RuleHeld}
+use Rattle.steps.proofs.Planning.{shift-steps}
 use Rattle.hall_steps.specs.declared.among.Among.{Among}
-use Rattle.hall_steps.specs.Among.{hallBy, ofKind, stepsBy}
-use Rattle.hall_steps.specs.Bounds.{OnlySmall}
+use Rattle.hall_steps.specs.Among.{hallAmong, kindDraw, ofKind, engineTurns, ruleOf, stepsBy}
+use Rattle.hall_steps.specs.Bounds.{HallHeld}
 
--- ---- one step
+-- ---- the rule
 
-module _ (a : Among) (cols : List ℕ) (s : List ℤ) (j : ℕ) {x : ℕ} (e : x ≡ left s j) where
-  pub amount-taken : {s′ : List ℤ} → s′ ≡ afterStepBy (smallTakes (hallBy a cols)) s (record { turn = j; amount = x }) → s′ ≡ afterStepBy (smallTakes (hallBy a cols)) s (record { turn = j; amount = left s j })
-  amount-taken q = rw (← e) q
+pub rule-wide : (a : Among) → a .wide ≡ true → Conflicts ≡ ruleOf a
+unfolding ruleOf
+rule-wide a w = rw w
 
-  pub amount-written : (l : List ℕ) (at : ℕ) {l′ : List ℕ} → l′ ≡ puts l at (stepBytes (record { turn = j; amount = x } ∷ [])) → l′ ≡ puts l at (stepBytes (record { turn = j; amount = left s j } ∷ []))
-  amount-written l at q = rw (← e) q
+pub rule-small : (a : Among) → a .wide ≡ false → Shares (a .units) ≡ ruleOf a
+unfolding ruleOf
+rule-small a w = rw w
 
-pub ruleset step-cases = (amount-taken, amount-written)
+pub ruleset rule-cases = (rule-wide, rule-small)
 
--- ---- all steps of the small windows
+-- ---- the kind
 
-module _ (a : Among) (cols own : List ℕ) (s : List ℤ) where
+module _ (a : Among) (cols : List ℕ) where
   abbrev H : Hall
-  H = hallBy a cols
+  H = hallAmong a cols
 
-  abbrev T : Turns
-  T = turnsBy (a .size) own
+  module _ (w : a .wide ≡ true) where
+    kind-wide : (t : ℕ) → ofKind a cols t ≡ isWide H t
+    unfolding ofKind kindDraw isWide
+    kind-wide t = rw w
 
-  abbrev next : List ℤ → Step → List ℤ
-  next = afterStepBy (smallTakes H)
+    engine-wide : engineTurns a cols ≡ turnsAmong H (isWide H)
+    unfolding engineTurns turnsAmong
+    engine-wide = λ j. record {
+      count = H .windows .count;
+      gap = 0;
+      slope = H .windows .slope;
+      groomer = λ t. none t j;
+      start = H .windows .start;
+      end = H .windows .end;
+      worth = λ t. ap (λ (b : Bool). cond b (H .windows .worth t) 0) (kind-wide t) j;
+      driver = λ t. 0;
+    }
+      where
+        none : (t : ℕ) → cond (not (a .wide)) (cond (ofKind a cols t) (draw H t) 0) 0 ≡ 0
+        none t = rw w
 
-  module _ {j : ℕ} (e : j ≡ pick T s) where
-    next-is : _≡_ {A = Step} (record { turn = j; amount = left s j }) (nextStep T s)
-    unfolding nextStep
-    next-is = rw e
+  module _ (w : a .wide ≡ false) where
+    kind-small : (t : ℕ) → ofKind a cols t ≡ isSmall H t
+    unfolding ofKind kindDraw isSmall isWide
+    kind-small t = rw w
 
-    pub small-taken : {s′ : List ℤ} → s′ ≡ next s (record { turn = j; amount = left s j }) → s′ ≡ next s (nextStep T s)
-    small-taken q = q ∙ ap (next s) next-is
+    same-turns : SameTimes (turnsAmong H (isSmall H)) (engineTurns a cols) (λ t. t)
+    unfolding engineTurns turnsAmong
+    same-turns = record { counts = refl; ends = λ i h. refl; worths = λ i h. ap (λ (b : Bool). cond b (H .windows .worth i) 0) (kind-small i) }
 
-    -- under its own number
-    pub small-written : (l : List ℕ) (at : ℕ) {l′ : List ℕ} → l′ ≡ puts l at (stepBytes (record { turn = j; amount = left s j } ∷ [])) → l′ ≡ puts l at (stepBytes (relabel (λ t. t) (nextStep T s) ∷ []))
-    small-written l at q = q ∙ ap (λ (x : Step). puts l at (stepBytes (relabel (λ t. t) x ∷ []))) next-is
+    -- a window with a worth is small, and the engine gets its draw
+    own-draw : (t : ℕ) → 0 < turnsAmong H (isSmall H) .worth t → engineTurns a cols .groomer t ≡ draw H t
+    unfolding engineTurns turnsAmong
+    own-draw t l = given (a .wide) (ofKind a cols t) w (kind-small t)
+      where
+        go : (b : Bool) → 0 < cond b (H .windows .worth t) 0 → cond b (draw H t) 0 ≡ draw H t
+        go true l = refl
+        go false l = absurd (omega arith)
 
-  relabel-none : (xs : List Step) → relabelAll (λ t. t) xs ≡ xs
-  unfolding relabelAll
-  relabel-none [] = refl
-  relabel-none (x ∷ xs) = ap (λ (ys : List Step). x ∷ ys) (relabel-none xs)
+        given : (x o : Bool) → x ≡ false → o ≡ isSmall H t → cond (not x) (cond o (draw H t) 0) 0 ≡ draw H t
+        given x o e f = rw (e, f) (go (isSmall H t) l)
 
-  pub small-start : (l : List ℕ) → Put (a .size) own next (λ t. t) s 0 l (puts l 0 (stepBytes (planBy T next (a .size .count) s)))
-  small-start l = rw (relabel-none (planBy T next (a .size .count) s)) at (put-start (a .size) own next s (λ t. t) l)
+    same-takes : SameTakes (turnsAmong H (isSmall H)) (λ t. t) (smallTakes H) (takesBy (Shares (a .units)) (engineTurns a cols))
+    unfolding takesBy smallTakes sameVehicle shareMinute engineTurns
+    same-takes = record { each = λ i amount k h l v. rw (own-draw k v) }
 
-pub ruleset small-cases = (small-taken, small-written)
+    small-steps : stepsFor (Shares (a .units)) (engineTurns a cols) ≡ smallSteps H
+    unfolding stepsFor planFor nextBy smallSteps engineTurns turnsAmong TiesKept relabelAll
+    small-steps = sym (relabel-none _) ∙ steps-same-by places same-turns same-takes (λ i k h l e. h)
+      where
+        places : Places (turnsAmong H (isSmall H) .count) (λ t. t) (λ t. t)
+        places = record { turn-inside = λ i l. l; place-inside = λ t l. l; place-outside = λ t l. l; place-turn = λ i l. refl; turn-place = λ t l. refl }
 
--- ---- from the worths on
-
-module _ (a : Among) (cols own : List ℕ) (e : turnsBy (a .size) own ≡ turnsAmong (hallBy a cols) (ofKind a cols)) where
-  small-kind : a .wide ≡ false → ofKind a cols ≡ isSmall (hallBy a cols)
-  unfolding ofKind
-  small-kind w = λ j t. at t j
-    where
-      at : (t : ℕ) → cond (a .wide) (isWide (hallBy a cols) t) (isSmall (hallBy a cols) t) ≡ isSmall (hallBy a cols) t
-      at t = rw w
-
-  wide-kind : a .wide ≡ true → ofKind a cols ≡ isWide (hallBy a cols)
-  unfolding ofKind
-  wide-kind w = λ j t. at t j
-    where
-      at : (t : ℕ) → cond (a .wide) (isWide (hallBy a cols) t) (isSmall (hallBy a cols) t) ≡ isWide (hallBy a cols) t
-      at t = rw w
-
-  pub small-initial : {s : List ℤ} → a .wide ≡ false → s ≡ initial (turnsBy (a .size) own) → OnlySmall a cols s
-  unfolding OnlySmall
-  small-initial w q = rw (q, e, small-kind w) (first-only (isSmall (hallBy a cols)) (hallBy a cols))
-
-  module _ (w : a .wide ≡ false) {s : List ℤ} (q : s ≡ initial (turnsBy (a .size) own)) where
-    small-steps : planBy (turnsBy (a .size) own) (afterStepBy (smallTakes (hallBy a cols))) (a .size .count) s ≡ smallSteps (hallBy a cols)
-    unfolding smallSteps
-    small-steps =
-        let H : Hall = hallBy a cols in
-        rw (q, e, small-kind w) (ap (λ (n : ℕ). planBy (turnsAmong H (isSmall H)) (afterStepBy (smallTakes H)) n (initial (turnsAmong H (isSmall H)))) (sym (count-is (a .size) cols)))
-
-    pub small-count : {r : ℕ} → r ≡ length (planBy (turnsBy (a .size) own) (afterStepBy (smallTakes (hallBy a cols))) (a .size .count) s) → r ≡ length (smallSteps (hallBy a cols))
-    small-count h = h ∙ ap length small-steps
-
-    pub small-out : (l : List ℕ) {l′ : List ℕ} → l′ ≡ puts l 0 (stepBytes (planBy (turnsBy (a .size) own) (afterStepBy (smallTakes (hallBy a cols))) (a .size .count) s)) → l′ ≡ puts l 0 (stepBytes (smallSteps (hallBy a cols)))
-    small-out l h = h ∙ ap (λ (xs : List Step). puts l 0 (stepBytes xs)) small-steps
+        relabel-none : (xs : List Step) → relabelAll (λ t. t) xs ≡ xs
+        relabel-none [] = refl
+        relabel-none (x ∷ xs) = ap (λ (ys : List Step). x ∷ ys) (relabel-none xs)
 
   -- ---- either kind
 
-  module _ (w : a .wide ≡ true) where
-    wide-steps : steps (turnsBy (a .size) own) ≡ stepsBy a cols
-    unfolding stepsBy wideSteps
-    wide-steps = rw (w, e, wide-kind w)
+  kind-steps : stepsFor (ruleOf a) (engineTurns a cols) ≡ stepsBy a cols
+  unfolding ruleOf stepsBy wideSteps
+  kind-steps = go (a .wide) refl
+    where
+      go : (b : Bool) → a .wide ≡ b → stepsFor (cond b Conflicts (Shares (a .units))) (engineTurns a cols) ≡ cond b (steps (turnsAmong H (isWide H))) (smallSteps H)
+      go true w = rw (engine-wide w) (shift-steps (turnsAmong H (isWide H)))
+      go false w = small-steps w
 
-    pub wide-count : {r : ℕ} → r ≡ length (steps (turnsBy (a .size) own)) → r ≡ length (stepsBy a cols)
-    wide-count h = h ∙ ap length wide-steps
+  -- no draw that the engine gets is more than half of the units
+  half : (t : ℕ) → a .wide ≡ false → 2 * engineTurns a cols .groomer t ≤ a .units
+  unfolding engineTurns
+  half t w = given (a .wide) (ofKind a cols t) w (kind-small w t)
+    where
+      go : (b : Bool) → isSmall H t ≡ b → 2 * cond b (draw H t) 0 ≤ a .units
+      go true e = omega (arith, small-is H t e)
+      go false e = omega arith
 
-    pub wide-out : (l : List ℕ) {l′ : List ℕ} → l′ ≡ puts l 0 (stepBytes (steps (turnsBy (a .size) own))) → l′ ≡ puts l 0 (stepBytes (stepsBy a cols))
-    wide-out l h = h ∙ ap (λ (xs : List Step). puts l 0 (stepBytes xs)) wide-steps
+      given : (x o : Bool) → x ≡ false → o ≡ isSmall H t → 2 * cond (not x) (cond o (draw H t) 0) 0 ≤ a .units
+      given x o e f = rw (e, f) (go (isSmall H t) refl)
 
-pub ruleset from-worths = (small-initial, small-count, small-out)
+  module _ {r : Rule} (k : r ≡ ruleOf a) (own : List ℕ) (e : turnsBy (a .size) own ≡ engineTurns a cols) where
+    pub among-rule : HallHeld (a .units) (a .size) cols → RuleHeld r (a .size) own
+    unfolding RuleHeld ruleOf
+    among-rule held = rw k (go (a .wide) refl)
+      where
+        go : (b : Bool) → a .wide ≡ b → RuleHeld (cond b Conflicts (Shares (a .units))) (a .size) own
+        go true w = tt
+        go false w = record { units-from = held .units-from; units-to = held .units-to; draws = λ t l. rw e (half t w) }
 
-module _ (a : Among) (cols : List ℕ) (w : a .wide ≡ false) where
-  kind-steps : smallSteps (hallBy a cols) ≡ stepsBy a cols
-  unfolding stepsBy
-  kind-steps = rw w
+    steps-are : stepsFor r (turnsBy (a .size) own) ≡ stepsBy a cols
+    steps-are = rw (k, e) kind-steps
 
-  pub kind-count : {r : ℕ} → r ≡ length (smallSteps (hallBy a cols)) → r ≡ length (stepsBy a cols)
-  kind-count h = h ∙ ap length kind-steps
+    pub among-count : {m : ℕ} → m ≡ length (stepsFor r (turnsBy (a .size) own)) → m ≡ length (stepsBy a cols)
+    among-count q = q ∙ ap length steps-are
 
-  pub kind-out : (l : List ℕ) {l′ : List ℕ} → l′ ≡ puts l 0 (stepBytes (smallSteps (hallBy a cols))) → l′ ≡ puts l 0 (stepBytes (stepsBy a cols))
-  kind-out l h = h ∙ ap (λ (xs : List Step). puts l 0 (stepBytes xs)) kind-steps
+    pub among-out : (l : List ℕ) {l′ : List ℕ} → l′ ≡ puts l 0 (stepBytes (stepsFor r (turnsBy (a .size) own))) → l′ ≡ puts l 0 (stepBytes (stepsBy a cols))
+    among-out l q = q ∙ ap (λ (xs : List Step). puts l 0 (stepBytes xs)) steps-are
 
-pub ruleset among-steps = (wide-count, wide-out, kind-count, kind-out)
+pub ruleset among-steps = (among-rule, among-count, among-out)

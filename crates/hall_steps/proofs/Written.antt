@@ -26,7 +26,7 @@ use Rattle.hall_spec.proofs.Takes.{small-taking}
 use Rattle.hall_spec.proofs.Open.{OnlyKind, first-only, after-only}
 use Rattle.hall_spec.proofs.Limits.{first-within, next-within, small-few}
 use Rattle.hall_steps.specs.declared.among.Among.{Among}
-use Rattle.hall_steps.specs.Among.{hallBy, stepsBy}
+use Rattle.hall_steps.specs.Among.{hallAmong, stepsBy}
 use Rattle.hall_steps.specs.Bounds.{HallHeld}
 
 -- each step's turn is one of n
@@ -75,13 +75,13 @@ module _ (H : Hall) (supplied : 0 < H .units) (few : windowCount H ≤ mostTurns
         small = each-small T (few-among (isSmall H)) (afterStepBy (smallTakes H)) SmallRange (λ s r. r .1) small-goes (first-only (isSmall H) H, first-within H supplied worths) right;
       }
 
-module _ (a : Among) (cols : List ℕ) (held : HallHeld a cols) where
+module _ (a : Among) (cols : List ℕ) (held : HallHeld (a .units) (a .size) cols) where
   good : Good (a .size .count) (stepsBy a cols)
   unfolding stepsBy turnsBy
   good = rw (← count-is (a .size) cols) (go (a .wide))
     where
       H : Hall
-      H = hallBy a cols
+      H = hallAmong a cols
 
       few : windowCount H ≤ mostTurns
       few = omega (arith, held .held .few, count-is (a .size) cols)

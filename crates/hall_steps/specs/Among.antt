@@ -1,30 +1,54 @@
--- The windows of one kind in a hall that columns hold: which they are, and what the engine gets of them (request R-14). Assumes nothing.
+-- The windows of one kind in a hall that columns hold: which they are, what the engine gets of them, and their steps (request R-14). Assumes nothing.
 use mathlib.Core.Bool.{Bool, not, cond}
 use mathlib.Core.List.{List}
 use Prim.Native.Nat.{ℕ}
+use Rattle.model.specs.Turns.{Turns}
 use Rattle.model.specs.Steps.{Step}
 use Rattle.instance.specs.declared.ways.Row.{Row}
-use Rattle.instance.specs.Columns.{turnsBy}
-use Rattle.hall_spec.specs.Hall.{Hall, wideDraw, isWide, isSmall}
+use Rattle.hall_spec.specs.Hall.{hallGap, Hall, windowCount, draw, wideDraw}
 use Rattle.hall_spec.specs.Plan.{wideSteps, smallSteps}
+use Rattle.shares.specs.Taking.{hallBy}
+use Rattle.steps.specs.declared.stepping.Rule.{Rule}
+use Rattle.steps.specs.declared.stepping.Rule.the-variants.{Conflicts, Shares}
 use Rattle.hall_steps.specs.declared.among.Among.{Among}
 
--- the hall: its units, and the windows in the columns
-abbrev pub hallBy : Among → List ℕ → Hall
-hallBy a cols = record { units = a .units; windows = turnsBy (a .size) cols }
+-- the hall in the columns
+abbrev pub hallAmong : Among → List ℕ → Hall
+hallAmong a cols = hallBy (a .units) (a .size) cols
 
--- window t is of the kind that is meant
+-- a window with this draw is of the kind that is meant
+unfoldable pub kindDraw : Among → ℕ → Bool
+kindDraw a d = let wide = wideDraw (a .units) d in cond (a .wide) wide (not wide)
+
+-- window t is
 unfoldable pub ofKind : Among → List ℕ → ℕ → Bool
-ofKind a cols t = cond (a .wide) (isWide (hallBy a cols) t) (isSmall (hallBy a cols) t)
+ofKind a cols t = kindDraw a (draw (hallAmong a cols) t)
+
+-- what the engine gets of a row: a small window's draw, no driver, and no worth where it is of the other kind
+unfoldable pub amongRow : Among → Row → Row
+amongRow a r =
+    let own = kindDraw a (r .groomer) in
+    record { slope = r .slope; groomer = cond (not (a .wide)) (cond own (r .groomer) 0) 0; start = r .start; end = r .end; worth = cond own (r .worth) 0; driver = 0 }
+
+-- what it gets of all windows
+unfoldable pub engineTurns : Among → List ℕ → Turns
+engineTurns a cols =
+    let H = hallAmong a cols in
+    record {
+      count = windowCount H;
+      gap = hallGap;
+      slope = H .windows .slope;
+      groomer = λ t. cond (not (a .wide)) (cond (ofKind a cols t) (draw H t) 0) 0;
+      start = H .windows .start;
+      end = H .windows .end;
+      worth = λ t. cond (ofKind a cols t) (H .windows .worth t) 0;
+      driver = λ t. 0;
+    }
+
+-- the rule by which steps take
+unfoldable pub ruleOf : Among → Rule
+ruleOf a = cond (a .wide) Conflicts (Shares (a .units))
 
 -- the steps of that kind
 unfoldable pub stepsBy : Among → List ℕ → List Step
-stepsBy a cols = cond (a .wide) (wideSteps (hallBy a cols)) (smallSteps (hallBy a cols))
-
--- a row is of that kind
-unfoldable pub kindRow : Among → Row → Bool
-kindRow a r = let wide = wideDraw (a .units) (r .groomer) in cond (a .wide) wide (not wide)
-
--- what the engine gets of a row: one groomer, no driver, and no worth where it is of the other kind
-unfoldable pub amongRow : Among → Row → Row
-amongRow a r = record { slope = r .slope; groomer = 0; start = r .start; end = r .end; worth = cond (kindRow a r) (r .worth) 0; driver = 0 }
+stepsBy a cols = cond (a .wide) (wideSteps (hallAmong a cols)) (smallSteps (hallAmong a cols))

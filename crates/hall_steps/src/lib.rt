@@ -1,8 +1,6 @@
-// The engine's first half for the charging hall: the windows of one kind as turns in columns, what a
-// step on a small window takes, and the steps of either kind.
+// A hall's windows of one kind as the engine's turns, and their steps.
 mod among;
 mod running;
-mod taking;
 
 pub use among::Among;
 pub use among::is_of_kind;

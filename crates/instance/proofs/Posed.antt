@@ -16,18 +16,18 @@ use Rattle.turn.specs.Turn.{rowNumbers, turnIn}
 use Rattle.model.specs.Turns.{Turns}
 use Rattle.sheet.specs.declared.answer.ReadAnswer.{ReadAnswer}
 use Rattle.sheet.specs.declared.kind.Kind.{Kind}
-use Rattle.sheet.specs.Kind.{mostTurns, Sound}
-use Rattle.sheet.specs.Read.{turnCount, turnsOf, tableOf, causesFor, answerFor}
+use Rattle.sheet.specs.Kind.{mostTurns, Sound, garage}
+use Rattle.sheet.specs.Read.{turnCount, turnsOf, tableOf, causesFor, answerFor, answerOf}
 use Rattle.sheet.proofs.SoundKinds.{garage-given}
 use Rattle.sheet.proofs.Tables.{turns-length, turns-at, table-length, table-row}
 use Rattle.sheet.proofs.Unrefused.{legal-header}
-use Rattle.sheet.proofs.Whole.{whole-accepted-for, whole-turns-for, whole-few-for, whole-room-for, answer-garage}
+use Rattle.sheet.proofs.Whole.{whole-accepted-for, whole-turns-for, whole-few-for, whole-room-for, answer-garage, whole-refusal, whole-accepted, whole-answer, whole-turns}
 use Rattle.instance.specs.declared.ways.Row.{Row}
 use Rattle.instance.specs.declared.columns.Size.{Size}
 use Rattle.instance.specs.Ways.{rowFor}
-use Rattle.instance.specs.Columns.{columnPlaces, rowIn, withRow, within, turnsBy}
+use Rattle.instance.specs.Columns.{columnPlaces, rowIn, withRow, within, turnsBy, Held}
 use Rattle.instance_spec.specs.Problem.{noTurn, problemOf, shiftGap, sheetTurns}
-use Rattle.instance.specs.Load.{EndsFit, RowsOf, PosedFor, Posed}
+use Rattle.instance.specs.Load.{EndsFit, RowsOf, PosedFor, shiftSize, Loaded}
 use Rattle.instance.proofs.Rows.{row-length, row-new, row-other}
 use Rattle.instance_spec.proofs.SheetTurns.{few-turns-for, sheet-range-for, sheet-starts-for, sheet-ends-for, sheet-worths-for, sheet-slopes-for}
 
@@ -156,8 +156,34 @@ module _ (K : Kind) (sound : Sound K) (s lent t : List ℕ) (r : ReadAnswer) (e 
 pub ruleset load-cases = (load-refused, load-few, load-room, load-fits, load-posed)
 
 -- its loading is that of its kind
-pub load-garage : (s cols : List ℕ) (r : ReadAnswer) → (r .refusal ≡ 0 → (gap : ℕ) → PosedFor gap s cols) → r .refusal ≡ 0 → Posed s cols
+pub load-garage : (s cols : List ℕ) {K : Kind} {r : ReadAnswer} → K ≡ garage → (r ≡ answerFor K s) × (r .refusal ≡ 0 → (gap : ℕ) → PosedFor gap s cols) → Loaded s r cols
 unfolding sheetTurns
-load-garage s cols r w z = record { turns = w z shiftGap .turns; held = w z shiftGap .held }
+load-garage s cols {r = r} k w =
+    let e : r ≡ answerOf s = answer-garage s k (w .0) in
+    record {
+      answer = e;
+      refusal = whole-refusal s e;
+      posed =
+          λ z. record {
+            sound = whole-accepted s e z;
+            groomers = ap (λ (x : ReadAnswer). x .groomers) (whole-answer s e z);
+            slopes = ap (λ (x : ReadAnswer). x .slopes) (whole-answer s e z);
+            count = whole-turns s e z;
+            turns = rw (whole-turns s e z) (w .1 z shiftGap .turns);
+            held = rw (whole-turns s e z) (w .1 z shiftGap .held);
+          };
+    }
 
-pub ruleset garage-load-cases = (garage-given, answer-garage, load-garage)
+pub ruleset garage-load-cases = (garage-given, load-garage)
+
+-- ---- what callers take of it, for a problem of the answer's size
+
+module _ (s cols : List ℕ) {r : ReadAnswer} {p : Size} (l : Loaded s r cols) (z : r .refusal ≡ 0) (q : p ≡ shiftSize (r .turns)) where
+  pub loaded-held : Held p cols
+  loaded-held = rw q (l .posed z .held)
+
+  pub loaded-turns : turnsBy p cols ≡ sheetTurns s
+  loaded-turns = rw q (l .posed z .turns)
+
+  pub loaded-count : p .count ≡ turnCount s
+  loaded-count = rw q (l .posed z .count)

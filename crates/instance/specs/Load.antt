@@ -3,11 +3,13 @@ use mathlib.Core.Path.{_≡_}
 use mathlib.Core.List.{List}
 use Prim.Native.Nat.{ℕ, _+_, _<_}
 use Rattle.turn.specs.Turn.{turnIn}
-use Rattle.sheet.specs.Read.{turnCount, turnsOf}
+use Rattle.sheet.specs.Read.{turnCount, turnsOf, countsIn, sheetCauses, answerOf}
 use Rattle.instance.specs.declared.columns.Size.{Size}
 use Rattle.instance.specs.Ways.{rowFor}
 use Rattle.instance.specs.Columns.{rowIn, turnsBy, Held}
 use Rattle.instance_spec.specs.Problem.{problemOf, shiftGap, sheetTurns}
+use Rattle.refusal.specs.Cause.{firstOf}
+use Rattle.sheet.specs.declared.answer.ReadAnswer.{ReadAnswer}
 
 -- a shift of n turns
 abbrev pub shiftSize : ℕ → Size
@@ -26,7 +28,17 @@ pub record PosedFor (gap : ℕ) (s cols : List ℕ) : Type 0 where
   pub turns : turnsBy (record { count = turnCount s; gap = gap }) cols ≡ problemOf gap (turnsOf s)
   pub held : Held (record { count = turnCount s; gap = gap }) cols
 
--- they hold that of this sheet as a shift's
-pub record Posed (s cols : List ℕ) : Type 0 where
-  pub turns : turnsBy (shiftSize (turnCount s)) cols ≡ sheetTurns s
-  pub held : Held (shiftSize (turnCount s)) cols
+-- of a garage's sheet that is not refused: the reader's answer has its counts, and the columns hold a shift of its turns
+pub record Posed (s : List ℕ) (r : ReadAnswer) (cols : List ℕ) : Type 0 where
+  pub sound : firstOf (sheetCauses s) ≡ 0
+  pub groomers : r .groomers ≡ countsIn s .groomers
+  pub slopes : r .slopes ≡ countsIn s .slopes
+  pub count : r .turns ≡ turnCount s
+  pub turns : turnsBy (shiftSize (r .turns)) cols ≡ sheetTurns s
+  pub held : Held (shiftSize (r .turns)) cols
+
+-- any bytes as a garage's sheet, read into columns: the answer is the reader's, its refusal is the first cause's number, and without one they are so posed
+pub record Loaded (s : List ℕ) (r : ReadAnswer) (cols : List ℕ) : Type 0 where
+  pub answer : r ≡ answerOf s
+  pub refusal : r .refusal ≡ firstOf (sheetCauses s)
+  pub posed : r .refusal ≡ 0 → Posed s r cols

@@ -4,10 +4,10 @@ ghost use Prim.Native.Nat.{ℕ, _+_, _*_, _≤_, _<_};
 ghost use lib.ListN.{length};
 ghost use Rattle.turn.specs.Turn.{rowNumbers, turnIn};
 ghost use Rattle.sheet.specs.Kind.{mostTurns, Sound};
-ghost use Rattle.sheet.specs.Read.{answerFor, answerOf};
+ghost use Rattle.sheet.specs.Read.{answerFor};
 ghost use Rattle.instance.specs.Ways.{rowFor};
 ghost use Rattle.instance.specs.Columns.{columnPlaces};
-ghost use Rattle.instance.specs.Load.{shiftSize, EndsFit, RowsOf, PosedFor, Posed};
+ghost use Rattle.instance.specs.Load.{shiftSize, EndsFit, RowsOf, PosedFor, Loaded};
 use super::columns::PLACES;
 use super::columns::Size;
 use super::columns::put_row;
@@ -78,19 +78,19 @@ pub fn load_as(
     r
 }
 
-// The garage's sheet, likewise.
+// Reads any bytes as the garage's sheet into columns, with lent room for the table of turns.
 pub fn load_with(s: &[u8], cols: &mut [u16; PLACES], room: &mut [u16; PLACES]) -> ReadAnswer
     requires { ⌜ (length (now cols) ≡ columnPlaces) × (length (now room) ≡ columnPlaces) ⌝ }
-    ensures { λ r. ⌜ (r ≡ answerOf (now (s .entry))) × (r .refusal ≡ 0 → Posed (now (s .entry)) (now (cols .exit))) ⌝ }
+    ensures { λ r. ⌜ Loaded (now (s .entry)) r (now (cols .exit)) ⌝ }
     ensures { λ _. ⌜ length (now (room .exit)) ≡ columnPlaces ⌝ }
 {
     load_as(sheet_read::garage(), s, &mut *cols, &mut *room)
 }
 
-// The garage's sheet, for those who have no room to lend.
+// Reads any bytes as the garage's sheet into columns, with a table of its own.
 pub fn load(s: &[u8], cols: &mut [u16; PLACES]) -> ReadAnswer
     requires { ⌜ length (now cols) ≡ columnPlaces ⌝ }
-    ensures { λ r. ⌜ (r ≡ answerOf (now (s .entry))) × (r .refusal ≡ 0 → Posed (now (s .entry)) (now (cols .exit))) ⌝ }
+    ensures { λ r. ⌜ Loaded (now (s .entry)) r (now (cols .exit)) ⌝ }
 {
     let mut room = [0u16; PLACES];
     load_with(s, &mut *cols, &mut room)

@@ -29,8 +29,8 @@ fn wide(x: u16) -> u32
     x as u32
 }
 
-// Whether two stretches of minutes overlap, each with the gap behind it. It has no jumps: where every
-// turn is tested, one a turn would be guessed wrong too often.
+// Whether two stretches of minutes overlap, each with the gap behind it. It has no branch: where every turn
+// is tested, one at each turn would be mispredicted too often.
 pub fn overlap(gap: u16, start: u16, end: u16, from: u16, until: u16) -> bool
     ensures { λ r. ⌜ r ≡ overlapping gap start end from until ⌝ }
 {

@@ -6,7 +6,7 @@ use native.Mathlib.Omega.{arith}
 use lib.ListN.{getD}
 use Rattle.refusal.specs.Cause.{firstOf}
 use Rattle.turn.specs.declared.Turn.{Turn}
-use Rattle.turn.specs.Turn.{shiftMinutes, mostWorth, InRange}
+use Rattle.turn.specs.Turn.{shiftMinutes, mostWorth, InRange, mostDriver}
 use Rattle.model.specs.Turns.{Turns, PositiveLengths}
 use Rattle.sheet.specs.declared.kind.Kind.{Kind}
 use Rattle.sheet.specs.Kind.{mostTurns, garage, Sound}
@@ -63,6 +63,10 @@ module _ (K : Kind) (sound : Sound K) (gap : ℕ) (s : List ℕ) (z : firstOf (c
   unfolding problemOf
   sheet-groomers-for t h = (sheet-range-for t h .groomer-from, sheet-range-for t h .groomer-to)
 
+  pub sheet-drivers-for : (t : ℕ) → t < turnCount s → T .driver t ≤ mostDriver
+  unfolding problemOf
+  sheet-drivers-for t h = sheet-range-for t h .driver-to
+
 -- ---- the garage's sheet, with a shift's gap
 
 module _ (s : List ℕ) (z : firstOf (sheetCauses s) ≡ 0) where
@@ -97,3 +101,7 @@ module _ (s : List ℕ) (z : firstOf (sheetCauses s) ≡ 0) where
   pub sheet-groomers : (t : ℕ) → t < turnCount s → (1 ≤ sheetTurns s .groomer t) × (sheetTurns s .groomer t ≤ countsIn s .groomers)
   unfolding sheetTurns sheetCauses
   sheet-groomers = sheet-groomers-for garage garage-sound shiftGap s z
+
+  pub sheet-drivers : (t : ℕ) → t < turnCount s → sheetTurns s .driver t ≤ mostDriver
+  unfolding sheetTurns sheetCauses
+  sheet-drivers = sheet-drivers-for garage garage-sound shiftGap s z

@@ -10,19 +10,15 @@ use borrow.Author.Tests.{eq-eqb, ne-eqb}
 use Rattle.refusal.specs.Number.{badPrices}
 use Rattle.refusal.specs.Cause.{Cause, _when_, firstOf}
 use Rattle.refusal.proofs.Order.{first-stops, first-goes}
-use Rattle.turn.specs.Turn.{mostDriver}
 use Rattle.sheet.specs.declared.answer.ReadAnswer.{ReadAnswer}
-use Rattle.sheet.specs.Kind.{garage}
-use Rattle.sheet.specs.Read.{countsIn, turnCount, sheetCauses, answerOf}
-use Rattle.sheet.proofs.SoundKinds.{garage-sound}
+use Rattle.sheet.specs.Read.{countsIn, turnCount, sheetCauses}
 use Rattle.sheet.proofs.Readings.{sheet-numbered}
 use Rattle.sheet.proofs.Unrefused.{few-slopes, few-groomers}
-use Rattle.sheet.proofs.Whole.{whole-refusal, whole-accepted, whole-answer, whole-turns}
 use Rattle.instance.specs.declared.columns.Size.{Size}
 use Rattle.instance.specs.Columns.{turnsBy, Held}
-use Rattle.instance_spec.specs.Problem.{problemOf, shiftGap, sheetTurns}
-use Rattle.instance.specs.Load.{shiftSize, Posed}
-use Rattle.instance_spec.proofs.SheetTurns.{sheet-range-for, sheet-count, sheet-slopes, sheet-groomers}
+use Rattle.instance_spec.specs.Problem.{sheetTurns}
+use Rattle.instance.specs.Load.{shiftSize, Loaded}
+use Rattle.instance_spec.proofs.SheetTurns.{sheet-count, sheet-slopes, sheet-groomers, sheet-drivers}
 use Rattle.best_spec.specs.Table.{bestWorth}
 use Rattle.best_table.specs.Held.{Ranged}
 use Rattle.price_spec.specs.declared.LimitAnswer.{LimitAnswer}
@@ -31,30 +27,32 @@ use Rattle.price_spec.specs.Limit.{priceCount, limitCauses, sheetLimit, limitIs
 use Rattle.price_spec.proofs.Limits.{priced-sum, priced-best}
 use Rattle.prices.specs.declared.Extent.{Extent}
 use Rattle.prices.specs.Held.{countedTurns, turnsIn, Driven, Priced}
+use Rattle.refusal.proofs.Outcome.{unless-first, unless-none}
+use Rattle.instance.proofs.Posed.{loaded-held, loaded-turns, loaded-count}
 
 -- ---- the answer
 
-module _ (s prices : List ℕ) {r : ReadAnswer} (e : r ≡ answerOf s) where
+module _ (s cols prices : List ℕ) {r : ReadAnswer} (e : Loaded s r cols) where
   abbrev after : List Cause
   after = badPrices when not (eqb (length prices) (priceCount s)) ∷ []
 
   declines : (k : ℕ) → firstOf (limitCauses s prices) ≡ k → (k ≡ 0 → ⊥) → limitOf s prices ≡ limitRefused k
   unfolding limitOf
-  declines k f z = rw (f, ne-eqb k 0 z)
+  declines = unless-first (limitCauses s prices) (limitIs (sheetLimit s prices)) limitRefused
 
   pub limit-fault : {x : LimitAnswer} → (r .refusal ≡ 0 → ⊥) → x ≡ limitRefused (r .refusal) → x ≡ limitOf s prices
   unfolding limitCauses
-  limit-fault f g = g ∙ sym (declines (r .refusal) (first-stops (sheetCauses s) after (r .refusal) (sym (whole-refusal s e)) f) f)
+  limit-fault f g = g ∙ sym (declines (r .refusal) (first-stops (sheetCauses s) after (r .refusal) (sym (e .refusal)) f) f)
 
   module _ (f : r .refusal ≡ 0) where
     sound : firstOf (sheetCauses s) ≡ 0
-    sound = whole-accepted s e f
+    sound = e .posed f .sound
 
     turns-are : r .turns ≡ turnCount s
-    turns-are = whole-turns s e f
+    turns-are = e .posed f .count
 
     slopes-are : r .slopes ≡ countsIn s .slopes
-    slopes-are = ap (λ (x : ReadAnswer). x .slopes) (whole-answer s e f)
+    slopes-are = e .posed f .slopes
 
     later : {b : Bool} → eqb (length prices) (priceCount s) ≡ b → firstOf (limitCauses s prices) ≡ cond (not b) badPrices 0
     unfolding limitCauses firstOf
@@ -63,18 +61,15 @@ module _ (s prices : List ℕ) {r : ReadAnswer} (e : r ≡ answerOf s) where
     pub limit-other : {x : LimitAnswer} → (length prices ≡ r .slopes + r .turns → ⊥) → x ≡ limitRefused badPrices → x ≡ limitOf s prices
     limit-other d h = h ∙ sym (declines badPrices (later (ne-eqb (length prices) (priceCount s) (λ q. d (omega (arith, q, turns-are, slopes-are))))) (omega arith))
 
-    module _ (cols : List ℕ) (p : Size) (w : r .refusal ≡ 0 → Posed s cols) (q : p ≡ shiftSize (r .turns)) where
-      size-is : p ≡ shiftSize (turnCount s)
-      size-is = q ∙ ap shiftSize turns-are
-
-      pub limit-held : Held p cols
-      limit-held = rw size-is (w f .held)
+    module _ (p : Size) (q : p ≡ shiftSize (r .turns)) where
+      held : Held p cols
+      held = loaded-held s cols e f q
 
       posed : turnsBy p cols ≡ sheetTurns s
-      posed = rw size-is (w f .turns)
+      posed = loaded-turns s cols e f q
 
       inside : (t : ℕ) → t < p .count → t < turnCount s
-      inside t h = let z : p .count ≡ turnCount s = ap (λ (x : Size). x .count) size-is in omega (arith, z)
+      inside t h = omega (arith, loaded-count s cols e f q)
 
       pub limit-ranged : Ranged p cols
       limit-ranged =
@@ -82,12 +77,8 @@ module _ (s prices : List ℕ) {r : ReadAnswer} (e : r ≡ answerOf s) where
             groomers = λ t h. rw posed (omega (arith, sheet-groomers s sound t (inside t h), few-groomers s sound));
           }
 
-      sheet-drivers : (t : ℕ) → t < turnCount s → sheetTurns s .driver t ≤ mostDriver
-      unfolding sheetTurns problemOf sheetCauses
-      sheet-drivers t h = sheet-range-for garage garage-sound shiftGap s sound t h .driver-to
-
       pub limit-driven : Driven p cols
-      limit-driven = record { drivers = λ t h. rw posed (sheet-drivers t (inside t h)) }
+      limit-driven = record { drivers = λ t h. rw posed (sheet-drivers s sound t (inside t h)) }
 
       -- so many turns and slopes
       abbrev extent : Extent
@@ -97,11 +88,11 @@ module _ (s prices : List ℕ) {r : ReadAnswer} (e : r ≡ answerOf s) where
         pub limit-priced : Priced extent cols prices
         limit-priced =
             record {
-              places = limit-held .places;
-              few = limit-held .few;
+              places = held .places;
+              few = held .few;
               few-slopes = omega (arith, slopes-are, few-slopes s sound);
               numbers = λ t h. let z = sheet-slopes s sound t (inside t h) in rw posed (omega (arith, slopes-are, z .0), omega (arith, slopes-are, z .1));
-              drivers = λ t h. rw posed (sheet-drivers t (inside t h));
+              drivers = λ t h. rw posed (sheet-drivers s sound t (inside t h));
               list = let z : p .count ≡ r .turns = ap (λ (x : Size). x .count) q in omega (arith, l, z);
             }
 
@@ -111,7 +102,7 @@ module _ (s prices : List ℕ) {r : ReadAnswer} (e : r ≡ answerOf s) where
         pub limit-found : {x : ℕ} → x ≡ priceSum (turnsIn extent cols) (r .slopes) prices + bestWorth (countedTurns (turnsIn extent cols) (r .slopes) prices) → limitIs x ≡ limitOf s prices
         unfolding limitOf sheetLimit limitBy countedTurns
         limit-found h =
-            rw (later (eq-eqb (length prices) (priceCount s) (omega (arith, l, turns-are, slopes-are))))
-            (ap limitIs (h ∙ rw (posed, slopes-are) (ap (λ (n : ℕ). priceSum (sheetTurns s) (countsIn s .slopes) prices + n) (priced-best (sheetTurns s) (countsIn s .slopes) prices ∙ priced-sum (sheetTurns s) (countsIn s .slopes) prices (countsIn s .groomers) numbers))))
+            ap limitIs (h ∙ rw (posed, slopes-are) (ap (λ (n : ℕ). priceSum (sheetTurns s) (countsIn s .slopes) prices + n) (priced-best (sheetTurns s) (countsIn s .slopes) prices ∙ priced-sum (sheetTurns s) (countsIn s .slopes) prices (countsIn s .groomers) numbers)))
+            ∙ sym (unless-none (limitCauses s prices) _ limitRefused (later (eq-eqb (length prices) (priceCount s) (omega (arith, l, turns-are, slopes-are)))))
 
-pub ruleset limit-cases = (limit-fault, limit-other, limit-held, limit-ranged, limit-driven, limit-priced, limit-found)
+pub ruleset limit-cases = (limit-fault, limit-other, loaded-held, limit-ranged, limit-driven, limit-priced, limit-found)

@@ -13,7 +13,8 @@ use price_spec::LimitAnswer;
 use prices::Extent;
 use prices::ORDERS;
 
-// The limit of a problem, with places for the orders.
+// The limit of a problem, with places for the orders. Where no turn names a driver, the groomers'
+// order alone is enough.
 fn limit_with(
     e: Extent,
     cols: &[u16; PLACES],
@@ -26,8 +27,11 @@ fn limit_with(
     ensures { λ r. ⌜ r ≡ priceSum (turnsIn e (now (cols .entry))) (e .slopes) (now (prices .entry))
         + bestWorth (countedTurns (turnsIn e (now (cols .entry))) (e .slopes) (now (prices .entry))) ⌝ }
 {
-    prices::put_orders(e, cols, &mut *orders, &mut *room);
-    prices::limit_at(e, cols, &*orders, prices)
+    if 0 < prices::driver_bound(e.size, cols) {
+        prices::put_orders(e, cols, &mut *orders, &mut *room);
+        return prices::limit_at(e, cols, &*orders, prices);
+    }
+    prices::limit_undriven(e, cols, prices, &mut *orders)
 }
 
 fn refused(k: u8) -> LimitAnswer

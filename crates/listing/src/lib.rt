@@ -15,22 +15,25 @@ ghost use Rattle.listing_spec.specs.Text.{listingOf, refusedLine};
 ghost use Rattle.listing.specs.Ready.{Ready};
 ghost use Rattle.listing_spec.specs.Limits.{listingBytes};
 ghost use Rattle.listing_spec.specs.List.{listingFor, listOf};
-ghost use Rattle.listing_spec.specs.Answer.{listed, listRefused, textAnswer};
+ghost use Rattle.listing_spec.specs.Answer.{textAnswer};
+ghost use Rattle.refusal.specs.Outcome.{beside};
+ghost use Rattle.refusal.specs.Written.{writeRefused};
 use instance::PLACES;
 use instance::Size;
 use listing_lines::put_refused;
-use listing_spec::ListAnswer;
 use listing_spec::Sums;
 use parts::put_listing;
 use plan::BoardMade;
+use refusal::WriteAnswer;
 
-// Places for every listing.
-const LISTING_BYTES: usize = 3823;
+// Enough for every listing.
+pub const LISTING_BYTES: usize = 3823;
 
-fn refused(k: u8) -> ListAnswer
-    ensures { λ r. ⌜ r ≡ listRefused k ⌝ }
+// A refusal's answer.
+fn refused(k: u8) -> WriteAnswer
+    ensures { λ r. ⌜ r ≡ writeRefused k ⌝ }
 {
-    ListAnswer {
+    WriteAnswer {
         refusal: k,
         bytes: 0,
     }
@@ -45,10 +48,10 @@ fn list_map(
     map: &[u8],
     sums: Sums,
     out: &mut [u8],
-) -> ListAnswer
+) -> WriteAnswer
     requires { ⌜ Ready p (now cols) (now map)
         × (length (listingOf groomers (turnsBy p (now cols)) (choiceIn (p .count) (now map)) sums) ≤ listingBytes) ⌝ }
-    ensures { λ r. ⌜ listed r (now (out .exit)) ≡ textAnswer
+    ensures { λ r. ⌜ beside r (now (out .exit)) ≡ textAnswer
         (listingOf groomers (turnsBy p (now (cols .entry))) (choiceIn (p .count) (now (map .entry))) sums) (now (out .entry)) ⌝ }
 {
     let mut text = [0u8; LISTING_BYTES];
@@ -57,7 +60,7 @@ fn list_map(
         return refused(refusal::BUFFER_TOO_SMALL);
     }
     wire::put_bytes(&mut *out, 0, &text[..bytes]);
-    ListAnswer {
+    WriteAnswer {
         refusal: 0,
         bytes: bytes as u32,
     }
@@ -71,10 +74,10 @@ fn list_board(
     b: &[u8],
     made: BoardMade,
     out: &mut [u8],
-) -> ListAnswer
+) -> WriteAnswer
     requires { ⌜ Held p (now cols) × (length (listingFor groomers (turnsBy p (now cols))) ≤ listingBytes) ⌝ }
     requires { ⌜ (now b ≡ boardFor (turnsBy p (now cols))) × (made .ceiling ≡ ceiling (turnsBy p (now cols)) (steps (turnsBy p (now cols)))) ⌝ }
-    ensures { λ r. ⌜ listed r (now (out .exit)) ≡ textAnswer (listingFor groomers (turnsBy p (now (cols .entry)))) (now (out .entry)) ⌝ }
+    ensures { λ r. ⌜ beside r (now (out .exit)) ≡ textAnswer (listingFor groomers (turnsBy p (now (cols .entry)))) (now (out .entry)) ⌝ }
 {
     let sums = Sums {
         worth: board::worth(b),
@@ -92,9 +95,9 @@ fn list_problem(
     groomers: u16,
     out: &mut [u8],
     room: &mut [u16; PLACES],
-) -> ListAnswer
+) -> WriteAnswer
     requires { ⌜ Held p (now cols) × (length (listingFor groomers (turnsBy p (now cols))) ≤ listingBytes) × (length (now room) ≡ columnPlaces) ⌝ }
-    ensures { λ r. ⌜ listed r (now (out .exit)) ≡ textAnswer (listingFor groomers (turnsBy p (now (cols .entry)))) (now (out .entry)) ⌝ }
+    ensures { λ r. ⌜ beside r (now (out .exit)) ≡ textAnswer (listingFor groomers (turnsBy p (now (cols .entry)))) (now (out .entry)) ⌝ }
 {
     let mut space = [0u8; plan::BOARD_BYTES];
     let made = plan::write_board(p, cols, &mut space, &mut *room);
@@ -103,8 +106,8 @@ fn list_problem(
 }
 
 // Plans any bytes as a sheet, and writes the drivers' listing into any lent bytes.
-pub fn list(s: &[u8], out: &mut [u8]) -> ListAnswer
-    ensures { λ r. ⌜ listed r (now (out .exit)) ≡ listOf (now (s .entry)) (now (out .entry)) ⌝ }
+pub fn list(s: &[u8], out: &mut [u8]) -> WriteAnswer
+    ensures { λ r. ⌜ beside r (now (out .exit)) ≡ listOf (now (s .entry)) (now (out .entry)) ⌝ }
 {
     let mut cols = [0u16; PLACES];
     let mut room = [0u16; PLACES];

@@ -19,7 +19,7 @@ use listing_spec::Sums;
 // A note for each minute of the shift; a bit for each in a map of them.
 const NOTES: usize = turn::SHIFT_MINUTES as usize;
 
-// A groomer's heading and its round.
+// Puts a groomer's heading and the lines of its round.
 fn put_groomer(
     out: &mut [u8],
     at: usize,
@@ -40,7 +40,7 @@ fn put_groomer(
     put_notes(&mut *out, next, p, cols, &minutes, &notes)
 }
 
-// All groomers, by number.
+// Puts the parts of all groomers, by number.
 fn put_groomers(out: &mut [u8], p: Size, cols: &[u16; PLACES], map: &[u8], groomers: u16) -> usize
     requires { ⌜ Ready p (now cols) (now map) × (length (groomersFrom (turnsBy p (now cols)) (choiceIn (p .count) (now map)) groomers 1) ≤ lastPlace) ⌝ }
     ensures { λ r. ⌜ r ≡ length (groomersFrom (turnsBy p (now (cols .entry))) (choiceIn (p .count) (now (map .entry))) groomers 1) ⌝ }

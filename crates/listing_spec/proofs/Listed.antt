@@ -5,8 +5,8 @@ use mathlib.Core.List.{List}
 use mathlib.Core.Logic.{_↔_}
 use native.Mathlib.Omega.{arith}
 use lib.ListN.{length}
-use Rattle.refusal.specs.Cause.{There, firstOf}
-use Rattle.refusal.proofs.Written.{number-first, enough-iff}
+use Rattle.refusal.specs.Cause.{firstOf}
+use Rattle.refusal.proofs.Written.{written-number, written-iff}
 use Rattle.wire.specs.Number.{Bytes}
 use Rattle.lists.specs.Lists.{sum, below}
 use Rattle.model.specs.Turns.{Turns, PositiveLengths}
@@ -15,10 +15,8 @@ use Rattle.model.specs.Pick.{steps}
 use Rattle.model.proofs.Promised.{planned-keeps}
 use Rattle.sheet.specs.Read.{countsIn, turnCount, sheetCauses}
 use Rattle.sheet.specs.Accepted.{Accepted}
-use Rattle.sheet.proofs.Readings.{sheet-numbered}
-use Rattle.sheet.proofs.Accepting.{accepted-iff}
-use Rattle.refusal.proofs.Order.{first-same}
-use Rattle.sheet.proofs.ReadCauses.{lent-causes-iff}
+use Rattle.sheet.proofs.Accepting.{lent-accepted-iff}
+use Rattle.sheet.proofs.ReadCauses.{lent-tell}
 use Rattle.sheet.proofs.Unrefused.{few-turns}
 use Rattle.choice_map.specs.Choice.{mapOf, onesIn}
 use Rattle.board.specs.Board.{boardMap}
@@ -28,7 +26,7 @@ use Rattle.instance_spec.proofs.SheetTurns.{sheet-count, sheet-starts, sheet-le
 use Rattle.plan_spec.specs.Plan.{boardFor, plannedBoard}
 use Rattle.plan_spec.proofs.Boards.{choice-count}
 use Rattle.listing_spec.specs.Round.{roundOf, Round, StartsApart, shiftMinutes}
-use Rattle.listing_spec.specs.List.{sheetListing, listCauses, listOf, ListCause, FirstListCause}
+use Rattle.listing_spec.specs.List.{sheetListing, listCauses, listOf, FirstListCause}
 use Rattle.listing_spec.proofs.Rounds.{apart-starts, round-is, rounds-ones}
 
 module _ (s : List ℕ) (z : firstOf (sheetCauses s) ≡ 0) where
@@ -67,24 +65,16 @@ module _ (s : List ℕ) (z : firstOf (sheetCauses s) ≡ 0) where
 
 -- ---- refused
 
-pub list-number : (s lent : List ℕ) → listOf s lent .refusal ≡ firstOf (listCauses s (length lent))
+pub list-number : (s lent : List ℕ) → listOf s lent .answer .refusal ≡ firstOf (listCauses s (length lent))
 unfolding listOf
-list-number s lent = number-first (listCauses s (length lent)) _ lent
-
-list-causes-iff : (s : List ℕ) (places k r : ℕ) → ListCause s places k r ↔ There (listCauses s places) k r
-unfolding listCauses
-list-causes-iff s places = lent-causes-iff s (length (sheetListing s)) places
+list-number s lent = written-number (listCauses s (length lent)) _ lent
 
 -- the listing's number is that of the first cause there
-pub list-refused-iff : (s lent : List ℕ) (k : ℕ) → (k ≡ 0 → ⊥) → (listOf s lent .refusal ≡ k) ↔ FirstListCause s (length lent) k
-list-refused-iff s lent k z =
-    let same = first-same (listCauses s (length lent)) (ListCause s (length lent)) (list-causes-iff s (length lent)) k z in
-    (λ e. same .0 (sym (list-number s lent) ∙ e), λ f. list-number s lent ∙ same .1 f)
+pub list-refused-iff : (s lent : List ℕ) (k : ℕ) → (k ≡ 0 → ⊥) → (listOf s lent .answer .refusal ≡ k) ↔ FirstListCause s (length lent) k
+unfolding listOf listCauses
+list-refused-iff s lent = written-iff (listCauses s (length lent)) _ lent (lent-tell s (length (sheetListing s)) (length lent))
 
 -- the listing refuses nothing just if the sheet is accepted and the lent bytes hold this very listing
-pub list-accepted-iff : {s : List ℕ} → Bytes s → (lent : List ℕ) → (listOf s lent .refusal ≡ 0) ↔ (Accepted s × (length (sheetListing s) ≤ length lent))
+pub list-accepted-iff : {s : List ℕ} → Bytes s → (lent : List ℕ) → (listOf s lent .answer .refusal ≡ 0) ↔ (Accepted s × (length (sheetListing s) ≤ length lent))
 unfolding listCauses
-list-accepted-iff {s} b lent =
-    let e = enough-iff (sheetCauses s) (length lent) (length (sheetListing s)) (sheet-numbered s) in
-    let a = accepted-iff b in
-    (λ z. let h = e .0 (sym (list-number s lent) ∙ z) in (a .0 (h .0), h .1), λ h. list-number s lent ∙ e .1 (a .1 (h .0), h .1))
+list-accepted-iff {s} b lent = lent-accepted-iff b (length (sheetListing s)) (length lent) (list-number s lent)

@@ -1,10 +1,8 @@
 -- The listing entry: any bytes as a sheet, and lent bytes for the text (document 01: the program slopes; request R-7). Assumes nothing.
 use Prim.Native.Nat.{ℕ}
-use mathlib.Core.List.{List, [], _∷_, _++_}
+use mathlib.Core.List.{List}
 use lib.ListN.{length}
-use lib.Dec.{ltb}
-use Rattle.refusal.specs.Number.{bufferTooSmall}
-use Rattle.refusal.specs.Cause.{Cause, _when_}
+use Rattle.refusal.specs.Cause.{Cause}
 use Rattle.refusal.specs.Written.{Written, writtenUnless}
 use Rattle.model.specs.Turns.{Turns}
 use Rattle.model.specs.Steps.{tally}
@@ -16,6 +14,7 @@ use Rattle.sheet.specs.Accepted.{LentCause, FirstAmong}
 use Rattle.instance_spec.specs.Problem.{sheetTurns}
 use Rattle.listing_spec.specs.declared.Sums.{Sums}
 use Rattle.listing_spec.specs.Text.{listingOf}
+use Rattle.refusal.specs.Outcome.{thenRoom}
 
 -- what the planner's choice of some turns is worth, and the tally and the ceiling of the planner's steps
 unfoldable pub sumsFor : Turns → Sums
@@ -31,7 +30,7 @@ sheetListing s = listingFor (countsIn s .groomers) (sheetTurns s)
 
 -- after the sheet's causes: the lent bytes must hold this very listing
 unfoldable pub listCauses : List ℕ → ℕ → List Cause
-listCauses s places = sheetCauses s ++ bufferTooSmall when ltb places (length (sheetListing s)) ∷ []
+listCauses s places = thenRoom (sheetCauses s) (length (sheetListing s)) places
 
 -- on success the listing, then what was there; on a refusal all as before
 unfoldable pub listOf : List ℕ → List ℕ → Written
@@ -41,7 +40,7 @@ listOf s lent = writtenUnless (listCauses s (length lent)) (sheetListing s) lent
 
 -- a cause to refuse is there: the sheet's, or too few lent bytes
 abbrev pub ListCause : List ℕ → ℕ → ℕ → ℕ → Type 0
-ListCause s places = LentCause s (length (sheetListing s)) places
+ListCause s = LentCause s (length (sheetListing s))
 
 -- the first of them has number k
 abbrev pub FirstListCause : List ℕ → ℕ → ℕ → Type 0

@@ -7,16 +7,16 @@ use Rattle.model.specs.Turns.{Turns, NoDrivers}
 use Rattle.model.specs.Rules.{Independent, Maximal}
 use Rattle.model.specs.Feasible.{Feasible, worthOf, OneTurnASlope}
 
--- the promises, of a choice, its two sums, and its limit, which is the ceiling of its steps
-pub record Promises (T : Turns) (S : List Bool) (tallied worth limit : ℕ) : Type 0 where
+-- the promises, of a choice, its two sums, and a bound, which is the ceiling of its steps
+pub record Promises (T : Turns) (S : List Bool) (tallied worth bound : ℕ) : Type 0 where
   -- no feasible set is worth more than the ceiling
-  pub within-ceiling : (R : List ℕ) → Feasible T R → worthOf T R ≤ limit
+  pub within-ceiling : (R : List ℕ) → Feasible T R → worthOf T R ≤ bound
   -- which is at least the tally and at most three times as much, without drivers at most twice
-  pub ceiling-from : tallied ≤ limit
-  pub ceiling-to : limit ≤ 3 * tallied
-  pub ceiling-to-twice : NoDrivers T → limit ≤ 2 * tallied
+  pub ceiling-from : tallied ≤ bound
+  pub ceiling-to : bound ≤ 3 * tallied
+  pub ceiling-to-twice : NoDrivers T → bound ≤ 2 * tallied
   -- without drivers, where no slope has two turns, it is the tally, and so is the worth
-  pub ceiling-exact : NoDrivers T → OneTurnASlope T → (limit ≡ tallied) × (tallied ≡ worth)
+  pub ceiling-exact : NoDrivers T → OneTurnASlope T → (bound ≡ tallied) × (tallied ≡ worth)
   -- no feasible set is worth more than three times the tally
   pub thrice : (R : List ℕ) → Feasible T R → worthOf T R ≤ 3 * tallied
   -- nor more than twice the tally, where no slope has two turns

@@ -1,12 +1,12 @@
 -- The planned board of a sheet that is not refused. Assumes nothing.
 use Prim.Native.Nat.{ℕ, _<_, _≤_}
-use mathlib.Core.Path.{_≡_, sym, _∙_}
+use mathlib.Core.Path.{_≡_}
 use mathlib.Core.List.{List}
 use native.Mathlib.Omega.{arith}
 use lib.ListN.{length}
 use Rattle.refusal.specs.Cause.{firstOf}
 use Rattle.refusal.specs.Written.{wrote}
-use Rattle.refusal.proofs.Written.{wrote-all, number-first}
+use Rattle.refusal.proofs.Written.{written-all}
 use Rattle.turn.specs.Turn.{mostWorth}
 use Rattle.sheet.specs.Kind.{mostTurns}
 use Rattle.sheet.specs.Read.{sheetCauses}
@@ -31,6 +31,6 @@ module _ (s : List ℕ) (z : firstOf (sheetCauses s) ≡ 0) where
   planned-back = board-back (sheetTurns s) sheet-few worths
 
 -- where nothing is refused the lent bytes begin with its board
-pub plan-written : (s lent : List ℕ) → planOf s lent .refusal ≡ 0 → planOf s lent ≡ wrote (plannedBoard s) lent
+pub plan-written : (s lent : List ℕ) → planOf s lent .answer .refusal ≡ 0 → planOf s lent ≡ wrote (plannedBoard s) lent
 unfolding planOf
-plan-written s lent e = wrote-all (planCauses s (length lent)) (plannedBoard s) lent (sym (number-first (planCauses s (length lent)) (plannedBoard s) lent) ∙ e)
+plan-written s lent = written-all (planCauses s (length lent)) (plannedBoard s) lent

@@ -1,11 +1,11 @@
 -- What is judged before the first minute, and the entry's answer, by cases; each premise in the form in which the code's calls and tests leave it. Assumes nothing.
 use Prim.Native.Nat.{ℕ, suc, _*_, _≤_, _<_}
-use mathlib.Core.Path.{_≡_, refl, sym, _∙_, ap}
-use mathlib.Core.Bool.{Bool, true, false, _&&_}
+use mathlib.Core.Path.{_≡_, refl, sym, _∙_, ap, subst}
+use mathlib.Core.Bool.{Bool, true, false, not, _&&_}
 use mathlib.Core.List.{List, [], _∷_, _++_}
 use native.Mathlib.Omega.{arith}
 use native.Mathlib.Decide.{ℕ-discrete}
-use lib.Dec.{eqb}
+use lib.Dec.{T, eqb}
 use lib.ListN.{length, drop}
 use borrow.Author.Tests.{eq-eqb, ne-eqb, eqb-true}
 use Rattle.lists.specs.Lists.{tab}
@@ -16,36 +16,44 @@ use Rattle.refusal.proofs.Order.{first-stops, first-goes}
 use Rattle.turn.specs.Turn.{shiftMinutes}
 use Rattle.sheet.specs.Kind.{mostGroomers}
 use Rattle.sheet.specs.declared.answer.ReadAnswer.{ReadAnswer}
-use Rattle.sheet.specs.Read.{countsIn, turnCount, sheetCauses, answerOf}
+use Rattle.sheet.specs.Read.{countsIn, turnCount, sheetCauses}
 use Rattle.sheet.proofs.Readings.{sheet-numbered}
 use Rattle.sheet.proofs.Unrefused.{few-groomers}
-use Rattle.sheet.proofs.Whole.{whole-refusal, whole-accepted, whole-answer, whole-turns}
 use Rattle.model.specs.Turns.{Turns}
 use Rattle.choice_map.specs.Choice.{mapBytes, choiceIn}
 use Rattle.board.specs.Board.{boardTurns, boardMap, boardChoice}
 use Rattle.board_open.specs.Open.{malformed}
 use Rattle.instance.specs.declared.columns.Size.{Size}
 use Rattle.instance.specs.Columns.{turnsBy, Held}
-use Rattle.instance_spec.specs.Problem.{sheetTurns}
-use Rattle.instance.specs.Load.{shiftSize, Posed}
-use Rattle.instance.proofs.Rows.{count-is}
+use Rattle.instance_spec.specs.Problem.{shiftGap, sheetTurns}
+use Rattle.instance.specs.Load.{shiftSize, Loaded}
+use Rattle.instance.proofs.Rows.{count-is, gap-is, lengths-are}
+use Rattle.instance_spec.proofs.SheetTurns.{sheet-count, sheet-groomers}
+use Rattle.model.specs.Rules.{Independent}
+use Rattle.model.proofs.Readings.{independent-is}
+use Rattle.play_spec.proofs.Delayed.{taken-few}
 use Rattle.replay.specs.declared.replay.Judgement.{Judgement}
 use Rattle.check_spec.specs.Check.{boardCauses, checkCauses}
 use Rattle.replay.specs.Judged.{judged}
 use Rattle.replay.proofs.Faults.{judged-number}
 use Rattle.check_spec.proofs.Passing.{board-clear, board-numbered}
 use Rattle.play_spec.specs.Day.{delayIn, delaysFit, dayOf}
-use Rattle.play_spec.specs.DayTable.{dayTablePlaces, DelaysFit, Days}
+use Rattle.play_spec.specs.DayTable.{DelaysFit, Days}
 use Rattle.play_spec.proofs.Delays.{fit-delays}
 use Rattle.play_spec.specs.declared.Standing.{Standing}
 use Rattle.play_spec.specs.declared.PlayAnswer.{PlayAnswer}
 use Rattle.play.specs.declared.Prepared.{Prepared}
+use Rattle.play.specs.declared.Lent.{Lent}
+use Rattle.play_days.specs.Table.{blankTable, GroomersKnown, Playable}
+use Rattle.play_days.proofs.Rows.{blank-places}
 use Rattle.play_spec.specs.Standing.{standingAfter}
 use Rattle.play_spec.specs.Play.{servesFor, lentCauses, playCauses, dayAt, standingsOf, played, playRefused, playOf}
 use Rattle.play_spec.specs.Minutes.{minutesFrom}
 use Rattle.play.specs.Prepared.{PreparedBy, PreparedFor}
-use Rattle.play_spec.proofs.ListedStandings.{minutes-say, none-moved}
+use Rattle.play_spec.proofs.ListedStandings.{minutes-say}
 use Rattle.play_spec.proofs.LentCauses.{by-delays, by-places, by-none}
+use Rattle.refusal.proofs.Outcome.{unless-first, unless-none}
+use Rattle.instance.proofs.Posed.{loaded-turns, loaded-count}
 
 -- ---- the delays' test
 
@@ -68,23 +76,23 @@ append-assoc (x ∷ xs) ys zs = ap (λ (ws : List Cause). x ∷ ws) (append-asso
 -- ---- what is prepared
 
 abbrev Refused : Prepared → ℕ → Type 0
-Refused p k = (p .refusal ≡ k) × (p .groomers ≡ 0) × (p .moved ≡ 0) × (length (p .table) ≡ dayTablePlaces)
+Refused p k = (p .refusal ≡ k) × (p .groomers ≡ 0) × (p .moved ≡ 0)
 
-given : (causes : List Cause) (T : Turns) (groomers : ℕ) (S : List Bool) (delays : List ℕ) (places k : ℕ) (p : Prepared) → firstOf causes ≡ k → (k ≡ 0 → ⊥) → Refused p k → PreparedBy causes T groomers S delays places p
-given causes T groomers S delays places k p e z q = record {
+given : (causes : List Cause) (T : Turns) (lent : Lent) (S : List Bool) (delays : List ℕ) (k : ℕ) (p : Prepared) (table : List ℕ) → firstOf causes ≡ k → (k ≡ 0 → ⊥) → table ≡ blankTable → Refused p k → PreparedBy causes T lent S delays p table
+given causes T lent S delays k p table e z b q = record {
   number = q .0 ∙ sym e;
   none = λ _. q .1;
   groomers-are = λ y. absurd (z (sym (q .0) ∙ y));
   days = λ y. absurd (z (sym (q .0) ∙ y));
-  places-are = q .3;
+  places-are = blank-places b;
   moved-are = q .2 ∙ sym (q .1);
   few = omega (arith, q .2);
   inside = omega (arith, q .2);
 }
 
 -- the same where causes that are not there stand in front
-carried : (front causes : List Cause) (T : Turns) (groomers : ℕ) (S : List Bool) (delays : List ℕ) (places : ℕ) (p : Prepared) → firstOf front ≡ firstOf causes → PreparedBy causes T groomers S delays places p → PreparedBy front T groomers S delays places p
-carried front causes T groomers S delays places p e w = record {
+carried : (front causes : List Cause) (T : Turns) (lent : Lent) (S : List Bool) (delays : List ℕ) (p : Prepared) (table : List ℕ) → firstOf front ≡ firstOf causes → PreparedBy causes T lent S delays p table → PreparedBy front T lent S delays p table
+carried front causes T lent S delays p table e w = record {
   number = w .number ∙ sym e;
   none = w .none;
   groomers-are = w .groomers-are;
@@ -97,18 +105,21 @@ carried front causes T groomers S delays places p e w = record {
 
 -- ---- as the code leaves it: for a board that passes
 
-module _ (p : Size) (cols : List ℕ) (groomers : ℕ) (b delays : List ℕ) (places : ℕ) where
-  pub days-delays : (x : Prepared) {c : Bool} → c ≡ servesFor (p .count) delays → c ≡ false → Refused x badDelays → PreparedBy (lentCauses groomers (p .count) delays places) (turnsBy p cols) groomers (boardChoice b) delays places x
-  days-delays x d f r = given (lentCauses groomers (p .count) delays places) (turnsBy p cols) groomers (boardChoice b) delays places badDelays x (by-delays groomers (p .count) delays places (sym d ∙ f)) (λ n. omega (arith, n)) r
+module _ (p : Size) (cols : List ℕ) (lent : Lent) (b delays : List ℕ) where
+  abbrev its : List Cause
+  its = lentCauses (lent .groomers) (p .count) delays (lent .places)
 
-  pub days-small : (x : Prepared) {c : Bool} → c ≡ servesFor (p .count) delays → c ≡ true → places < groomers → Refused x bufferTooSmall → PreparedBy (lentCauses groomers (p .count) delays places) (turnsBy p cols) groomers (boardChoice b) delays places x
-  days-small x d f l r = given (lentCauses groomers (p .count) delays places) (turnsBy p cols) groomers (boardChoice b) delays places bufferTooSmall x (by-places groomers (p .count) delays places (sym d ∙ f) l) (λ n. omega (arith, n)) r
+  pub days-delays : (x : Prepared) (table : List ℕ) {c : Bool} → c ≡ servesFor (p .count) delays → c ≡ false → table ≡ blankTable → Refused x badDelays → PreparedBy (lentCauses (lent .groomers) (p .count) delays (lent .places)) (turnsBy p cols) lent (boardChoice b) delays x table
+  days-delays x table d f o r = given its (turnsBy p cols) lent (boardChoice b) delays badDelays x table (by-delays (lent .groomers) (p .count) delays (lent .places) (sym d ∙ f)) (λ n. omega (arith, n)) o r
 
-  pub days-done : {c : Bool} {map table : List ℕ} → c ≡ servesFor (p .count) delays → c ≡ true → groomers ≤ places → groomers ≤ mostGroomers → boardTurns b ≡ p .count → map ≡ boardMap b → Days (turnsBy p cols) (choiceIn (p .count) map) (delayIn delays) table
-      → PreparedBy (lentCauses groomers (p .count) delays places) (turnsBy p cols) groomers (boardChoice b) delays places (record { refusal = 0; groomers = groomers; moved = groomers; table = table })
+  pub days-small : (x : Prepared) (table : List ℕ) {c : Bool} → c ≡ servesFor (p .count) delays → c ≡ true → lent .places < lent .groomers → table ≡ blankTable → Refused x bufferTooSmall → PreparedBy (lentCauses (lent .groomers) (p .count) delays (lent .places)) (turnsBy p cols) lent (boardChoice b) delays x table
+  days-small x table d f l o r = given its (turnsBy p cols) lent (boardChoice b) delays bufferTooSmall x table (by-places (lent .groomers) (p .count) delays (lent .places) (sym d ∙ f) l) (λ n. omega (arith, n)) o r
+
+  pub days-done : {c : Bool} {map table : List ℕ} → c ≡ servesFor (p .count) delays → c ≡ true → lent .groomers ≤ lent .places → lent .groomers ≤ mostGroomers → boardTurns b ≡ p .count → map ≡ boardMap b → Days (turnsBy p cols) (choiceIn (p .count) map) (delayIn delays) table
+      → PreparedBy (lentCauses (lent .groomers) (p .count) delays (lent .places)) (turnsBy p cols) lent (boardChoice b) delays (record { refusal = 0; groomers = lent .groomers; moved = lent .groomers }) table
   unfolding boardChoice
   days-done d f l few n m t = record {
-    number = sym (by-none groomers (p .count) delays places (sym d ∙ f) l);
+    number = sym (by-none (lent .groomers) (p .count) delays (lent .places) (sym d ∙ f) l);
     none = λ z. absurd (z refl);
     groomers-are = λ _. refl;
     days = λ _. rw (n, ← m) t;
@@ -121,6 +132,12 @@ module _ (p : Size) (cols : List ℕ) (groomers : ℕ) (b delays : List ℕ) (pl
   pub days-bits : (map : List ℕ) → boardTurns b ≡ p .count → length map ≡ mapBytes (boardTurns b) → p .count ≤ 8 * length map
   days-bits map n l = omega (arith, l, n)
 
+  pub days-playable : (map : List ℕ) → boardTurns b ≡ p .count → map ≡ boardMap b → Playable (turnsBy p cols) (boardChoice b) → Playable (turnsBy p cols) (choiceIn (p .count) map)
+  unfolding boardChoice
+  days-playable map n m w =
+      let e : choiceIn (boardTurns b) (boardMap b) ≡ choiceIn (p .count) map = λ i. choiceIn (n i) (sym m i) in
+      subst (Playable (turnsBy p cols)) e w
+
   pub days-fit : {c : Bool} → c ≡ servesFor (p .count) delays → c ≡ true → DelaysFit delays (p .count)
   unfolding servesFor
   days-fit d f =
@@ -128,7 +145,7 @@ module _ (p : Size) (cols : List ℕ) (groomers : ℕ) (b delays : List ℕ) (pl
       let k : length delays ≡ p .count = eqb-true (length delays) (p .count) (and-1 (eqb (length delays) (p .count)) (delaysFit delays (length delays)) t) in
       fit-delays delays (p .count) (sym k) (ap (delaysFit delays) (sym k) ∙ and-2 (eqb (length delays) (p .count)) (delaysFit delays (length delays)) t)
 
-pub ruleset days-cases = (days-delays, days-small, days-done, days-bits, days-fit)
+pub ruleset days-cases = (days-delays, days-small, days-done, days-bits, days-playable, days-fit)
 
 -- ---- for a board and a problem
 
@@ -142,52 +159,63 @@ module _ (T : Turns) (b : List ℕ) (limit : ℕ) {j : Judgement} (e : j ≡ jud
   pub board-counted : j .fault ≡ 0 → boardTurns b ≡ T .count
   board-counted z = board-clear T b (fault-is ∙ z) .counted
 
-  module _ (causes : List Cause) (groomers : ℕ) (S : List Bool) (delays : List ℕ) (places : ℕ) (x : Prepared) where
-    pub board-refused : (j .fault ≡ 0 → ⊥) → Refused x (j .fault) → PreparedBy (boardCauses T b ++ causes) T groomers S delays places x
-    board-refused z r = given (boardCauses T b ++ causes) T groomers S delays places (j .fault) x (first-stops (boardCauses T b) causes (j .fault) fault-is z) z r
+  module _ (causes : List Cause) (lent : Lent) (S : List Bool) (delays : List ℕ) (x : Prepared) (table : List ℕ) where
+    pub board-refused : (j .fault ≡ 0 → ⊥) → table ≡ blankTable → Refused x (j .fault) → PreparedBy (boardCauses T b ++ causes) T lent S delays x table
+    board-refused z o r = given (boardCauses T b ++ causes) T lent S delays (j .fault) x table (first-stops (boardCauses T b) causes (j .fault) fault-is z) z o r
 
-    pub board-passes : j .fault ≡ 0 → PreparedBy causes T groomers S delays places x → PreparedBy (boardCauses T b ++ causes) T groomers S delays places x
-    board-passes z w = carried (boardCauses T b ++ causes) causes T groomers S delays places x (first-goes (boardCauses T b) causes (board-numbered T b) (fault-is ∙ z)) w
+    pub board-passes : j .fault ≡ 0 → PreparedBy causes T lent S delays x table → PreparedBy (boardCauses T b ++ causes) T lent S delays x table
+    board-passes z w = carried (boardCauses T b ++ causes) causes T lent S delays x table (first-goes (boardCauses T b) causes (board-numbered T b) (fault-is ∙ z)) w
 
 pub board-size : (p : Size) (cols b : List ℕ) (limit : ℕ) {j : Judgement} → j ≡ judged (firstOf (boardCauses (turnsBy p cols) b)) limit → j .fault ≡ 0 → boardTurns b ≡ p .count
 board-size p cols b limit e z = board-counted (turnsBy p cols) b limit e z ∙ count-is p cols
 
-pub ruleset board-cases = (board-formed, board-size, board-refused, board-passes)
+-- what a board that passes gives for its days: its turns leave ten minutes to each other
+pub board-playable : (p : Size) (cols b : List ℕ) (limit : ℕ) {j : Judgement} → j ≡ judged (firstOf (boardCauses (turnsBy p cols) b)) limit → j .fault ≡ 0 → Held p cols → p .gap ≡ shiftGap → GroomersKnown (turnsBy p cols) → Playable (turnsBy p cols) (boardChoice b)
+board-playable p cols b limit e z h gap known =
+    let T : Turns = turnsBy p cols in
+    let apart : Independent T (boardChoice b) = independent-is T (boardChoice b) (lengths-are p cols h) .0 (board-clear T b (fault-is T b limit e ∙ z) .apart) in
+    record { known = known; rows = λ g i. taken-few T (boardChoice b) (suc g) apart (lengths-are p cols h) (omega (arith, gap-is p cols, gap)) (λ t l. h .ends t (omega (arith, l, count-is p cols))) i }
+
+pub ruleset board-cases = (board-formed, board-size, board-playable, board-refused, board-passes)
 
 -- ---- for a sheet
 
-module _ (s b delays : List ℕ) (places : ℕ) {a : ReadAnswer} (e : a ≡ answerOf s) where
-  pub sheet-refused : (x : Prepared) → (a .refusal ≡ 0 → ⊥) → Refused x (a .refusal) → PreparedFor s b delays places x
+module _ (s b delays cols : List ℕ) (places : ℕ) {a : ReadAnswer} (e : Loaded s a cols) where
+  pub sheet-refused : (x : Prepared) (table : List ℕ) → (a .refusal ≡ 0 → ⊥) → table ≡ blankTable → Refused x (a .refusal) → PreparedFor s b delays places x table
   unfolding playCauses checkCauses
-  sheet-refused x z r =
-      given (playCauses s b delays places) (sheetTurns s) (countsIn s .groomers) (boardChoice b) delays places (a .refusal) x
-      (first-stops (sheetCauses s ++ boardCauses (sheetTurns s) b) _ (a .refusal) (first-stops (sheetCauses s) (boardCauses (sheetTurns s) b) (a .refusal) (sym (whole-refusal s e)) z) z) z r
+  sheet-refused x table z o r =
+      given (playCauses s b delays places) (sheetTurns s) (record { groomers = countsIn s .groomers; places = places }) (boardChoice b) delays (a .refusal) x table
+      (first-stops (sheetCauses s ++ boardCauses (sheetTurns s) b) _ (a .refusal) (first-stops (sheetCauses s) (boardCauses (sheetTurns s) b) (a .refusal) (sym (e .refusal)) z) z) z o r
 
-module _ (s : List ℕ) {a : ReadAnswer} (e : a ≡ answerOf s) (y : a .refusal ≡ 0) where
+module _ (s cols : List ℕ) {a : ReadAnswer} (e : Loaded s a cols) (y : a .refusal ≡ 0) where
   groomers-of : a .groomers ≡ countsIn s .groomers
-  groomers-of = ap (λ (x : ReadAnswer). x .groomers) (whole-answer s e y)
+  groomers-of = e .posed y .groomers
 
   pub sheet-few : a .groomers ≤ mostGroomers
-  sheet-few = omega (arith, groomers-of, few-groomers s (whole-accepted s e y))
+  sheet-few = omega (arith, groomers-of, few-groomers s (e .posed y .sound))
 
-  module _ (cols : List ℕ) {p : Size} (w : a .refusal ≡ 0 → Posed s cols) (q : p ≡ shiftSize (a .turns)) where
-    pub sheet-held : Held p cols
-    sheet-held = rw (q, whole-turns s e y) (w y .held)
-
+  module _ {p : Size} (q : p ≡ shiftSize (a .turns)) where
     turns-are : turnsBy p cols ≡ sheetTurns s
-    turns-are = rw (q, whole-turns s e y) (w y .turns)
+    turns-are = loaded-turns s cols e y q
 
     size-is : p .count ≡ turnCount s
-    size-is = ap (λ (x : Size). x .count) q ∙ whole-turns s e y
+    size-is = loaded-count s cols e y q
 
-    pub sheet-prepared : (b delays : List ℕ) (places : ℕ) (x : Prepared) → PreparedBy (boardCauses (turnsBy p cols) b ++ lentCauses (a .groomers) (p .count) delays places) (turnsBy p cols) (a .groomers) (boardChoice b) delays places x → PreparedFor s b delays places x
+    pub sheet-gap : p .gap ≡ shiftGap
+    sheet-gap = ap (λ (x : Size). x .gap) q
+
+    pub sheet-known : GroomersKnown (turnsBy p cols)
+    sheet-known = rw turns-are (record { each = λ t l. let r = sheet-groomers s (e .posed y .sound) t (omega (arith, l, sheet-count s (e .posed y .sound))) in (r .0, omega (arith, r .1, few-groomers s (e .posed y .sound))) })
+
+    pub sheet-prepared : (b delays : List ℕ) (places : ℕ) (x : Prepared) (table : List ℕ) → PreparedBy (boardCauses (turnsBy p cols) b ++ lentCauses (a .groomers) (p .count) delays places) (turnsBy p cols) (record { groomers = a .groomers; places = places }) (boardChoice b) delays x table → PreparedFor s b delays places x table
     unfolding playCauses checkCauses
-    sheet-prepared b delays places x v =
-        let v′ : PreparedBy (boardCauses (sheetTurns s) b ++ lentCauses (countsIn s .groomers) (turnCount s) delays places) (sheetTurns s) (countsIn s .groomers) (boardChoice b) delays places x = rw (turns-are, groomers-of, size-is) at v in
-        carried ((sheetCauses s ++ boardCauses (sheetTurns s) b) ++ lentCauses (countsIn s .groomers) (turnCount s) delays places) _ (sheetTurns s) (countsIn s .groomers) (boardChoice b) delays places x
-        (ap firstOf (append-assoc (sheetCauses s) (boardCauses (sheetTurns s) b) (lentCauses (countsIn s .groomers) (turnCount s) delays places)) ∙ first-goes (sheetCauses s) _ (sheet-numbered s) (whole-accepted s e y)) v′
+    sheet-prepared b delays places x table v =
+        let lent : Lent = record { groomers = countsIn s .groomers; places = places } in
+        let v′ : PreparedBy (boardCauses (sheetTurns s) b ++ lentCauses (countsIn s .groomers) (turnCount s) delays places) (sheetTurns s) lent (boardChoice b) delays x table = rw (turns-are, groomers-of, size-is) at v in
+        carried ((sheetCauses s ++ boardCauses (sheetTurns s) b) ++ lentCauses (countsIn s .groomers) (turnCount s) delays places) _ (sheetTurns s) lent (boardChoice b) delays x table
+        (ap firstOf (append-assoc (sheetCauses s) (boardCauses (sheetTurns s) b) (lentCauses (countsIn s .groomers) (turnCount s) delays places)) ∙ first-goes (sheetCauses s) _ (sheet-numbered s) (e .posed y .sound)) v′
 
-pub ruleset prepared-cases = (sheet-refused, sheet-few, sheet-held, sheet-prepared)
+pub ruleset prepared-cases = (sheet-refused, sheet-prepared)
 
 -- ---- the entry
 
@@ -195,27 +223,30 @@ pub ruleset prepared-cases = (sheet-refused, sheet-few, sheet-held, sheet-prepar
 abbrev standingsUpTo : List ℕ → List ℕ → List ℕ → ℕ → List Standing
 standingsUpTo s b delays k = tab k (λ g. standingAfter (dayOf (sheetTurns s) (boardChoice b) (delayIn delays) (suc g)) shiftMinutes)
 
-module _ (s b delays : List ℕ) (lent : List Standing) where
-  refused-is : (k : ℕ) → firstOf (playCauses s b delays (length lent)) ≡ k → (k ≡ 0 → ⊥) → played (playRefused k) lent ≡ playOf s b delays lent
+module _ (s b delays : List ℕ) (lent : List Standing) (p : Prepared) (table : List ℕ) (w : PreparedFor s b delays (length lent) p table) {r : PlayAnswer} (x : r ≡ record { refusal = p .refusal; groomers = p .groomers }) where
+  -- where something is refused, the list is as it was
+  pub play-refused : (p .refusal ≡ 0 → ⊥) → played r lent ≡ playOf s b delays lent
   unfolding playOf
-  refused-is k e z = rw (e, ne-eqb k 0 z)
+  play-refused z =
+      let c : r ≡ playRefused (p .refusal) = x ∙ (λ i. record { refusal = p .refusal; groomers = w .none z i }) in
+      rw c (sym (unless-first (playCauses s b delays (length lent)) _ (λ k. played (playRefused k) lent) (p .refusal) (sym (w .number)) z))
 
-  answered-is : firstOf (playCauses s b delays (length lent)) ≡ 0 → played (record { refusal = 0; groomers = countsIn s .groomers }) (standingsOf s b delays ++ drop (countsIn s .groomers) lent) ≡ playOf s b delays lent
-  unfolding playOf
-  answered-is e = rw e
+  pub play-answer : p .refusal ≡ 0 → {zs : List Standing} → zs ≡ minutesFrom shiftMinutes 0 (p .moved) lent table → played r zs ≡ playOf s b delays lent
+  unfolding playOf standingsOf dayAt
+  play-answer z y =
+      let n : p .groomers ≡ countsIn s .groomers = w .groomers-are z in
+      let a = y ∙ minutes-say (sheetTurns s) (boardChoice b) (delayIn delays) table (w .days z) (p .moved) (w .few) lent (w .inside) shiftMinutes (omega arith) (omega arith) ∙ ap (λ (k : ℕ). standingsUpTo s b delays k ++ drop k lent) (w .moved-are ∙ n) in
+      let c : r ≡ record { refusal = 0; groomers = countsIn s .groomers } = x ∙ (λ i. record { refusal = z i; groomers = n i }) in
+      rw (a, c) (sym (unless-none (playCauses s b delays (length lent)) _ (λ k. played (playRefused k) lent) (sym (w .number) ∙ z)))
 
-  pub play-answer : (p : Prepared) → PreparedFor s b delays (length lent) p → {r : PlayAnswer} {zs : List Standing} → r ≡ record { refusal = p .refusal; groomers = p .groomers } → zs ≡ minutesFrom shiftMinutes 0 (p .moved) lent (p .table) → played r zs ≡ playOf s b delays lent
-  unfolding standingsOf dayAt
-  play-answer p w {r} {zs} x y = go (ℕ-discrete (p .refusal) 0)
-    where
-      go : Dec (p .refusal ≡ 0) → played r zs ≡ playOf s b delays lent
-      go (yes z) =
-          let n : p .groomers ≡ countsIn s .groomers = w .groomers-are z in
-          let a : zs ≡ standingsOf s b delays ++ drop (countsIn s .groomers) lent = y ∙ minutes-say (sheetTurns s) (boardChoice b) (delayIn delays) (p .table) (w .days z) (p .moved) (w .few) lent (w .inside) shiftMinutes (omega arith) (omega arith) ∙ ap (λ (k : ℕ). standingsUpTo s b delays k ++ drop k lent) (w .moved-are ∙ n) in
-          let c : r ≡ record { refusal = 0; groomers = countsIn s .groomers } = x ∙ (λ i. record { refusal = z i; groomers = n i }) in
-          (λ i. played (c i) (a i)) ∙ answered-is (sym (w .number) ∙ z)
-      go (no z) =
-          let n : p .groomers ≡ 0 = w .none z in
-          let a : zs ≡ lent = y ∙ ap (λ (k : ℕ). minutesFrom shiftMinutes 0 k lent (p .table)) (w .moved-are ∙ n) ∙ none-moved shiftMinutes 0 lent (p .table) in
-          let c : r ≡ playRefused (p .refusal) = x ∙ (λ i. record { refusal = p .refusal; groomers = n i }) in
-          (λ i. played (c i) (a i)) ∙ refused-is (p .refusal) (sym (w .number)) z
+-- ---- the test of a refusal's number, as a branch leaves it
+
+pub is-some : (n : ℕ) → T (not (eqb n 0)) → n ≡ 0 → ⊥
+is-some n t z = subst (λ (y : Bool). T (not y)) (eq-eqb n 0 z) t
+
+pub is-none : (n : ℕ) → T (not (not (eqb n 0))) → n ≡ 0
+is-none n t = go (ℕ-discrete n 0)
+  where
+    go : Dec (n ≡ 0) → n ≡ 0
+    go (yes e) = e
+    go (no e) = absurd (subst (λ (y : Bool). T (not (not y))) (ne-eqb n 0 e) t)

@@ -13,19 +13,20 @@ use Rattle.board.specs.Board.{boardChoice}
 use Rattle.play_spec.specs.Day.{delayIn}
 use Rattle.play_spec.specs.DayTable.{dayTablePlaces, Days}
 use Rattle.play.specs.declared.Prepared.{Prepared}
+use Rattle.play.specs.declared.Lent.{Lent}
 use Rattle.play_spec.specs.Play.{playCauses}
 
--- what is worked out before the first minute, where these are the causes to refuse: the answer, and where none is there a table that holds the days
-pub record PreparedBy (causes : List Cause) (T : Turns) (groomers : ℕ) (S : List Bool) (delays : List ℕ) (places : ℕ) (p : Prepared) : Type 0 where
+-- what is known before the first minute, where these are the causes to refuse: the answer, and where none is there a table that holds the days
+pub record PreparedBy (causes : List Cause) (T : Turns) (lent : Lent) (S : List Bool) (delays : List ℕ) (p : Prepared) (table : List ℕ) : Type 0 where
   pub number : p .refusal ≡ firstOf causes
   pub none : (p .refusal ≡ 0 → ⊥) → p .groomers ≡ 0
-  pub groomers-are : p .refusal ≡ 0 → p .groomers ≡ groomers
-  pub days : p .refusal ≡ 0 → Days T S (delayIn delays) (p .table)
-  pub places-are : length (p .table) ≡ dayTablePlaces
+  pub groomers-are : p .refusal ≡ 0 → p .groomers ≡ lent .groomers
+  pub days : p .refusal ≡ 0 → Days T S (delayIn delays) table
+  pub places-are : length table ≡ dayTablePlaces
   pub moved-are : p .moved ≡ p .groomers
   pub few : p .moved ≤ mostGroomers
-  pub inside : p .moved ≤ places
+  pub inside : p .moved ≤ lent .places
 
 -- for a sheet and a board
-abbrev pub PreparedFor : List ℕ → List ℕ → List ℕ → ℕ → Prepared → Type 0
-PreparedFor s b delays places p = PreparedBy (playCauses s b delays places) (sheetTurns s) (countsIn s .groomers) (boardChoice b) delays places p
+abbrev pub PreparedFor : List ℕ → List ℕ → List ℕ → ℕ → Prepared → List ℕ → Type 0
+PreparedFor s b delays places p table = PreparedBy (playCauses s b delays places) (sheetTurns s) (record { groomers = countsIn s .groomers; places = places }) (boardChoice b) delays p table

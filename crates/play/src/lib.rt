@@ -8,6 +8,7 @@ ghost use lib.ListN.{length};
 ghost use Rattle.turn.specs.Turn.{shiftMinutes};
 ghost use Rattle.sheet.specs.Kind.{mostGroomers};
 ghost use Rattle.instance.specs.Columns.{turnsBy, Held};
+ghost use Rattle.instance_spec.specs.Problem.{shiftGap};
 ghost use Rattle.board.specs.Board.{boardTurns, boardChoice};
 ghost use Rattle.board_open.specs.Open.{malformed};
 ghost use Rattle.check_spec.specs.Check.{boardCauses};
@@ -15,6 +16,7 @@ ghost use Rattle.play_spec.specs.DayTable.{dayTablePlaces};
 ghost use Rattle.play_spec.specs.Standing.{freshOf};
 ghost use Rattle.play_spec.specs.Play.{servesFor, lentCauses, played, playOf};
 ghost use Rattle.play_spec.specs.Minutes.{begunOf, stepOf, minuteOf, minutesFrom, MinuteReady, AllReady};
+ghost use Rattle.play_days.specs.Table.{blankTable, GroomersKnown, Playable};
 ghost use Rattle.play.specs.Prepared.{PreparedBy, PreparedFor};
 use instance::PLACES;
 use instance::Size;
@@ -24,13 +26,17 @@ use play_days::OVER_MINUTES;
 use play_spec::PlayAnswer;
 use play_spec::Standing;
 
-// What is worked out before the first minute: the answer, how many standings are moved, and the days of
-// all groomers.
+// What is known before the first minute: the answer, and how many standings are moved.
 pub struct Prepared {
     pub refusal: u8,
     pub groomers: u16,
     pub moved: usize,
-    pub table: [u16; DAY_TABLE_PLACES],
+}
+
+// How many standings are wanted, and how many places the caller lends for them.
+pub struct Lent {
+    pub groomers: u16,
+    pub places: usize,
 }
 
 // The turn in hand where none is.
@@ -115,13 +121,12 @@ pub fn minutes(list: &mut [Standing], table: &[u16], n: usize)
 }
 
 fn refused(k: u8) -> Prepared
-    ensures { λ r. ⌜ (r .refusal ≡ k) × (r .groomers ≡ 0) × (r .moved ≡ 0) × (length (r .table) ≡ dayTablePlaces) ⌝ }
+    ensures { λ r. ⌜ (r .refusal ≡ k) × (r .groomers ≡ 0) × (r .moved ≡ 0) ⌝ }
 {
     Prepared {
         refusal: k,
         groomers: 0,
         moved: 0,
-        table: [0; DAY_TABLE_PLACES],
     }
 }
 
@@ -135,59 +140,68 @@ fn delays_serve(delays: &[u16], n: usize) -> bool
     false
 }
 
-// What is prepared for a board that passes, for a list of so many places.
+// For a board that passes: the days go into the blank table.
 fn prepare_days(
     p: Size,
     cols: &[u16; PLACES],
-    groomers: u16,
+    lent: Lent,
     board: &[u8],
     delays: &[u16],
-    places: usize,
+    table: &mut [u16; DAY_TABLE_PLACES],
 ) -> Prepared
-    requires { ⌜ Held p (now cols) × (groomers ≤ mostGroomers) × (malformed (now board) ≡ false) × (boardTurns (now board) ≡ p .count) ⌝ }
-    ensures { λ r. ⌜ PreparedBy (lentCauses groomers (p .count) (now (delays .entry)) places) (turnsBy p (now (cols .entry))) groomers
-        (boardChoice (now (board .entry))) (now (delays .entry)) places r ⌝ }
+    requires { ⌜ Held p (now cols) × (lent .groomers ≤ mostGroomers) × (malformed (now board) ≡ false) × (boardTurns (now board) ≡ p .count) ⌝ }
+    requires { ⌜ Playable (turnsBy p (now cols)) (boardChoice (now board)) × (now table ≡ blankTable) ⌝ }
+    ensures { λ r. ⌜ PreparedBy (lentCauses (lent .groomers) (p .count) (now (delays .entry)) (lent .places)) (turnsBy p (now (cols .entry))) lent
+        (boardChoice (now (board .entry))) (now (delays .entry)) r (now (table .exit)) ⌝ }
 {
     if delays_serve(delays, p.count) {
-        if places < groomers as usize {
+        if lent.places < lent.groomers as usize {
             return refused(refusal::BUFFER_TOO_SMALL);
         }
         let map = board_open::map(board);
+        play_days::put_days(p, cols, map, delays, &mut *table);
         return Prepared {
             refusal: 0,
-            groomers: groomers,
-            moved: groomers as usize,
-            table: play_days::days_of(p, cols, map, delays),
+            groomers: lent.groomers,
+            moved: lent.groomers as usize,
         };
     }
     refused(refusal::BAD_DELAYS)
 }
 
-// What is prepared for a board and a problem.
+// For a board and a problem.
 fn prepare_board(
     p: Size,
     cols: &[u16; PLACES],
-    groomers: u16,
+    lent: Lent,
     board: &[u8],
     delays: &[u16],
-    places: usize,
+    table: &mut [u16; DAY_TABLE_PLACES],
 ) -> Prepared
-    requires { ⌜ Held p (now cols) × (groomers ≤ mostGroomers) ⌝ }
+    requires { ⌜ Held p (now cols) × (p .gap ≡ shiftGap) × GroomersKnown (turnsBy p (now cols)) × (lent .groomers ≤ mostGroomers) ⌝ }
+    requires { ⌜ now table ≡ blankTable ⌝ }
     ensures { λ r. ⌜ PreparedBy (boardCauses (turnsBy p (now (cols .entry))) (now (board .entry))
-        ++ lentCauses groomers (p .count) (now (delays .entry)) places) (turnsBy p (now (cols .entry))) groomers
-        (boardChoice (now (board .entry))) (now (delays .entry)) places r ⌝ }
+        ++ lentCauses (lent .groomers) (p .count) (now (delays .entry)) (lent .places)) (turnsBy p (now (cols .entry))) lent
+        (boardChoice (now (board .entry))) (now (delays .entry)) r (now (table .exit)) ⌝ }
 {
     let mut room = [0u16; PLACES];
     let judgement = check_board::board_fault(board, p, cols, &mut room);
     if judgement.fault != 0 {
         return refused(judgement.fault);
     }
-    prepare_days(p, cols, groomers, board, delays, places)
+    prepare_days(p, cols, lent, board, delays, &mut *table)
 }
 
-// All that is judged and worked out before the first minute.
-fn checked<'a>(sheet: &'a [u8], board: &'a [u8], delays: &'a [u16], places: usize) -> Prepared
-    ensures { λ r. ⌜ PreparedFor (now (sheet .entry)) (now (board .entry)) (now (delays .entry)) places r ⌝ }
+// All that is judged and worked out before the first minute; the days go into the blank table.
+fn checked<'a>(
+    sheet: &'a [u8],
+    board: &'a [u8],
+    delays: &'a [u16],
+    places: usize,
+    table: &mut [u16; DAY_TABLE_PLACES],
+) -> Prepared
+    requires { ⌜ now table ≡ blankTable ⌝ }
+    ensures { λ r. ⌜ PreparedFor (now (sheet .entry)) (now (board .entry)) (now (delays .entry)) places r (now (table .exit)) ⌝ }
 {
     let mut cols = [0u16; PLACES];
     let head = instance::load(sheet, &mut cols);
@@ -195,13 +209,11 @@ fn checked<'a>(sheet: &'a [u8], board: &'a [u8], delays: &'a [u16], places: usiz
         return refused(head.refusal);
     }
     let p = instance::shift_size(head.turns);
-    prepare_board(p, &cols, head.groomers, board, delays, places)
-}
-
-fn table_of(p: Prepared) -> [u16; DAY_TABLE_PLACES]
-    ensures { λ r. ⌜ r ≡ p .table ⌝ }
-{
-    p.table
+    let lent = Lent {
+        groomers: head.groomers,
+        places: places,
+    };
+    prepare_board(p, &cols, lent, board, delays, &mut *table)
 }
 
 fn answer_of(p: Prepared) -> PlayAnswer
@@ -223,8 +235,11 @@ pub fn play<'a>(
 ) -> PlayAnswer
     ensures { λ r. ⌜ played r (now (list .exit)) ≡ playOf (now (sheet .entry)) (now (board .entry)) (now (delays .entry)) (now (list .entry)) ⌝ }
 {
-    let p = checked(sheet, board, delays, list.len());
-    let table = table_of(p);
+    let mut table = [MINUTES; DAY_TABLE_PLACES];
+    let p = checked(sheet, board, delays, list.len(), &mut table);
+    if p.refusal != 0 {
+        return answer_of(p);
+    }
     minutes(list, &table, p.moved);
     answer_of(p)
 }

@@ -1,18 +1,18 @@
 -- Filling the table, by cases; each premise in the form in which the code's calls and tests leave it. Assumes nothing.
 use mathlib.Core.Path.{_≡_, refl, sym, _∙_, ap}
 use mathlib.Core.Logic.{_≢_}
-use mathlib.Core.Bool.{Bool, true, false, cond, _&&_}
+use mathlib.Core.Bool.{Bool, true, false, cond}
 use mathlib.Core.List.{List, [], _∷_, _++_}
 use Prim.Native.Nat.{ℕ, zero, suc, _+_, _-_, _*_, _≤_, _<_, max}
 use native.Mathlib.Omega.{arith}
 use native.Mathlib.Decide.{decLt, ℕ-discrete}
 use native.Mathlib.Nat.{le-max-right, max-le, max-eq-right}
-use lib.Dec.{ltb, leb, eqb}
+use lib.Dec.{ltb, eqb}
 use lib.ListN.{length, getD, set, take, replicate, length-set, length-append, length-replicate}
-use lib.Seq.{take-suc, take-all, take-at, length-take-le, getD-set-same, getD-set-other}
-use borrow.Author.Tests.{eq-eqb, ne-eqb, lt-ltb, le-ltb, ltb-true, leb-true, le-leb}
+use lib.Seq.{take-suc, take-all, take-at, getD-set-same, getD-set-other}
+use borrow.Author.Tests.{eq-eqb, ne-eqb, lt-ltb, le-ltb}
 use Rattle.lists.specs.Lists.{every}
-use Rattle.lists.proofs.Bools.{and-of, every-more, every-done, every-fails, not-both}
+use Rattle.lists.proofs.Bools.{and-of, every-more, every-done, every-fails}
 use Rattle.turn.specs.Turn.{shiftMinutes}
 use Rattle.sheet.specs.Kind.{mostGroomers, mostTurns}
 use Rattle.model.specs.Turns.{Turns}
@@ -29,24 +29,16 @@ use Rattle.instance_by_start.proofs.OrderPlaces.{order-place, zeros-few, few-ze
 use Rattle.play_spec.specs.declared.Stint.{Stint}
 use Rattle.play_spec.specs.Day.{overMinutes, mostDelay, delayIn, delaysFit, stintOf, stintsFrom, takes, takenOf, dayOf}
 use Rattle.play_spec.specs.DayTable.{dayRows, dayTablePlaces, cut, stintPlace, stintIn, noStint, cutStint, stintRow, DelaysFit, Days}
-use Rattle.play_days.specs.Table.{blankTable, countPlace, keptPlaces, withStint, freeAfter, stintBy, withNext, besideNext, isKnown, tableWith, besideWith, RowsPut, RoomForTurn}
+use Rattle.play_days.specs.Table.{blankTable, countPlace, progressPlaces, withStint, freeAfter, stintBy, withNext, afterNext, tableWith, progressWith, RowsPut, RoomForTurn, Playable}
 use Rattle.play_spec.proofs.TableStints.{cut-below, cut-over, cut-most}
 
 -- ---- the leaves
 
-pub cut-kept : (x : ℕ) → x < shiftMinutes → x ≡ cut x
-cut-kept x l = sym (cut-below x l)
+pub cut-progress : (x : ℕ) → x < shiftMinutes → x ≡ cut x
+cut-progress x l = sym (cut-below x l)
 
 pub cut-ended : (x : ℕ) → shiftMinutes ≤ x → shiftMinutes ≡ cut x
 cut-ended x l = sym (cut-over x l)
-
-pub known-none : (h : ℕ) → h ≡ 0 → false ≡ isKnown h
-unfolding isKnown
-known-none h e = rw (eq-eqb h 0 e)
-
-pub known-some : (h : ℕ) → (h ≡ 0 → ⊥) → leb h mostGroomers ≡ isKnown h
-unfolding isKnown
-known-some h e = rw (ne-eqb h 0 e)
 
 pub stint-is : (r : Row) (t delay free : ℕ) {b e : ℕ} → b ≡ max (r .start) free → e ≡ cut (b + (r .end - r .start) + delay) → record { turn = t; begin = b; end = e } ≡ stintBy r t delay free
 unfolding stintBy
@@ -68,46 +60,40 @@ third-place table g j v x e l k = rw (length-set (set table (stintPlace g j) v) 
 
 pub ruleset stint-cases = (stint-put, stint-read, second-place, third-place)
 
-module _ (table kept : List ℕ) (g : ℕ) (s : Stint) where
-  pub next-put : {table′ : List ℕ} → getD kept (countPlace g) 0 < dayRows → table′ ≡ withStint table g (getD kept (countPlace g) 0) s → table′ ≡ withNext table kept g s
-  unfolding withNext
-  next-put l e = rw (lt-ltb (getD kept (countPlace g) 0) dayRows l) e
+pub progress-put : (progress : List ℕ) (g : ℕ) (s : Stint) {c : ℕ} → c ≡ cut (s .end + overMinutes) → set (set progress g c) (countPlace g) (getD progress (countPlace g) 0 + 1) ≡ afterNext progress g s
+unfolding afterNext
+progress-put progress g s e = rw e
 
-  pub next-full : dayRows ≤ getD kept (countPlace g) 0 → table ≡ withNext table kept g s
-  unfolding withNext
-  next-full l = rw (le-ltb (getD kept (countPlace g) 0) dayRows l)
+pub progress-fits : (progress : List ℕ) (g : ℕ) → RoomForTurn progress → g < mostGroomers → getD progress (countPlace g) 0 + 1 < 65536
+progress-fits progress g o l = omega (arith, o .few g l)
 
-pub kept-put : (kept : List ℕ) (g : ℕ) (s : Stint) {c : ℕ} → c ≡ cut (s .end + overMinutes) → set (set kept g c) (countPlace g) (getD kept (countPlace g) 0 + 1) ≡ besideNext kept g s
-unfolding besideNext
-kept-put kept g s e = rw e
+pub progress-wide : (progress : List ℕ) (g : ℕ) → RoomForTurn progress → g < mostGroomers → getD progress (countPlace g) 0 < 18446744073709551616
+progress-wide progress g o l = omega (arith, o .few g l)
 
-pub kept-fits : (kept : List ℕ) (g : ℕ) → RoomForTurn kept → g < mostGroomers → getD kept (countPlace g) 0 + 1 < 65536
-kept-fits kept g o l = omega (arith, o .few g l)
+pub progress-first : (progress : List ℕ) (g : ℕ) → RoomForTurn progress → g < mostGroomers → g < length progress
+progress-first progress g o l = omega (arith, o .beside)
 
-pub kept-wide : (kept : List ℕ) (g : ℕ) → RoomForTurn kept → g < mostGroomers → getD kept (countPlace g) 0 < 18446744073709551616
-kept-wide kept g o l = omega (arith, o .few g l)
+pub progress-second : (progress : List ℕ) (g : ℕ) → RoomForTurn progress → g < mostGroomers → countPlace g < length progress
+progress-second progress g o l = omega (arith, o .beside)
 
-pub kept-first : (kept : List ℕ) (g : ℕ) → RoomForTurn kept → g < mostGroomers → g < length kept
-kept-first kept g o l = omega (arith, o .beside)
+pub progress-third : (progress : List ℕ) (g c : ℕ) → RoomForTurn progress → g < mostGroomers → countPlace g < length (set progress g c)
+progress-third progress g c o l = rw (length-set progress g c) (omega (arith, o .beside))
 
-pub kept-second : (kept : List ℕ) (g : ℕ) → RoomForTurn kept → g < mostGroomers → countPlace g < length kept
-kept-second kept g o l = omega (arith, o .beside)
+pub progress-row : (progress : List ℕ) (g : ℕ) → RoomForTurn progress → g < mostGroomers → getD progress (countPlace g) 0 < dayRows
+progress-row progress g o l = o .few g l
 
-pub kept-third : (kept : List ℕ) (g c : ℕ) → RoomForTurn kept → g < mostGroomers → countPlace g < length (set kept g c)
-kept-third kept g c o l = rw (length-set kept g c) (omega (arith, o .beside))
+pub progress-free : (progress : List ℕ) (g : ℕ) → RoomForTurn progress → g < mostGroomers → getD progress g 0 ≤ shiftMinutes
+progress-free progress g o l = o .free g l
 
-pub kept-free : (kept : List ℕ) (g : ℕ) → RoomForTurn kept → g < mostGroomers → getD kept g 0 ≤ shiftMinutes
-kept-free kept g o l = o .free g l
+pub ruleset next-cases = (progress-put, progress-fits, progress-wide, progress-first, progress-second, progress-third, progress-row, progress-free)
 
-pub ruleset next-cases = (next-put, next-full, kept-put, kept-fits, kept-wide, kept-first, kept-second, kept-third, kept-free)
+pub turn-put : (table progress : List ℕ) (g : ℕ) {s x : Stint} {table′ : List ℕ} → s ≡ x → table′ ≡ withNext table progress g s → table′ ≡ withNext table progress g x
+turn-put table progress g e f = f ∙ ap (withNext table progress g) e
 
-pub turn-put : (table kept : List ℕ) (g : ℕ) {s x : Stint} {table′ : List ℕ} → s ≡ x → table′ ≡ withNext table kept g s → table′ ≡ withNext table kept g x
-turn-put table kept g e f = f ∙ ap (withNext table kept g) e
+pub turn-progress : (progress : List ℕ) (g : ℕ) {s x : Stint} {progress′ : List ℕ} → s ≡ x → progress′ ≡ afterNext progress g s → progress′ ≡ afterNext progress g x
+turn-progress progress g e f = f ∙ ap (afterNext progress g) e
 
-pub turn-kept : (kept : List ℕ) (g : ℕ) {s x : Stint} {kept′ : List ℕ} → s ≡ x → kept′ ≡ besideNext kept g s → kept′ ≡ besideNext kept g x
-turn-kept kept g e f = f ∙ ap (besideNext kept g) e
-
-pub ruleset turn-cases = (kept-first, kept-free, turn-put, turn-kept)
+pub ruleset turn-cases = (progress-first, progress-free, turn-put, turn-progress)
 
 -- ---- the delays' test
 
@@ -259,75 +245,64 @@ stint-other table g j g′ j′ s far =
 
 -- ---- a turn more
 
-module _ (T : Turns) (S : List Bool) (delay : ℕ → ℕ) (us : List ℕ) (u : ℕ) (table kept : List ℕ) (w : RowsPut T S delay us table kept) where
+module _ (T : Turns) (S : List Bool) (delay : ℕ → ℕ) (us : List ℕ) (u : ℕ) (table progress : List ℕ) (w : RowsPut T S delay us table progress) where
   -- a turn that no groomer takes
-  rows-same : ((g : ℕ) → g < mostGroomers → takes T S (suc g) u ≡ false) → RowsPut T S delay (us ++ u ∷ []) table kept
+  rows-same : ((g : ℕ) → g < mostGroomers → takes T S (suc g) u ≡ false) → RowsPut T S delay (us ++ u ∷ []) table progress
   rows-same none = record {
     places = w .places;
     beside = w .beside;
     rows = λ g j l k. rw (taken-same T S (suc g) us u (none g l)) (w .rows g j l k);
     free = λ g l. rw (taken-same T S (suc g) us u (none g l)) (w .free g l);
     many = λ g l. rw (taken-same T S (suc g) us u (none g l)) (w .many g l);
-    few = λ g l. omega (arith, w .few g l, length-append us (u ∷ []));
   }
 
   -- a turn that groomer g takes
   module _ (g : ℕ) (l : g < mostGroomers) (its : takes T S (suc g) u ≡ true) (others : (k : ℕ) → k < mostGroomers → k ≢ g → takes T S (suc k) u ≡ false) (s : Stint)
-      (s-is : s ≡ cutStint (stintOf T delay (freeAfter T delay 0 (takenOf T S (suc g) us)) u)) where
+      (s-is : s ≡ cutStint (stintOf T delay (freeAfter T delay 0 (takenOf T S (suc g) us)) u)) (room : getD progress (countPlace g) 0 < dayRows) where
     abbrev old : List Stint
     old = stintsFrom T delay 0 (takenOf T S (suc g) us)
 
     here : stintsFrom T delay 0 (takenOf T S (suc g) (us ++ u ∷ [])) ≡ old ++ stintOf T delay (freeAfter T delay 0 (takenOf T S (suc g) us)) u ∷ []
     here = ap (stintsFrom T delay 0) (taken-next T S (suc g) us u its) ∙ stints-snoc T delay 0 (takenOf T S (suc g) us) u
 
-    count : getD kept (countPlace g) 0 ≡ length old
+    count : getD progress (countPlace g) 0 ≡ length old
     count = w .many g l ∙ sym (stints-length T delay 0 (takenOf T S (suc g) us))
 
-    next-places : length (withNext table kept g s) ≡ dayTablePlaces
-    unfolding withNext withStint
-    next-places = go (ltb (getD kept (countPlace g) 0) dayRows)
-      where
-        go : (b : Bool) → length (cond b (set (set (set table (stintPlace g (getD kept (countPlace g) 0)) (s .turn)) (stintPlace g (getD kept (countPlace g) 0) + 1) (s .begin)) (stintPlace g (getD kept (countPlace g) 0) + 2) (s .end)) table) ≡ dayTablePlaces
-        go true = simp length-set (w .places)
-        go false = w .places
+    next-places : length (withNext table progress g s) ≡ dayTablePlaces
+    unfolding withStint
+    next-places = simp length-set (w .places)
 
     -- the rows of others, and the groomer's own but the next one, stay
-    row-stays : (k j : ℕ) → j < dayRows → (k ≡ g → j ≡ getD kept (countPlace g) 0 → ⊥) → stintIn (withNext table kept g s) k j ≡ stintIn table k j
-    unfolding withNext
-    row-stays k j m d = go (ltb (getD kept (countPlace g) 0) dayRows) refl
+    row-stays : (k j : ℕ) → j < dayRows → (k ≡ g → j ≡ getD progress (countPlace g) 0 → ⊥) → stintIn (withNext table progress g s) k j ≡ stintIn table k j
+    row-stays k j m d = stint-other table g n k j s (λ c f p q z. apart (ℕ-discrete k g) c f p q z)
       where
         n : ℕ
-        n = getD kept (countPlace g) 0
+        n = getD progress (countPlace g) 0
 
-        go : (b : Bool) → ltb n dayRows ≡ b → stintIn (cond b (withStint table g n s) table) k j ≡ stintIn table k j
-        go true e = stint-other table g n k j s (λ c f p q z. apart (ltb-true n dayRows e) (ℕ-discrete k g) c f p q z)
-          where
-            apart : n < dayRows → Dec (k ≡ g) → (c f : ℕ) → c < 3 → f < 3 → stintPlace k j + c ≡ stintPlace g n + f → ⊥
-            apart x (yes y) c f p q z = d y (let v : j * 3 + c ≡ n * 3 + f = omega (arith, z, y) in omega (arith, v, p, q))
-            apart x (no y) c f p q z = omega (arith, x, y, p, q, z, m)
-        go false e = refl
+        apart : Dec (k ≡ g) → (c f : ℕ) → c < 3 → f < 3 → stintPlace k j + c ≡ stintPlace g n + f → ⊥
+        apart (yes y) c f p q z = d y (let v : j * 3 + c ≡ n * 3 + f = omega (arith, z, y) in omega (arith, v, p, q))
+        apart (no y) c f p q z = omega (arith, room, y, p, q, z, m)
 
-    row-there : getD kept (countPlace g) 0 < dayRows → stintIn (withNext table kept g s) g (getD kept (countPlace g) 0) ≡ s
-    unfolding withNext
-    row-there m = rw (lt-ltb (getD kept (countPlace g) 0) dayRows m) (stint-same table g (getD kept (countPlace g) 0) s (w .places) l m)
+    row-there : stintIn (withNext table progress g s) g (getD progress (countPlace g) 0) ≡ s
+    row-there = stint-same table g (getD progress (countPlace g) 0) s (w .places) l room
 
-    rows-then : (k j : ℕ) → k < mostGroomers → j < dayRows → stintIn (withNext table kept g s) k j ≡ stintRow (stintsFrom T delay 0 (takenOf T S (suc k) (us ++ u ∷ []))) j
+    rows-then : (k j : ℕ) → k < mostGroomers → j < dayRows → stintIn (withNext table progress g s) k j ≡ stintRow (stintsFrom T delay 0 (takenOf T S (suc k) (us ++ u ∷ []))) j
     rows-then k j a b = go (ℕ-discrete k g)
       where
-        own : Dec (j < length old) → Dec (j ≡ length old) → stintIn (withNext table kept g s) g j ≡ stintRow (old ++ stintOf T delay (freeAfter T delay 0 (takenOf T S (suc g) us)) u ∷ []) j
+        own : Dec (j < length old) → Dec (j ≡ length old) → stintIn (withNext table progress g s) g j ≡ stintRow (old ++ stintOf T delay (freeAfter T delay 0 (takenOf T S (suc g) us)) u ∷ []) j
         own (yes x) y = row-stays g j b (λ _ q. omega (arith, q, count)) ∙ w .rows g j l b ∙ sym (row-old old _ j x)
         own (no x) (yes y) =
-            let q : j ≡ getD kept (countPlace g) 0 = y ∙ sym count in
-            ap (stintIn (withNext table kept g s) g) q ∙ row-there (omega (arith, q)) ∙ s-is ∙ sym (row-new old _) ∙ ap (stintRow (old ++ stintOf T delay (freeAfter T delay 0 (takenOf T S (suc g) us)) u ∷ [])) (sym y)
+            let q : j ≡ getD progress (countPlace g) 0 = y ∙ sym count in
+            ap (stintIn (withNext table progress g s) g) q ∙ row-there ∙ s-is ∙ sym (row-new old _) ∙ ap (stintRow (old ++ stintOf T delay (freeAfter T delay 0 (takenOf T S (suc g) us)) u ∷ [])) (sym y)
         own (no x) (no y) = row-stays g j b (λ _ q. y (q ∙ count)) ∙ w .rows g j l b ∙ sym (row-past old _ j (omega arith))
 
-        go : Dec (k ≡ g) → stintIn (withNext table kept g s) k j ≡ stintRow (stintsFrom T delay 0 (takenOf T S (suc k) (us ++ u ∷ []))) j
+        go : Dec (k ≡ g) → stintIn (withNext table progress g s) k j ≡ stintRow (stintsFrom T delay 0 (takenOf T S (suc k) (us ++ u ∷ []))) j
         go (yes e) = rw (e, here) (own (decLt j (length old)) (ℕ-discrete j (length old)))
         go (no e) = rw (taken-same T S (suc k) us u (others k a e)) (row-stays k j b (λ y _. e y) ∙ w .rows k j a b)
 
-    free-then : (k : ℕ) → k < mostGroomers → getD (besideNext kept g s) k 0 ≡ cut (freeAfter T delay 0 (takenOf T S (suc k) (us ++ u ∷ [])))
-    unfolding besideNext
-    free-then k a = getD-set-other (set kept g (cut (s .end + overMinutes))) (countPlace g) k (getD kept (countPlace g) 0 + 1) 0 (λ e. omega (arith, e)) ∙ go (ℕ-discrete k g)
+    free-then : (k : ℕ) → k < mostGroomers → getD (afterNext progress g s) k 0 ≡ cut (freeAfter T delay 0 (takenOf T S (suc k) (us ++ u ∷ [])))
+    unfolding afterNext
+    free-then k a = getD-set-other (set progress g (cut (s .end + overMinutes))) (countPlace g) k (getD progress (countPlace g) 0 + 1) 0 (λ e. omega (arith, e)) ∙ go (ℕ-discrete k g)
       where
         f : ℕ
         f = freeAfter T delay 0 (takenOf T S (suc g) us)
@@ -335,42 +310,41 @@ module _ (T : Turns) (S : List Bool) (delay : ℕ → ℕ) (us : List ℕ) (u : 
         ended : cut (s .end + overMinutes) ≡ cut (stintOf T delay f u .end + overMinutes)
         ended = ap (λ (x : Stint). cut (x .end + overMinutes)) s-is ∙ ap (λ (y : ℕ). cut (y + overMinutes)) (cut-end (stintOf T delay f u)) ∙ cut-add (stintOf T delay f u .end) overMinutes
 
-        go : Dec (k ≡ g) → getD (set kept g (cut (s .end + overMinutes))) k 0 ≡ cut (freeAfter T delay 0 (takenOf T S (suc k) (us ++ u ∷ [])))
-        go (yes e) = rw e (getD-set-same kept g (cut (s .end + overMinutes)) 0 (omega (arith, w .beside)) ∙ ended ∙ ap cut (sym (free-snoc T delay 0 (takenOf T S (suc g) us) u) ∙ ap (freeAfter T delay 0) (sym (taken-next T S (suc g) us u its))))
-        go (no e) = getD-set-other kept g k (cut (s .end + overMinutes)) 0 e ∙ rw (taken-same T S (suc k) us u (others k a e)) (w .free k a)
+        go : Dec (k ≡ g) → getD (set progress g (cut (s .end + overMinutes))) k 0 ≡ cut (freeAfter T delay 0 (takenOf T S (suc k) (us ++ u ∷ [])))
+        go (yes e) = rw e (getD-set-same progress g (cut (s .end + overMinutes)) 0 (omega (arith, w .beside)) ∙ ended ∙ ap cut (sym (free-snoc T delay 0 (takenOf T S (suc g) us) u) ∙ ap (freeAfter T delay 0) (sym (taken-next T S (suc g) us u its))))
+        go (no e) = getD-set-other progress g k (cut (s .end + overMinutes)) 0 e ∙ rw (taken-same T S (suc k) us u (others k a e)) (w .free k a)
 
-    count-then : (k : ℕ) → k < mostGroomers → (getD (besideNext kept g s) (countPlace k) 0 ≡ length (takenOf T S (suc k) (us ++ u ∷ []))) × (getD (besideNext kept g s) (countPlace k) 0 ≤ length (us ++ u ∷ []))
-    unfolding besideNext
+    count-then : (k : ℕ) → k < mostGroomers → getD (afterNext progress g s) (countPlace k) 0 ≡ length (takenOf T S (suc k) (us ++ u ∷ []))
+    unfolding afterNext
     count-then k a = go (ℕ-discrete k g)
       where
         c : ℕ
-        c = getD kept (countPlace g) 0 + 1
+        c = getD progress (countPlace g) 0 + 1
 
         inner : List ℕ
-        inner = set kept g (cut (s .end + overMinutes))
+        inner = set progress g (cut (s .end + overMinutes))
 
-        go : Dec (k ≡ g) → (getD (set inner (countPlace g) c) (countPlace k) 0 ≡ length (takenOf T S (suc k) (us ++ u ∷ []))) × (getD (set inner (countPlace g) c) (countPlace k) 0 ≤ length (us ++ u ∷ []))
+        go : Dec (k ≡ g) → getD (set inner (countPlace g) c) (countPlace k) 0 ≡ length (takenOf T S (suc k) (us ++ u ∷ []))
         go (yes e) =
-            let v : getD (set inner (countPlace g) c) (countPlace g) 0 ≡ c = getD-set-same inner (countPlace g) c 0 (rw (length-set kept g (cut (s .end + overMinutes))) (omega (arith, w .beside))) in
+            let v : getD (set inner (countPlace g) c) (countPlace g) 0 ≡ c = getD-set-same inner (countPlace g) c 0 (rw (length-set progress g (cut (s .end + overMinutes))) (omega (arith, w .beside))) in
             let n : length (takenOf T S (suc g) (us ++ u ∷ [])) ≡ length (takenOf T S (suc g) us) + 1 = ap length (taken-next T S (suc g) us u its) ∙ length-append (takenOf T S (suc g) us) (u ∷ []) in
-            rw e (omega (arith, v, n, w .many g l), omega (arith, v, w .few g l, length-append us (u ∷ [])))
+            rw e (omega (arith, v, n, w .many g l))
         go (no e) =
-            let v : getD (set inner (countPlace g) c) (countPlace k) 0 ≡ getD kept (countPlace k) 0 = getD-set-other inner (countPlace g) (countPlace k) c 0 (λ q. e (omega (arith, q))) ∙ getD-set-other kept g (countPlace k) (cut (s .end + overMinutes)) 0 (λ q. omega (arith, q)) in
+            let v : getD (set inner (countPlace g) c) (countPlace k) 0 ≡ getD progress (countPlace k) 0 = getD-set-other inner (countPlace g) (countPlace k) c 0 (λ q. e (omega (arith, q))) ∙ getD-set-other progress g (countPlace k) (cut (s .end + overMinutes)) 0 (λ q. omega (arith, q)) in
             let n : length (takenOf T S (suc k) (us ++ u ∷ [])) ≡ length (takenOf T S (suc k) us) = ap length (taken-same T S (suc k) us u (others k a e)) in
-            (omega (arith, v, n, w .many k a), omega (arith, v, w .few k a, length-append us (u ∷ [])))
+            omega (arith, v, n, w .many k a)
 
-    kept-length : length (besideNext kept g s) ≡ keptPlaces
-    unfolding besideNext
-    kept-length = simp length-set (w .beside)
+    progress-length : length (afterNext progress g s) ≡ progressPlaces
+    unfolding afterNext
+    progress-length = simp length-set (w .beside)
 
-    rows-next : RowsPut T S delay (us ++ u ∷ []) (withNext table kept g s) (besideNext kept g s)
+    rows-next : RowsPut T S delay (us ++ u ∷ []) (withNext table progress g s) (afterNext progress g s)
     rows-next = record {
       places = next-places;
-      beside = kept-length;
+      beside = progress-length;
       rows = rows-then;
       free = free-then;
-      many = λ k a. count-then k a .0;
-      few = λ k a. count-then k a .1;
+      many = count-then;
     }
 
 -- ---- which groomer takes a turn
@@ -388,48 +362,30 @@ module _ (T : Turns) (S : List Bool) (u : ℕ) where
   unfolding takes
   takes-not e h q = rw (e, ne-eqb (T .groomer u) h q)
 
-known-range : (h : ℕ) → isKnown h ≡ true → (1 ≤ h) × (h ≤ mostGroomers)
-known-range h e = go (ℕ-discrete h 0)
-  where
-    go : Dec (h ≡ 0) → (1 ≤ h) × (h ≤ mostGroomers)
-    go (yes z) = absurd (not-both e (sym (known-none h z)))
-    go (no z) = (omega (arith, z), leb-true h mostGroomers (known-some h z ∙ e))
-
-unknown-range : (h g : ℕ) → isKnown h ≡ false → g < mostGroomers → h ≡ suc g → ⊥
-unknown-range h g e l q = not-both (sym (known-some h (λ z. omega (arith, z, q))) ∙ le-leb h mostGroomers (omega arith)) e
-
 -- ---- one turn of the loop
 
-module _ (r′ : Row) (u delay : ℕ) (table kept : List ℕ) where
-  pub skip-table : (b : Bool) {c : Bool} → c ≡ b → c ≡ false → table ≡ tableWith b r′ u delay table kept
+module _ (r′ : Row) (u delay : ℕ) (table progress : List ℕ) where
+  pub skip-table : (b : Bool) {c : Bool} → c ≡ b → c ≡ false → table ≡ tableWith b r′ u delay table progress
   unfolding tableWith
   skip-table b x e = let q : b ≡ false = sym x ∙ e in rw q
 
-  pub skip-kept : (b : Bool) {c : Bool} → c ≡ b → c ≡ false → kept ≡ besideWith b r′ u delay kept
-  unfolding besideWith
-  skip-kept b x e = let q : b ≡ false = sym x ∙ e in rw q
+  pub skip-progress : (b : Bool) {c : Bool} → c ≡ b → c ≡ false → progress ≡ progressWith b r′ u delay progress
+  unfolding progressWith
+  skip-progress b x e = let q : b ≡ false = sym x ∙ e in rw q
 
-  pub unknown-table : (b : Bool) {r : Row} {c k : Bool} → c ≡ b → c ≡ true → r ≡ r′ → k ≡ isKnown (r .groomer) → k ≡ false → table ≡ tableWith b r′ u delay table kept
+  pub put-table : (b : Bool) {r : Row} {c : Bool} {table′ : List ℕ} → c ≡ b → c ≡ true → r ≡ r′ → table′ ≡ withNext table progress (r .groomer - 1) (stintBy r u delay (getD progress (r .groomer - 1) 0)) → table′ ≡ tableWith b r′ u delay table progress
   unfolding tableWith
-  unknown-table b x e q i f = let y : b ≡ true = sym x ∙ e in rw (y, ← q, ← i, f)
+  put-table b x e q g = let y : b ≡ true = sym x ∙ e in rw (y, ← q) g
 
-  pub unknown-kept : (b : Bool) {r : Row} {c k : Bool} → c ≡ b → c ≡ true → r ≡ r′ → k ≡ isKnown (r .groomer) → k ≡ false → kept ≡ besideWith b r′ u delay kept
-  unfolding besideWith
-  unknown-kept b x e q i f = let y : b ≡ true = sym x ∙ e in rw (y, ← q, ← i, f)
+  pub put-progress : (b : Bool) {r : Row} {c : Bool} {progress′ : List ℕ} → c ≡ b → c ≡ true → r ≡ r′ → progress′ ≡ afterNext progress (r .groomer - 1) (stintBy r u delay (getD progress (r .groomer - 1) 0)) → progress′ ≡ progressWith b r′ u delay progress
+  unfolding progressWith
+  put-progress b x e q g = let y : b ≡ true = sym x ∙ e in rw (y, ← q) g
 
-  pub put-table : (b : Bool) {r : Row} {c k : Bool} {table′ : List ℕ} → c ≡ b → c ≡ true → r ≡ r′ → k ≡ isKnown (r .groomer) → k ≡ true → table′ ≡ withNext table kept (r .groomer - 1) (stintBy r u delay (getD kept (r .groomer - 1) 0)) → table′ ≡ tableWith b r′ u delay table kept
-  unfolding tableWith
-  put-table b x e q i f g = let y : b ≡ true = sym x ∙ e in rw (y, ← q, ← i, f) g
+pub row-least : {r : Row} (r′ : Row) → r ≡ r′ → 1 ≤ r′ .groomer → 1 ≤ r .groomer
+row-least r′ e l = rw e l
 
-  pub put-kept : (b : Bool) {r : Row} {c k : Bool} {kept′ : List ℕ} → c ≡ b → c ≡ true → r ≡ r′ → k ≡ isKnown (r .groomer) → k ≡ true → kept′ ≡ besideNext kept (r .groomer - 1) (stintBy r u delay (getD kept (r .groomer - 1) 0)) → kept′ ≡ besideWith b r′ u delay kept
-  unfolding besideWith
-  put-kept b x e q i f g = let y : b ≡ true = sym x ∙ e in rw (y, ← q, ← i, f) g
-
-pub known-least : (h : ℕ) {k : Bool} → k ≡ isKnown h → k ≡ true → 1 ≤ h
-known-least h e f = known-range h (sym e ∙ f) .0
-
-pub known-inside : (h : ℕ) {k : Bool} → k ≡ isKnown h → k ≡ true → h - 1 < mostGroomers
-known-inside h e f = let r = known-range h (sym e ∙ f) in omega (arith, r .0, r .1)
+pub row-inside : {r : Row} (r′ : Row) → r ≡ r′ → 1 ≤ r′ .groomer → r′ .groomer ≤ mostGroomers → r .groomer - 1 < mostGroomers
+row-inside {r} r′ e l k = let q : r .groomer ≡ r′ .groomer = ap (λ (x : Row). x .groomer) e in omega (arith, q, l, k)
 
 pub row-lengths : {r : Row} (r′ : Row) → r ≡ r′ → r′ .start < r′ .end → r .start < r .end
 row-lengths r′ e l = rw e l
@@ -437,11 +393,11 @@ row-lengths r′ e l = rw e l
 pub row-ends : {r : Row} (r′ : Row) → r ≡ r′ → r′ .end ≤ shiftMinutes → r .end ≤ shiftMinutes
 row-ends r′ e l = rw e l
 
-pub ruleset chosen-cases = (skip-table, skip-kept, unknown-table, unknown-kept, put-table, put-kept, known-least, known-inside, row-lengths, row-ends)
+pub ruleset chosen-cases = (skip-table, skip-progress, put-table, put-progress, row-least, row-inside, row-lengths, row-ends)
 
 -- ---- the loop
 
-module _ (p : Size) (cols map delays order : List ℕ) (h : Held p cols) (o : order ≡ orderByStart (turnsBy p cols)) (f : DelaysFit delays (p .count)) (b : p .count ≤ 8 * length map) where
+module _ (p : Size) (cols map delays order : List ℕ) (h : Held p cols) (o : order ≡ orderByStart (turnsBy p cols)) (f : DelaysFit delays (p .count)) (b : p .count ≤ 8 * length map) (playable : Playable (turnsBy p cols) (choiceIn (p .count) map)) where
   abbrev T : Turns
   T = turnsBy p cols
 
@@ -476,15 +432,24 @@ module _ (p : Size) (cols map delays order : List ℕ) (h : Held p cols) (o : or
     pub loop-ends : rowIn cols (getD order i 0) .end ≤ shiftMinutes
     loop-ends = omega (arith, end-at p cols u inside refl, h .ends u inside)
 
-    module _ (table kept : List ℕ) (w : RowsPut T S (delayIn delays) (take i order) table kept) where
+    pub loop-least : 1 ≤ rowIn cols (getD order i 0) .groomer
+    loop-least = omega (arith, groomer-at p cols u inside refl, playable .known .each u (omega (arith, inside, count-is p cols)) .0)
+
+    pub loop-known : rowIn cols (getD order i 0) .groomer ≤ mostGroomers
+    loop-known = omega (arith, groomer-at p cols u inside refl, playable .known .each u (omega (arith, inside, count-is p cols)) .1)
+
+    module _ (table progress : List ℕ) (w : RowsPut T S (delayIn delays) (take i order) table progress) where
+      row-free : (g : ℕ) → g < mostGroomers → getD progress (countPlace g) 0 < dayRows
+      row-free g k = let e : length (takenOf T S (suc g) (take i order)) ≡ length (takenOf T S (suc g) (take i (orderByStart T))) = ap (λ (xs : List ℕ). length (takenOf T S (suc g) (take i xs))) o in omega (arith, w .many g k, e, playable .rows g i)
+
       pub loop-places : length table ≡ dayTablePlaces
       loop-places = w .places
 
-      pub loop-open : RoomForTurn kept
+      pub loop-open : RoomForTurn progress
       loop-open = record {
         beside = w .beside;
         free = λ g k. rw (w .free g k) (cut-most (freeAfter T (delayIn delays) 0 (takenOf T S (suc g) (take i order))));
-        few = λ g k. let n : length (take i order) ≡ i = length-take-le i order (omega (arith, long)) in omega (arith, w .few g k, n, h .few);
+        few = row-free;
       }
 
       taken : take (i + 1) order ≡ take i order ++ u ∷ []
@@ -493,19 +458,16 @@ module _ (p : Size) (cols map delays order : List ℕ) (h : Held p cols) (o : or
       is-has : has S u ≡ chosenIn map u
       is-has = choice-has (p .count) map u inside
 
-      grown : (c k : Bool) → chosenIn map u ≡ c → isKnown (rowIn cols u .groomer) ≡ k
-          → RowsPut T S (delayIn delays) (take i order ++ u ∷ []) (cond (c && k) (withNext table kept (rowIn cols u .groomer - 1) (stintBy (rowIn cols u) u (delayIn delays u) (getD kept (rowIn cols u .groomer - 1) 0))) table) (cond (c && k) (besideNext kept (rowIn cols u .groomer - 1) (stintBy (rowIn cols u) u (delayIn delays u) (getD kept (rowIn cols u .groomer - 1) 0))) kept)
-      grown false k e q = rows-same T S (delayIn delays) (take i order) u table kept w (λ g _. not-chosen T S u (is-has ∙ e) (suc g))
-      grown true false e q = rows-same T S (delayIn delays) (take i order) u table kept w (λ g x. takes-not T S u (is-has ∙ e) (suc g) (λ z. unknown-range (rowIn cols u .groomer) g q x (groomer-at p cols u inside refl ∙ z)))
-      grown true true e q =
+      grown : (c : Bool) → chosenIn map u ≡ c → RowsPut T S (delayIn delays) (take i order ++ u ∷ []) (cond c (withNext table progress (rowIn cols u .groomer - 1) (stintBy (rowIn cols u) u (delayIn delays u) (getD progress (rowIn cols u .groomer - 1) 0))) table) (cond c (afterNext progress (rowIn cols u .groomer - 1) (stintBy (rowIn cols u) u (delayIn delays u) (getD progress (rowIn cols u .groomer - 1) 0))) progress)
+      grown false e = rows-same T S (delayIn delays) (take i order) u table progress w (λ g _. not-chosen T S u (is-has ∙ e) (suc g))
+      grown true e =
           let r = rowIn cols u in
-          let range = known-range (r .groomer) q in
           let g = r .groomer - 1 in
-          let x : g < mostGroomers = omega (arith, range .0, range .1) in
-          let its : T .groomer u ≡ suc g = sym (groomer-at p cols u inside refl) ∙ back (r .groomer) (range .0) in
-          let s-is : stintBy r u (delayIn delays u) (getD kept g 0) ≡ cutStint (stintOf T (delayIn delays) (freeAfter T (delayIn delays) 0 (takenOf T S (suc g) (take i order))) u) =
+          let x : g < mostGroomers = omega (arith, loop-least, loop-known) in
+          let its : T .groomer u ≡ suc g = sym (groomer-at p cols u inside refl) ∙ back (r .groomer) loop-least in
+          let s-is : stintBy r u (delayIn delays u) (getD progress g 0) ≡ cutStint (stintOf T (delayIn delays) (freeAfter T (delayIn delays) 0 (takenOf T S (suc g) (take i order))) u) =
           ap (stintBy r u (delayIn delays u)) (w .free g x) ∙ stint-cut T (delayIn delays) (freeAfter T (delayIn delays) 0 (takenOf T S (suc g) (take i order))) u r (start-at p cols u inside refl) (end-at p cols u inside refl) (omega (arith, h .starts u inside, h .ends u inside)) in
-          rows-next T S (delayIn delays) (take i order) u table kept w g x (takes-own T S u (is-has ∙ e) (suc g) its) (λ k y d. takes-not T S u (is-has ∙ e) (suc k) (λ z. d (same (sym z ∙ its)))) (stintBy r u (delayIn delays u) (getD kept g 0)) s-is
+          rows-next T S (delayIn delays) (take i order) u table progress w g x (takes-own T S u (is-has ∙ e) (suc g) its) (λ k y d. takes-not T S u (is-has ∙ e) (suc k) (λ z. d (same (sym z ∙ its)))) (stintBy r u (delayIn delays u) (getD progress g 0)) s-is (row-free g x)
         where
           back : (x : ℕ) → 1 ≤ x → x ≡ suc (x - 1)
           back x z = omega arith
@@ -513,14 +475,14 @@ module _ (p : Size) (cols map delays order : List ℕ) (h : Held p cols) (o : or
           same : {x y : ℕ} → suc x ≡ suc y → x ≡ y
           same z = omega (arith, z)
 
-      pub loop-next : {table′ kept′ : List ℕ} → table′ ≡ tableWith (chosenIn map (getD order i 0)) (rowIn cols (getD order i 0)) (getD order i 0) (delayIn delays (getD order i 0)) table kept
-          → kept′ ≡ besideWith (chosenIn map (getD order i 0)) (rowIn cols (getD order i 0)) (getD order i 0) (delayIn delays (getD order i 0)) kept → RowsPut T S (delayIn delays) (take (i + 1) order) table′ kept′
-      unfolding tableWith besideWith
-      loop-next x y = rw (x, y, taken) (grown (chosenIn map u) (isKnown (rowIn cols u .groomer)) refl refl)
+      pub loop-next : {table′ progress′ : List ℕ} → table′ ≡ tableWith (chosenIn map (getD order i 0)) (rowIn cols (getD order i 0)) (getD order i 0) (delayIn delays (getD order i 0)) table progress
+          → progress′ ≡ progressWith (chosenIn map (getD order i 0)) (rowIn cols (getD order i 0)) (getD order i 0) (delayIn delays (getD order i 0)) progress → RowsPut T S (delayIn delays) (take (i + 1) order) table′ progress′
+      unfolding tableWith progressWith
+      loop-next x y = rw (x, y, taken) (grown (chosenIn map u) refl)
 
-  pub loop-done : (i : ℕ) (table kept : List ℕ) → p .count ≤ i → RowsPut T S (delayIn delays) (take i order) table kept → Days T S (delayIn delays) table
+  pub loop-done : (i : ℕ) (table progress : List ℕ) → p .count ≤ i → RowsPut T S (delayIn delays) (take i order) table progress → Days T S (delayIn delays) table
   unfolding dayOf
-  loop-done i table kept l w =
+  loop-done i table progress l w =
       let e : take i order ≡ orderByStart T = take-all i order (omega (arith, long)) ∙ o in
       record { places = w .places; rows = λ g j x y. w .rows g j x y ∙ ap (λ (us : List ℕ). stintRow (stintsFrom T (delayIn delays) 0 (takenOf T S (suc g) us)) j) e }
 
@@ -542,22 +504,24 @@ blank-count : (T : Turns) (S : List Bool) (delay : ℕ → ℕ) (g : ℕ) → 0 
 unfolding takenOf
 blank-count T S delay g = refl
 
-pub loop-first : (T : Turns) (S : List Bool) (delay : ℕ → ℕ) (order table : List ℕ) → table ≡ blankTable → RowsPut T S delay (take 0 order) table (replicate {A = ℕ} keptPlaces 0)
+pub loop-first : (T : Turns) (S : List Bool) (delay : ℕ → ℕ) (order table : List ℕ) → table ≡ blankTable → RowsPut T S delay (take 0 order) table (replicate {A = ℕ} progressPlaces 0)
 unfolding blankTable
 loop-first T S delay order table e = rw e (record {
   places = length-replicate {A = ℕ} dayTablePlaces shiftMinutes;
-  beside = length-replicate {A = ℕ} keptPlaces 0;
+  beside = length-replicate {A = ℕ} progressPlaces 0;
   rows = λ g j l k. blank-row T S delay g j l k;
-  free = λ g l. filled-at keptPlaces 0 g (omega arith) ∙ blank-free T S delay g;
-  many = λ g l. filled-at keptPlaces 0 (countPlace g) (omega arith) ∙ blank-count T S delay g;
-  few = λ g l. omega (arith, filled-at keptPlaces 0 (countPlace g) (omega arith));
+  free = λ g l. filled-at progressPlaces 0 g (omega arith) ∙ blank-free T S delay g;
+  many = λ g l. filled-at progressPlaces 0 (countPlace g) (omega arith) ∙ blank-count T S delay g;
 })
 
-pub loop-same : (T : Turns) (S : List Bool) (delay : ℕ → ℕ) (us table kept table₀ : List ℕ) → table₀ ≡ blankTable → RowsPut T S delay us table kept → length table ≡ length table₀
+pub blank-places : {table : List ℕ} → table ≡ blankTable → length table ≡ dayTablePlaces
 unfolding blankTable
-loop-same T S delay us table kept table₀ e w = w .places ∙ sym (ap length e ∙ length-replicate {A = ℕ} dayTablePlaces shiftMinutes)
+blank-places e = ap length e ∙ length-replicate {A = ℕ} dayTablePlaces shiftMinutes
 
-pub ruleset loop-cases = (loop-first, loop-same, order-place, loop-turn, loop-bit, loop-delays, loop-delay, loop-starts, loop-ends, loop-places, loop-open, loop-next, loop-done)
+pub loop-same : (T : Turns) (S : List Bool) (delay : ℕ → ℕ) (us table progress table₀ : List ℕ) → table₀ ≡ blankTable → RowsPut T S delay us table progress → length table ≡ length table₀
+loop-same T S delay us table progress table₀ e w = w .places ∙ sym (blank-places e)
+
+pub ruleset loop-cases = (loop-first, loop-same, order-place, loop-turn, loop-bit, loop-delays, loop-delay, loop-starts, loop-ends, loop-least, loop-known, loop-places, loop-open, loop-next, loop-done)
 
 pub blank-made : replicate {A = ℕ} dayTablePlaces shiftMinutes ≡ blankTable
 unfolding blankTable
@@ -572,10 +536,8 @@ order-places p cols order zeros e = sym (ap length (order-made p cols order zero
 pub order-share : (p : Size) (cols order zeros : List ℕ) → order ≡ orderByStart (turnsBy p cols) → p .count ≤ length (order ++ zeros)
 order-share p cols order zeros e = omega (arith, length-append order zeros, ap length e ∙ order-length (turnsBy p cols) ∙ count-is p cols)
 
-pub ruleset days-cases = (zeros-few, few-zeros, blank-made, order-made, order-places, order-share)
+pub ruleset days-cases = (zeros-few, few-zeros, order-made, order-places, order-share)
 
-pub ruleset cut-cases = (cut-kept, cut-ended)
-
-pub ruleset known-cases = (known-none, known-some)
+pub ruleset cut-cases = (cut-progress, cut-ended)
 
 pub ruleset by-cases = (stint-is)

@@ -1,7 +1,6 @@
 // The days of a board's groomers where some turns finish late: from when to when each turn is worked, in
 // one table of numbers.
 ghost use mathlib.Core.Path.{_≡_};
-ghost use mathlib.Core.Bool.{true};
 ghost use Prim.Native.Nat.{_+_, _-_, _*_, _≤_, _<_, max};
 ghost use lib.ListN.{length, getD};
 ghost use Rattle.turn.specs.Turn.{shiftMinutes};
@@ -11,7 +10,7 @@ ghost use Rattle.instance.specs.Columns.{rowIn, turnsBy, Held};
 ghost use Rattle.instance_spec.specs.ByStart.{orderByStart};
 ghost use Rattle.play_spec.specs.Day.{mostDelay, delayIn, delaysFit};
 ghost use Rattle.play_spec.specs.DayTable.{dayRows, dayTablePlaces, cut, stintIn, DelaysFit, Days};
-ghost use Rattle.play_days.specs.Table.{withStint, stintBy, withNext, besideNext, isKnown, tableWith, besideWith, blankTable, RoomForTurn};
+ghost use Rattle.play_days.specs.Table.{withStint, stintBy, withNext, afterNext, tableWith, progressWith, blankTable, RoomForTurn, Playable};
 use instance::MOST_TURNS;
 use instance::PLACES;
 use instance::Row;
@@ -41,8 +40,8 @@ const DAY_PLACES: usize = DAY_ROWS * ROW_SIZE;
 
 pub const DAY_TABLE_PLACES: usize = GROOMERS * DAY_PLACES;
 
-// Beside the table, while it is filled: from when on each groomer is free, then how many stints it has.
-const KEPT: usize = GROOMERS + GROOMERS;
+// How far the groomers are while the table is filled: from when on each is free, then how many stints it has.
+const PROGRESS_PLACES: usize = GROOMERS + GROOMERS;
 
 // A minute, or the shift's end where that is earlier.
 fn cut_off(x: u16) -> u16
@@ -101,47 +100,35 @@ pub fn stint_in(table: &[u16], g: usize, j: usize) -> Stint
     }
 }
 
-// Whether a sheet can have the groomer.
-fn is_known(h: u16) -> bool
-    ensures { λ r. ⌜ r ≡ isKnown h ⌝ }
-{
-    if h == 0 {
-        return false;
-    }
-    h as usize <= GROOMERS
-}
-
 // Puts a stint behind groomer g's last one.
-fn put_next(table: &mut [u16], kept: &[u16], g: usize, s: Stint)
-    requires { ⌜ (length (now table) ≡ dayTablePlaces) × RoomForTurn (now kept) × (g < mostGroomers) ⌝ }
-    ensures { λ _. ⌜ now (table .exit) ≡ withNext (now (table .entry)) (now (kept .entry)) g s ⌝ }
+fn put_next(table: &mut [u16], progress: &[u16], g: usize, s: Stint)
+    requires { ⌜ (length (now table) ≡ dayTablePlaces) × RoomForTurn (now progress) × (g < mostGroomers) ⌝ }
+    ensures { λ _. ⌜ now (table .exit) ≡ withNext (now (table .entry)) (now (progress .entry)) g s ⌝ }
 {
-    let j = kept[GROOMERS + g] as usize;
-    if j < DAY_ROWS {
-        put_stint(&mut *table, g, j, s);
-    }
+    let j = progress[GROOMERS + g] as usize;
+    put_stint(&mut *table, g, j, s);
 }
 
 // The groomer is free when it has driven over, and has a stint more.
-fn keep_next(kept: &mut [u16], g: usize, s: Stint)
-    requires { ⌜ RoomForTurn (now kept) × (g < mostGroomers) × (s .end ≤ shiftMinutes) ⌝ }
-    ensures { λ _. ⌜ now (kept .exit) ≡ besideNext (now (kept .entry)) g s ⌝ }
+fn move_on(progress: &mut [u16], g: usize, s: Stint)
+    requires { ⌜ RoomForTurn (now progress) × (g < mostGroomers) × (s .end ≤ shiftMinutes) ⌝ }
+    ensures { λ _. ⌜ now (progress .exit) ≡ afterNext (now (progress .entry)) g s ⌝ }
 {
-    let j = kept[GROOMERS + g];
-    kept[g] = cut_off(s.end + OVER_MINUTES);
-    kept[GROOMERS + g] = j + 1;
+    let j = progress[GROOMERS + g];
+    progress[g] = cut_off(s.end + OVER_MINUTES);
+    progress[GROOMERS + g] = j + 1;
 }
 
 // Puts turn t of groomer g, a row with its delay, into the groomer's day.
-fn put_turn(table: &mut [u16], kept: &mut [u16], g: usize, r: Row, t: u16, delay: u16)
-    requires { ⌜ (length (now table) ≡ dayTablePlaces) × RoomForTurn (now kept) × (g < mostGroomers) ⌝ }
+fn put_turn(table: &mut [u16], progress: &mut [u16], g: usize, r: Row, t: u16, delay: u16)
+    requires { ⌜ (length (now table) ≡ dayTablePlaces) × RoomForTurn (now progress) × (g < mostGroomers) ⌝ }
     requires { ⌜ (r .start < r .end) × (r .end ≤ shiftMinutes) × (delay ≤ mostDelay) ⌝ }
-    ensures { λ _. ⌜ (now (table .exit) ≡ withNext (now (table .entry)) (now (kept .entry)) g (stintBy r t delay (getD (now (kept .entry)) g 0)))
-        × (now (kept .exit) ≡ besideNext (now (kept .entry)) g (stintBy r t delay (getD (now (kept .entry)) g 0))) ⌝ }
+    ensures { λ _. ⌜ (now (table .exit) ≡ withNext (now (table .entry)) (now (progress .entry)) g (stintBy r t delay (getD (now (progress .entry)) g 0)))
+        × (now (progress .exit) ≡ afterNext (now (progress .entry)) g (stintBy r t delay (getD (now (progress .entry)) g 0))) ⌝ }
 {
-    let s = stint_by(r, t, delay, kept[g]);
-    put_next(&mut *table, &*kept, g, s);
-    keep_next(&mut *kept, g, s);
+    let s = stint_by(r, t, delay, progress[g]);
+    put_next(&mut *table, &*progress, g, s);
+    move_on(&mut *progress, g, s);
 }
 
 // Puts turn u into its groomer's day if it is chosen.
@@ -151,23 +138,22 @@ fn put_chosen(
     delays: &[u16],
     u: u16,
     table: &mut [u16],
-    kept: &mut [u16],
+    progress: &mut [u16],
 )
     requires { ⌜ (u < mostTurns) × (u < 8 * length (now map)) × (u < length (now delays)) × (delayIn (now delays) u ≤ mostDelay) ⌝ }
     requires { ⌜ (rowIn (now cols) u .start < rowIn (now cols) u .end) × (rowIn (now cols) u .end ≤ shiftMinutes) ⌝ }
-    requires { ⌜ (length (now table) ≡ dayTablePlaces) × RoomForTurn (now kept) ⌝ }
+    requires { ⌜ (1 ≤ rowIn (now cols) u .groomer) × (rowIn (now cols) u .groomer ≤ mostGroomers) ⌝ }
+    requires { ⌜ (length (now table) ≡ dayTablePlaces) × RoomForTurn (now progress) ⌝ }
     ensures { λ _. ⌜ (now (table .exit) ≡ tableWith (chosenIn (now (map .entry)) u) (rowIn (now (cols .entry)) u) u (delayIn (now (delays .entry)) u)
-        (now (table .entry)) (now (kept .entry)))
-        × (now (kept .exit) ≡ besideWith (chosenIn (now (map .entry)) u) (rowIn (now (cols .entry)) u) u (delayIn (now (delays .entry)) u)
-        (now (kept .entry))) ⌝ }
+        (now (table .entry)) (now (progress .entry)))
+        × (now (progress .exit) ≡ progressWith (chosenIn (now (map .entry)) u) (rowIn (now (cols .entry)) u) u (delayIn (now (delays .entry)) u)
+        (now (progress .entry))) ⌝ }
 {
     let t = u as usize;
     if choice_map::is_chosen(map, t) {
         let r = row_at(cols, t);
-        if is_known(r.groomer) {
-            let g = (r.groomer - 1) as usize;
-            put_turn(&mut *table, &mut *kept, g, r, u, delays[t]);
-        }
+        let g = (r.groomer - 1) as usize;
+        put_turn(&mut *table, &mut *progress, g, r, u, delays[t]);
     }
 }
 
@@ -182,27 +168,33 @@ fn put_turns(
 )
     requires { ⌜ Held p (now cols) × (p .count ≤ 8 * length (now map)) × DelaysFit (now delays) (p .count) ⌝ }
     requires { ⌜ (now order ≡ orderByStart (turnsBy p (now cols))) × (now table ≡ blankTable) ⌝ }
+    requires { ⌜ Playable (turnsBy p (now cols)) (choiceIn (p .count) (now map)) ⌝ }
     ensures { λ _. ⌜ Days (turnsBy p (now (cols .entry))) (choiceIn (p .count) (now (map .entry))) (delayIn (now (delays .entry))) (now (table .exit)) ⌝ }
 {
-    let mut kept = [0u16; KEPT];
+    let mut progress = [0u16; PROGRESS_PLACES];
     let mut i = 0;
     while i < p.count {
-        put_chosen(cols, map, delays, order[i], &mut *table, &mut kept);
+        put_chosen(cols, map, delays, order[i], &mut *table, &mut progress);
         i += 1;
     }
 }
 
-// The days of a board's groomers, of chosen turns with a delay each, in a table of their own.
-pub fn days_of(p: Size, cols: &[u16; PLACES], map: &[u8], delays: &[u16]) -> [u16; DAY_TABLE_PLACES]
-    requires { ⌜ Held p (now cols) × (p .count ≤ 8 * length (now map)) × DelaysFit (now delays) (p .count) ⌝ }
-    ensures { λ r. ⌜ Days (turnsBy p (now (cols .entry))) (choiceIn (p .count) (now (map .entry))) (delayIn (now (delays .entry))) r ⌝ }
+// Puts the days of a board's groomers, of chosen turns with a delay each, into a blank table.
+pub fn put_days(
+    p: Size,
+    cols: &[u16; PLACES],
+    map: &[u8],
+    delays: &[u16],
+    table: &mut [u16; DAY_TABLE_PLACES],
+)
+    requires { ⌜ Held p (now cols) × (p .count ≤ 8 * length (now map)) × DelaysFit (now delays) (p .count) × (now table ≡ blankTable) ⌝ }
+    requires { ⌜ Playable (turnsBy p (now cols)) (choiceIn (p .count) (now map)) ⌝ }
+    ensures { λ _. ⌜ Days (turnsBy p (now (cols .entry))) (choiceIn (p .count) (now (map .entry))) (delayIn (now (delays .entry))) (now (table .exit)) ⌝ }
 {
     let n = p.count;
     let mut places = [0u16; MOST_TURNS];
     instance_by_start::put_order(p, cols, &mut places[..n]);
-    let mut table = [MINUTES; DAY_TABLE_PLACES];
-    put_turns(p, cols, map, delays, &places[..n], &mut table);
-    table
+    put_turns(p, cols, map, delays, &places[..n], &mut *table);
 }
 
 // Whether each of the delays is within its limit.

@@ -2,11 +2,12 @@
 use mathlib.Core.Path.{_≡_, refl, sym, _∙_, ap}
 use mathlib.Core.Bool.{Bool, true, false, cond}
 use mathlib.Core.List.{List, [], _∷_, _++_}
-use Prim.Native.Nat.{ℕ, _+_, _-_, _≤_, _<_, max}
+use Prim.Native.Nat.{ℕ, zero, suc, _+_, _-_, _*_, _≤_, _<_, max}
 use native.Mathlib.Omega.{arith}
 use native.Mathlib.Decide.{decLt, ℕ-discrete}
 use native.Mathlib.Nat.{le-max-left, le-max-right, max-le, max-eq-left}
 use lib.Dec.{eqb}
+use lib.ListN.{length, take}
 use borrow.Author.Tests.{eq-eqb, ne-eqb, eqb-true}
 use Rattle.lists.proofs.Bools.{and-1, and-2, and-of}
 use Rattle.model.specs.Turns.{Turns, PositiveLengths, same-groomer}
@@ -17,7 +18,9 @@ use Rattle.instance_spec.specs.ByStart.{orderByStart}
 use Rattle.assign_spec.specs.Numbering.{Before}
 use Rattle.lists.specs.Order.{Ascending}
 use Rattle.instance_spec.proofs.ByStart.{order-inside, order-rising, order-has}
+use Rattle.turn.specs.Turn.{shiftMinutes}
 use Rattle.play_spec.specs.declared.Stint.{Stint}
+use Rattle.play_spec.specs.DayTable.{dayRows}
 use Rattle.play_spec.specs.Day.{overMinutes, stintOf, stintsFrom, takes, takenOf, dayOf, Doing, works, drives, stands, doingAt, NoEarlier, OnTime}
 use Rattle.play_spec.proofs.Stints.{doing-before, doing-in, doing-over, doing-after}
 
@@ -46,6 +49,26 @@ planned T (u ∷ us) = record { turn = u; begin = T .start u; end = T .end u } �
 data Spaced (T : Turns) : List ℕ → Type 0 where
   none : Spaced T []
   more : {u : ℕ} {us : List ℕ} → T .start u < T .end u → AllOf (λ v. T .end u + overMinutes ≤ T .start v) us → Spaced T us → Spaced T (u ∷ us)
+
+-- each turn lasts a minute and is followed by ten, so that no more of them than this end within the shift
+spaced-few : (T : Turns) (low : ℕ) {us : List ℕ} → low ≤ shiftMinutes + overMinutes → Spaced T us → AllOf (λ v. low ≤ T .start v) us → AllOf (λ v. T .end v ≤ shiftMinutes) us → 11 * length us + low ≤ shiftMinutes + overMinutes
+spaced-few T low l Spaced.none AllOf.none AllOf.none = omega arith
+spaced-few T low l (Spaced.more {u} {us} p a r) (AllOf.more q b) (AllOf.more e f) =
+    let k = spaced-few T (T .start u + 11) (omega (arith, p, e)) r (later a) f in omega (arith, k, q)
+  where
+    later : {vs : List ℕ} → AllOf (λ v. T .end u + overMinutes ≤ T .start v) vs → AllOf (λ v. T .start u + 11 ≤ T .start v) vs
+    later AllOf.none = AllOf.none
+    later (AllOf.more {x = v} {xs = vs} k y) = AllOf.more {x = v} (omega (arith, k, p)) (later y)
+
+all-take : {P : ℕ → Type 0} (i : ℕ) {us : List ℕ} → AllOf P us → AllOf P (take i us)
+all-take zero h = AllOf.none
+all-take (suc i) AllOf.none = AllOf.none
+all-take (suc i) (AllOf.more p h) = AllOf.more p (all-take i h)
+
+rising-take : {f : ℕ → ℕ} (i : ℕ) {us : List ℕ} → Ascending f us → Ascending f (take i us)
+rising-take zero h = Ascending.none
+rising-take (suc i) Ascending.none = Ascending.none
+rising-take (suc i) (Ascending.more a r) = Ascending.more (all-take i a) (rising-take i r)
 
 head-of : {P : ℕ → Type 0} {u : ℕ} {us : List ℕ} → AllOf P (u ∷ us) → P u
 head-of (AllOf.more p h) = p
@@ -176,6 +199,14 @@ module _ (T : Turns) (S : List Bool) (h : ℕ) where
     from-zero : (us : List ℕ) → AllOf (λ v. 0 ≤ T .start v) us
     from-zero [] = AllOf.none
     from-zero (u ∷ us) = AllOf.more {x = u} (omega arith) (from-zero us)
+
+    -- however many turns are gone through by start, those that a groomer takes fit into the rows of its day
+    pub taken-few : ((t : ℕ) → t < T .count → T .end t ≤ shiftMinutes) → (i : ℕ) → length (takenOf T S h (take i (orderByStart T))) < dayRows
+    taken-few ends i =
+        let us = takenOf T S h (take i (orderByStart T)) in
+        let inside : AllOf (λ t. t < T .count) (take i (orderByStart T)) = all-take i (order-inside T) in
+        let k = spaced-few T 0 (omega arith) (taken-spaced (rising-take i (order-rising T)) inside) (from-zero us) (taken-all (λ t e l. ends t l) inside) in
+        omega (arith, k)
 
     pub on-time : (u : ℕ) → u < T .count → has S u ≡ true → T .groomer u ≡ h → OnTime T (dayOf T S (λ _. 0) h) u
     unfolding dayOf takes

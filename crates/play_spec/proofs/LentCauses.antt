@@ -6,15 +6,11 @@ use mathlib.Core.List.{List}
 use borrow.Author.Tests.{lt-ltb, le-ltb}
 use Rattle.refusal.specs.Number.{bufferTooSmall, badDelays}
 use Rattle.refusal.specs.Cause.{firstOf}
-use Rattle.refusal.proofs.Order.{first-stops, first-goes}
+use Rattle.refusal.proofs.Order.{first-goes}
 use Rattle.sheet.specs.Read.{countsIn, turnCount}
 use Rattle.check_spec.specs.Check.{checkCauses}
 use Rattle.check_spec.proofs.Passing.{check-numbered}
 use Rattle.play_spec.specs.Play.{servesFor, lentCauses, playCauses}
-
-pub check-stops : (s b delays : List ℕ) (places k : ℕ) → firstOf (checkCauses s b) ≡ k → (k ≡ 0 → ⊥) → firstOf (playCauses s b delays places) ≡ k
-unfolding playCauses
-check-stops s b delays places k e z = first-stops (checkCauses s b) _ k e z
 
 pub check-passed : (s b delays : List ℕ) (places : ℕ) → firstOf (checkCauses s b) ≡ 0 → firstOf (playCauses s b delays places) ≡ firstOf (lentCauses (countsIn s .groomers) (turnCount s) delays places)
 unfolding playCauses

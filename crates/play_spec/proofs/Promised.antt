@@ -1,6 +1,6 @@
 -- What is promised where nothing is refused: the caller's list when the shift is over. Assumes nothing.
 use Prim.Native.Nat.{ℕ, suc, _+_, _-_, _≤_, _<_}
-use mathlib.Core.Path.{_≡_, sym, _∙_, ap}
+use mathlib.Core.Path.{_≡_, sym, _∙_, ap, refl}
 use mathlib.Core.Logic.{_↔_}
 use mathlib.Core.Bool.{true, false, true≢false}
 use mathlib.Core.List.{List, _++_}
@@ -31,10 +31,12 @@ use Rattle.play_spec.proofs.Standings.{standing-is}
 use Rattle.play_spec.specs.DayTable.{Days}
 use Rattle.play_spec.specs.declared.PlayAnswer.{PlayAnswer}
 use Rattle.play_spec.specs.Minutes.{minutesFrom}
-use Rattle.play_spec.specs.Play.{Play, playCauses, dayAt, standingsOf, played, playOf}
+use Rattle.play_spec.specs.Play.{playCauses, dayAt, standingsOf, playOf}
 use Rattle.play_spec.specs.Promises.{MovedByMinutes, PlayPromised, PlayedAlike}
 use Rattle.play_spec.proofs.ListedStandings.{append-left, minutes-say, minutes-more, table-there}
-use Rattle.play_spec.proofs.PlayCauses.{play-number, play-clear, answer-same}
+use Rattle.play_spec.proofs.PlayCauses.{play-clear, answer-same}
+use Rattle.refusal.specs.Outcome.{Outcome, beside}
+use Rattle.refusal.proofs.Outcome.{number-none}
 
 sheet-gap : (s : List ℕ) → overMinutes ≤ sheetTurns s .gap
 unfolding sheetTurns problemOf
@@ -78,25 +80,25 @@ module _ (s b delays : List ℕ) where
 -- ---- the list
 
 module _ (s b delays : List ℕ) (lent : List Standing) (z : playOf s b delays lent .answer .refusal ≡ 0) where
-  is-played : playOf s b delays lent ≡ played (record { refusal = 0; groomers = countsIn s .groomers }) (standingsOf s b delays ++ drop (countsIn s .groomers) lent)
+  is-played : playOf s b delays lent ≡ beside (record { refusal = 0; groomers = countsIn s .groomers }) (standingsOf s b delays ++ drop (countsIn s .groomers) lent)
   unfolding playOf
-  is-played = let e : firstOf (playCauses s b delays (length lent)) ≡ 0 = sym (play-number s b delays lent) ∙ z in rw e
+  is-played = number-none (playCauses s b delays (length lent)) _ _ (λ (p : Outcome PlayAnswer (List Standing)). p .answer .refusal) refl (λ k. refl) z
 
   many : length (standingsOf s b delays) ≡ countsIn s .groomers
   unfolding standingsOf
   many = tab-length (countsIn s .groomers) (λ g. standingAfter (dayAt s b delays g) shiftMinutes)
 
-  its-standing : (g : ℕ) → g < countsIn s .groomers → getD (playOf s b delays lent .list) g freshOf ≡ standingAfter (dayAt s b delays g) shiftMinutes
+  its-standing : (g : ℕ) → g < countsIn s .groomers → getD (playOf s b delays lent .lent) g freshOf ≡ standingAfter (dayAt s b delays g) shiftMinutes
   unfolding standingsOf
   its-standing g l =
-      ap (λ (p : Play). getD (p .list) g freshOf) is-played ∙ append-left (standingsOf s b delays) (drop (countsIn s .groomers) lent) g freshOf (omega (arith, many))
+      ap (λ (p : Outcome PlayAnswer (List Standing)). getD (p .lent) g freshOf) is-played ∙ append-left (standingsOf s b delays) (drop (countsIn s .groomers) lent) g freshOf (omega (arith, many))
       ∙ tab-at (countsIn s .groomers) (λ k. standingAfter (dayAt s b delays k) shiftMinutes) freshOf g l
 
-  its-counts : (g : ℕ) → g < countsIn s .groomers → StandingIs (dayAt s b delays g) lastMinute (getD (playOf s b delays lent .list) g freshOf)
+  its-counts : (g : ℕ) → g < countsIn s .groomers → StandingIs (dayAt s b delays g) lastMinute (getD (playOf s b delays lent .lent) g freshOf)
   its-counts g l = rw (its-standing g l) (standing-is (dayAt s b delays g) lastMinute)
 
-  all-behind : drop (countsIn s .groomers) (playOf s b delays lent .list) ≡ drop (countsIn s .groomers) lent
-  all-behind = ap (λ (p : Play). drop (countsIn s .groomers) (p .list)) is-played ∙ drop-at (standingsOf s b delays) (drop (countsIn s .groomers) lent) (countsIn s .groomers) many
+  all-behind : drop (countsIn s .groomers) (playOf s b delays lent .lent) ≡ drop (countsIn s .groomers) lent
+  all-behind = ap (λ (p : Outcome PlayAnswer (List Standing)). drop (countsIn s .groomers) (p .lent)) is-played ∙ drop-at (standingsOf s b delays) (drop (countsIn s .groomers) lent) (countsIn s .groomers) many
 
   -- ---- the list in between
 
@@ -117,14 +119,14 @@ module _ (s b delays : List ℕ) (lent : List Standing) (z : playOf s b delays l
               let e : getD (minutesFrom (suc m) 0 (countsIn s .groomers) lent table) g freshOf ≡ standingAfter (dayAt s b delays g) (suc m) = ap (λ (ys : List Standing). getD ys g freshOf) (by-then (suc m) (omega arith) (omega arith)) ∙ append-left (tab (countsIn s .groomers) its) (drop (countsIn s .groomers) lent) g freshOf (omega (arith, tab-length (countsIn s .groomers) its)) ∙ tab-at (countsIn s .groomers) its freshOf g k in
               rw e (standing-is (dayAt s b delays g) m);
           behind = λ m l. ap (drop (countsIn s .groomers)) (by-then (suc m) (omega arith) (omega arith)) ∙ drop-at (tab (countsIn s .groomers) (λ g. standingAfter (dayAt s b delays g) (suc m))) (drop (countsIn s .groomers) lent) (countsIn s .groomers) (tab-length (countsIn s .groomers) (λ g. standingAfter (dayAt s b delays g) (suc m)));
-          last = by-then shiftMinutes (omega arith) (omega arith) ∙ sym (ap (λ (p : Play). p .list) is-played);
+          last = by-then shiftMinutes (omega arith) (omega arith) ∙ sym (ap (λ (p : Outcome PlayAnswer (List Standing)). p .lent) is-played);
         }
 
   pub play-promised : PlayPromised s b delays lent
   play-promised =
       let parts = passes-parts s b (play-clear s b delays lent z .0) in
       record {
-        groomers-are = ap (λ (p : Play). p .answer .groomers) is-played;
+        groomers-are = ap (λ (p : Outcome PlayAnswer (List Standing)). p .answer .groomers) is-played;
         standings = its-counts;
         whole = λ g l. its-counts g l .minutes;
         behind = all-behind;
@@ -137,8 +139,8 @@ module _ (s b delays : List ℕ) (lent : List Standing) (z : playOf s b delays l
       }
 
   -- the first standings, whatever was there
-  first-places : take (countsIn s .groomers) (playOf s b delays lent .list) ≡ standingsOf s b delays
-  first-places = ap (λ (p : Play). take (countsIn s .groomers) (p .list)) is-played ∙ take-at (standingsOf s b delays) (drop (countsIn s .groomers) lent) (countsIn s .groomers) many
+  first-places : take (countsIn s .groomers) (playOf s b delays lent .lent) ≡ standingsOf s b delays
+  first-places = ap (λ (p : Outcome PlayAnswer (List Standing)). take (countsIn s .groomers) (p .lent)) is-played ∙ take-at (standingsOf s b delays) (drop (countsIn s .groomers) lent) (countsIn s .groomers) many
 
 -- two lists that both have a place for each groomer, or neither, are alike: what they held plays no part
 pub play-alike : (s b delays : List ℕ) (lent other : List Standing) → (countsIn s .groomers ≤ length lent) ↔ (countsIn s .groomers ≤ length other) → PlayedAlike s b delays lent other

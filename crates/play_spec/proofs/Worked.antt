@@ -10,7 +10,7 @@ use Rattle.lists.specs.Sorting.{insertBy, sortBy}
 use Rattle.lists.specs.Lists.{every, tab}
 use Rattle.model.specs.Turns.{overlapping, overlap, bySlope, oneGroomer, byGroomer, oneDriver, byDriver, conflict}
 use Rattle.instance_spec.specs.Problem.{problemOf, sheetTurns}
-use Rattle.model.specs.Steps.{isOpen, left, initial, touches, reduced, change, afterStep, afterSteps, tally}
+use Rattle.model.specs.Steps.{isOpen, left, initial, touches, lessened, change, afterStepBy, conflictTakes, afterStep, afterSteps, tally}
 use Rattle.model.specs.Choice.{chosen, fits}
 use Rattle.model.specs.Rules.{independent, maximal, noEarlier, right, allRight, noneOpen, sums}
 use Rattle.choice_map.specs.Choice.{bitOf, chosenIn, choiceIn, clearPast}
@@ -23,9 +23,10 @@ use Rattle.play_spec.specs.Day.{delaysFit, stintOf, stintsFrom, takes, t
 use Rattle.play_spec.specs.Standing.{movedBy, standingAfter}
 use Rattle.play_spec.specs.Play.{servesFor, lentCauses, playCauses, dayAt, standingsOf, playOf}
 use Rattle.play_spec.specs.Cases.{PlayCases}
+use Rattle.refusal.specs.Outcome.{unless}
 
 pub worked-playing : PlayCases
-unfolding firstOf opensWith outsideRange pastShift turnCauses garage widthOf field turnFrom badMapFor endAt turnAt cursorAfter recordCauses firstCursor countCauses headerCauses recordsCauses turnsFrom causesFor sheetCauses turnsOf insertBy sortBy every tab overlapping overlap bySlope oneGroomer byGroomer oneDriver byDriver conflict problemOf sheetTurns isOpen left initial touches reduced change afterStep afterSteps tally chosen fits independent maximal noEarlier right allRight noneOpen sums bitOf chosenIn choiceIn clearPast boardMap boardChoice stepsIn writtenSteps badSizes malformed choiceCauses stepCauses ruleCauses sumCauses boardCauses checkCauses delaysFit servesFor lentCauses playCauses byValue orderBy orderByStart stintOf stintsFrom takes takenOf dayOf dayAt doingAt movedBy standingAfter playOf standingsOf
+unfolding firstOf opensWith outsideRange pastShift turnCauses garage widthOf field turnFrom badMapFor endAt turnAt cursorAfter recordCauses firstCursor countCauses headerCauses recordsCauses turnsFrom causesFor sheetCauses turnsOf insertBy sortBy every tab overlapping overlap bySlope oneGroomer byGroomer oneDriver byDriver conflict problemOf sheetTurns isOpen left initial touches lessened change afterStepBy conflictTakes afterStep afterSteps tally chosen fits independent maximal noEarlier right allRight noneOpen sums bitOf chosenIn choiceIn clearPast boardMap boardChoice stepsIn writtenSteps badSizes malformed choiceCauses stepCauses ruleCauses sumCauses boardCauses checkCauses delaysFit servesFor lentCauses playCauses byValue orderBy orderByStart stintOf stintsFrom takes takenOf dayOf dayAt doingAt movedBy standingAfter playOf standingsOf unless
 worked-playing =
     record {
       late = refl;

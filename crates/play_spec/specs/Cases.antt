@@ -4,7 +4,8 @@ use mathlib.Core.List.{List, [], _∷_}
 use Prim.Native.Nat.{ℕ}
 use Rattle.play_spec.specs.declared.Standing.{Standing}
 use Rattle.play_spec.specs.Standing.{noTurnInHand}
-use Rattle.play_spec.specs.Play.{played, playOf}
+use Rattle.play_spec.specs.Play.{playOf}
+use Rattle.refusal.specs.Outcome.{beside}
 
 -- a standing of these numbers: minutes worked, driven over and stood, and the turn in hand
 abbrev pub standing : ℕ → ℕ → ℕ → ℕ → Standing
@@ -33,6 +34,6 @@ eveningBoard = 0x47 ∷ 0x52 ∷ 0x42 ∷ 0x00 ∷ 0x02 ∷ 0x00 ∷ 0x02 ∷ 0x
 -- each with one lent place more than there are groomers
 pub record PlayCases : Type 0 where
   -- turn 1 is 15 minutes late: groomer 1 works from 30 to 105, drives over until 115, and has no turn at the end; groomer 2's turn is worked as planned
-  pub late : playOf shift shiftBoard (0 ∷ 15 ∷ 0 ∷ 0 ∷ []) (before ∷ before ∷ before ∷ []) ≡ played (record { refusal = 0; groomers = 2 }) (standing 75 10 875 noTurnInHand ∷ standing 60 10 890 noTurnInHand ∷ before ∷ [])
+  pub late : playOf shift shiftBoard (0 ∷ 15 ∷ 0 ∷ 0 ∷ []) (before ∷ before ∷ before ∷ []) ≡ beside (record { refusal = 0; groomers = 2 }) (standing 75 10 875 noTurnInHand ∷ standing 60 10 890 noTurnInHand ∷ before ∷ [])
   -- turn 0 is 30 minutes late: it is worked from 780 to 870, so that turn 1 waits for 880; it would end at 970, and is in hand at the end, worked for 80 minutes
-  pub held-up : playOf evening eveningBoard (30 ∷ 0 ∷ []) (before ∷ before ∷ []) ≡ played (record { refusal = 0; groomers = 1 }) (standing 170 10 780 1 ∷ before ∷ [])
+  pub held-up : playOf evening eveningBoard (30 ∷ 0 ∷ []) (before ∷ before ∷ []) ≡ beside (record { refusal = 0; groomers = 1 }) (standing 170 10 780 1 ∷ before ∷ [])

@@ -27,18 +27,18 @@ pub record MovedByMinutes (s b delays : List ℕ) (lent : List Standing) (table 
   -- and behind those places what was there
   pub behind : (m : ℕ) → m < shiftMinutes → drop (countsIn s .groomers) (minutesFrom (suc m) 0 (countsIn s .groomers) lent table) ≡ drop (countsIn s .groomers) lent
   -- after the shift's last minute it is the answer's list
-  pub last : minutesFrom shiftMinutes 0 (countsIn s .groomers) lent table ≡ playOf s b delays lent .list
+  pub last : minutesFrom shiftMinutes 0 (countsIn s .groomers) lent table ≡ playOf s b delays lent .lent
 
 -- of an answer that refuses nothing
 pub record PlayPromised (s b delays : List ℕ) (lent : List Standing) : Type 0 where
   -- the answer counts the groomers of the sheet
   pub groomers-are : playOf s b delays lent .answer .groomers ≡ countsIn s .groomers
   -- at each groomer's place the list holds its standing after the shift's last minute
-  pub standings : (g : ℕ) → g < countsIn s .groomers → StandingIs (dayAt s b delays g) lastMinute (getD (playOf s b delays lent .list) g freshOf)
+  pub standings : (g : ℕ) → g < countsIn s .groomers → StandingIs (dayAt s b delays g) lastMinute (getD (playOf s b delays lent .lent) g freshOf)
   -- of which the three counts make the whole shift
-  pub whole : (g : ℕ) → g < countsIn s .groomers → totalOf (getD (playOf s b delays lent .list) g freshOf) ≡ shiftMinutes
+  pub whole : (g : ℕ) → g < countsIn s .groomers → totalOf (getD (playOf s b delays lent .lent) g freshOf) ≡ shiftMinutes
   -- behind those places it is as it was
-  pub behind : drop (countsIn s .groomers) (playOf s b delays lent .list) ≡ drop (countsIn s .groomers) lent
+  pub behind : drop (countsIn s .groomers) (playOf s b delays lent .lent) ≡ drop (countsIn s .groomers) lent
   -- the day that is spoken of is that of the groomer, whose number is one above its place
   pub days : (g : ℕ) → DayIs (sheetTurns s) (boardChoice b) (delayIn delays) (suc g) (dayAt s b delays g)
   -- and what is done in a minute of that day is what the words give for it
@@ -54,4 +54,4 @@ pub record PlayPromised (s b delays : List ℕ) (lent : List Standing) : Type 0 
 -- of two lists that are lent for one board and one table of delays: what they hold plays no part
 pub record PlayedAlike (s b delays : List ℕ) (lent other : List Standing) : Type 0 where
   pub answer : playOf s b delays lent .answer ≡ playOf s b delays other .answer
-  pub standings : playOf s b delays lent .answer .refusal ≡ 0 → take (countsIn s .groomers) (playOf s b delays lent .list) ≡ take (countsIn s .groomers) (playOf s b delays other .list)
+  pub standings : playOf s b delays lent .answer .refusal ≡ 0 → take (countsIn s .groomers) (playOf s b delays lent .lent) ≡ take (countsIn s .groomers) (playOf s b delays other .lent)

@@ -1,3 +1,2 @@
-pub mod RankCases
-pub mod LowerCases
-pub mod ChangeCases
+pub mod FirstLook
+pub mod RoundCases

@@ -1,15 +1,183 @@
-// What rounds of a shift and rounds of a hall have in common: the turns by worth, the list that a choice is made
-// from, the lowest limit, the change.
-mod change;
-mod lowest;
-mod ranking;
+// Rounds in which prices move, whatever the rule: a look at the prices, then a round, until the lowest limit is
+// the best worth or no round is left.
+ghost use mathlib.Core.Path.{_≡_};
+ghost use Rattle.choice_map.specs.Choice.{choiceIn, Clean};
+ghost use Rattle.instance.specs.Columns.{turnsBy};
+ghost use Rattle.refine_spec.specs.Selection.{byWorth};
+ghost use Rattle.price_rule.specs.Rules.{sizeOf, RulePosed, RunsFor};
+ghost use Rattle.price_rounds.specs.Rounds.{shiftTask, hallTask, BetterKept, RoundsStart, ReachedFrom};
+use hall_look::HallSize;
+use hall_look::MINUTES;
+use instance::MOST_TURNS;
+use instance::PLACES;
+use price_rule::RuleFor;
+use price_rule::choose_from;
+use price_rule::first_change;
+use price_rule::look_at;
+use price_rule::move_prices;
+use price_rule::put_tables;
+use price_rule::size_of;
+use prices::Extent;
+use prices::ORDERS;
+use round_parts::is_over;
+use round_parts::keep_lower;
+use round_parts::next_change;
+use round_parts::put_ranks;
 
-pub use change::greatest_worth;
-pub use change::next_change;
-pub use lowest::Reached;
-pub use lowest::ended;
-pub use lowest::is_over;
-pub use lowest::keep_lower;
-pub use ranking::copy_numbers;
-pub use ranking::put_list;
-pub use ranking::put_ranks;
+// A bit for each turn that a sheet can have.
+const MAP_BYTES: usize = (MOST_TURNS + 7) / 8;
+
+// A hall has a price for each minute; the slopes and turns of a shift are fewer.
+const MOST_PRICES: usize = MINUTES;
+
+// Above every limit: the first look finds a lower one. The definition starts from the first limit itself;
+// FirstLook.antt shows that both come to the same.
+const NO_LIMIT: u32 = 4294967295;
+
+// The most rounds, and the worth of the choice to start from.
+pub struct Start {
+    pub rounds: u32,
+    pub worth: u32,
+}
+
+// What make_rounds gets: the rule, the most rounds, and the worth of the choice to start from.
+pub struct Task {
+    pub rule: RuleFor,
+    pub rounds: u32,
+    pub worth: u32,
+}
+
+// What the rounds came to, beside price list and choice.
+pub struct Reached {
+    pub limit: u32,
+    pub worth: u32,
+    pub rounds: u32,
+}
+
+// The rule, and the worth of the best choice so far.
+pub struct Rated {
+    pub rule: RuleFor,
+    pub worth: u32,
+}
+
+// The choice made from a relaxed set takes the place of the best so far only if it is worth more; returns the
+// worth of the one that stays.
+fn keep_better(
+    b: Rated,
+    cols: &[u16; PLACES],
+    ranks: &[u16],
+    relaxed: &[u8],
+    best: &mut [u8],
+    room: &mut [u16; PLACES],
+) -> u32
+    requires { ⌜ RulePosed (b .rule) (now cols) × (now ranks ≡ byWorth (turnsBy (sizeOf (b .rule)) (now cols))) × RunsFor (b .rule) (now cols) (now room) ⌝ }
+    requires { ⌜ Clean (sizeOf (b .rule) .count) (now relaxed) × Clean (sizeOf (b .rule) .count) (now best) ⌝ }
+    ensures { λ w. ⌜ BetterKept (b .rule) (now (cols .entry)) (choiceIn (sizeOf (b .rule) .count) (now (relaxed .entry)))
+        (choiceIn (sizeOf (b .rule) .count) (now (best .entry))) (b .worth) (choiceIn (sizeOf (b .rule) .count) (now (best .exit))) w ⌝ }
+    ensures { λ _. ⌜ Clean (sizeOf (b .rule) .count) (now (best .exit)) × RunsFor (b .rule) (now (cols .entry)) (now (room .exit)) ⌝ }
+{
+    let rule = b.rule;
+    let mut space = [0u8; MAP_BYTES];
+    let map = &mut space[..best.len()];
+    let found = choose_from(rule, cols, &*room, ranks, relaxed, &mut *map);
+    let worth = b.worth;
+    if found <= worth {
+        return worth;
+    }
+    wire::put_bytes(&mut *best, 0, &*map);
+    found
+}
+
+fn come_to(limit: u32, worth: u32, rounds: u32) -> Reached
+    ensures { λ r. ⌜ r ≡ record { limit = limit; worth = worth; rounds = rounds } ⌝ }
+{
+    Reached {
+        limit: limit,
+        worth: worth,
+        rounds: rounds,
+    }
+}
+
+// Makes the rounds, from prices of 0 and the choice in a map. The map and the list then have the best choice
+// and the prices of the lowest limit. The room holds the runs of a shift's orders during the rounds.
+fn make_rounds(
+    t: Task,
+    cols: &[u16; PLACES],
+    list: &mut [u16],
+    best: &mut [u8],
+    room: &mut [u16; PLACES],
+) -> Reached
+    requires { ⌜ RoundsStart t (now cols) (now list) (now best) (now room) ⌝ }
+    ensures { λ r. ⌜ ReachedFrom t (now (cols .entry)) (now (best .entry)) r (now (list .exit)) (now (best .exit)) ⌝ }
+{
+    let rule = t.rule;
+    let p = size_of(rule);
+    let mut tables = [0u16; ORDERS];
+    put_tables(rule, cols, &mut tables, &mut *room);
+    let mut places = [0u16; MOST_TURNS];
+    let ranks = &mut places[..p.count];
+    put_ranks(p, cols, &mut *ranks);
+    let mut space = [0u16; MOST_PRICES];
+    let prices = &mut space[..list.len()];
+    let mut change = first_change(rule, cols);
+    let mut limit = NO_LIMIT;
+    let mut worth = t.worth;
+    let mut made = 0;
+    loop {
+        let mut map = [0u8; MAP_BYTES];
+        let relaxed = &mut map[..best.len()];
+        let seen = look_at(rule, cols, &tables, &*prices, &mut *relaxed);
+        limit = keep_lower(seen, limit, &*prices, &mut *list);
+        let rated = Rated {
+            rule: rule,
+            worth: worth,
+        };
+        worth = keep_better(rated, cols, &*ranks, &*relaxed, &mut *best, &mut *room);
+        if is_over(limit, worth, made, t.rounds) {
+            return come_to(limit, worth, made);
+        }
+        move_prices(rule, cols, &tables, &*relaxed, change, &mut *prices);
+        change = next_change(change);
+        made += 1;
+    }
+}
+
+// The rounds of a shift.
+pub fn shift_rounds(
+    e: Extent,
+    s: Start,
+    cols: &[u16; PLACES],
+    list: &mut [u16],
+    best: &mut [u8],
+    room: &mut [u16; PLACES],
+) -> Reached
+    requires { ⌜ RoundsStart (shiftTask e s) (now cols) (now list) (now best) (now room) ⌝ }
+    ensures { λ r. ⌜ ReachedFrom (shiftTask e s) (now (cols .entry)) (now (best .entry)) r (now (list .exit)) (now (best .exit)) ⌝ }
+{
+    let t = Task {
+        rule: RuleFor::Shift(e),
+        rounds: s.rounds,
+        worth: s.worth,
+    };
+    make_rounds(t, cols, &mut *list, &mut *best, &mut *room)
+}
+
+// The rounds of a hall.
+pub fn hall_rounds(
+    h: HallSize,
+    s: Start,
+    cols: &[u16; PLACES],
+    list: &mut [u16],
+    best: &mut [u8],
+    room: &mut [u16; PLACES],
+) -> Reached
+    requires { ⌜ RoundsStart (hallTask h s) (now cols) (now list) (now best) (now room) ⌝ }
+    ensures { λ r. ⌜ ReachedFrom (hallTask h s) (now (cols .entry)) (now (best .entry)) r (now (list .exit)) (now (best .exit)) ⌝ }
+{
+    let t = Task {
+        rule: RuleFor::Hall(h),
+        rounds: s.rounds,
+        worth: s.worth,
+    };
+    make_rounds(t, cols, &mut *list, &mut *best, &mut *room)
+}

@@ -14,9 +14,10 @@ use Rattle.best_spec.specs.Groomers.{keep, ownTurns, groomerWorth, groomersWort
 use Rattle.price_spec.specs.Prices.{slopePrice, turnPrice, paysTurn, paidBy, countsFor, pricedTurns, priceSum, limitBy}
 use Rattle.price_spec.specs.Limit.{limitCauses, sheetLimit, limitOf}
 use Rattle.price_spec.specs.Cases.{LimitCases}
+use Rattle.refusal.specs.Outcome.{unless}
 
 pub limit-cases : LimitCases
-unfolding firstOf opensWith outsideRange pastShift turnCauses garage widthOf field turnFrom badMapFor endAt turnAt cursorAfter recordCauses firstCursor countCauses headerCauses recordsCauses turnsFrom causesFor sheetCauses turnsOf insertBy sortBy overlapping overlap oneGroomer oneDriver byDriver problemOf sheetTurns laterFirst turnOrder greater inTheWay blocked bestTable bestOf keep ownTurns groomerWorth groomersWorth slopePrice turnPrice paysTurn paidBy countsFor pricedTurns priceSum limitBy limitCauses sheetLimit limitOf
+unfolding firstOf opensWith outsideRange pastShift turnCauses garage widthOf field turnFrom badMapFor endAt turnAt cursorAfter recordCauses firstCursor countCauses headerCauses recordsCauses turnsFrom causesFor sheetCauses turnsOf insertBy sortBy overlapping overlap oneGroomer oneDriver byDriver problemOf sheetTurns laterFirst turnOrder greater inTheWay blocked bestTable bestOf keep ownTurns groomerWorth groomersWorth slopePrice turnPrice paysTurn paidBy countsFor pricedTurns priceSum limitBy limitCauses sheetLimit limitOf unless
 limit-cases =
     record {
       free = refl;

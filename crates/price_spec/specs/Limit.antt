@@ -1,17 +1,18 @@
 -- The limit's entry: any bytes as a sheet, and any numbers as a price list (request P-1). Assumes nothing.
 use Prim.Native.Nat.{ℕ, _+_}
 use mathlib.Core.Logic.{_≢_}
-use mathlib.Core.Bool.{not, cond}
+use mathlib.Core.Bool.{not}
 use mathlib.Core.List.{List, [], _∷_, _++_}
 use lib.ListN.{length}
 use lib.Dec.{eqb}
 use Rattle.refusal.specs.Number.{badPrices}
-use Rattle.refusal.specs.Cause.{Cause, _when_, firstOf, FirstAmong}
+use Rattle.refusal.specs.Cause.{Cause, _when_, FirstAmong}
 use Rattle.sheet.specs.Read.{countsIn, turnCount, sheetCauses}
-use Rattle.sheet.specs.Accepted.{SheetCause, placeOf}
+use Rattle.sheet.specs.Accepted.{MoreCause}
 use Rattle.instance_spec.specs.Problem.{sheetTurns}
 use Rattle.price_spec.specs.declared.LimitAnswer.{LimitAnswer}
 use Rattle.price_spec.specs.Prices.{limitBy}
+use Rattle.refusal.specs.Outcome.{unless}
 
 -- how many prices a sheet has: one for each slope, then one for each turn
 abbrev pub priceCount : List ℕ → ℕ
@@ -35,14 +36,13 @@ limitRefused k = record { refusal = k; limit = 0 }
 
 -- the limit unless a cause is there
 unfoldable pub limitOf : List ℕ → List ℕ → LimitAnswer
-limitOf s prices = let f = firstOf (limitCauses s prices) in cond (eqb f 0) (limitIs (sheetLimit s prices)) (limitRefused f)
+limitOf s prices = unless (limitCauses s prices) (limitIs (sheetLimit s prices)) limitRefused
 
 -- ---- as statements
 
--- a cause to refuse is there: its number, and its place in the order
-pub data LimitCause (s prices : List ℕ) : ℕ → ℕ → Type 0 where
-  of-sheet : {k r : ℕ} → SheetCause s k r → LimitCause s prices k r
-  other-length : length prices ≢ priceCount s → LimitCause s prices badPrices (placeOf (turnCount s) 1)
+-- a cause to refuse is there, at its place in the order: the sheet's, then a list of another length
+abbrev pub LimitCause : List ℕ → List ℕ → ℕ → ℕ → Type 0
+LimitCause s prices = MoreCause s badPrices (length prices ≢ priceCount s)
 
 -- the first of them has number k
 abbrev pub FirstLimitCause : List ℕ → List ℕ → ℕ → Type 0

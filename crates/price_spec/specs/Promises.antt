@@ -31,4 +31,4 @@ pub record LimitPromised (s prices : List ℕ) : Type 0 where
   -- where all prices are 0, it is the sum over the groomers of the best of their turns at their worths
   pub free : AllFree prices → limitOf s prices .limit ≡ groomersWorth (sheetTurns s) (countsIn s .groomers)
   -- and, on a sheet that the best worth's entry does not refuse, that entry's worth
-  pub free-best : AllFree prices → (lent : List ℕ) → exactOf s lent .refusal ≡ 0 → limitOf s prices .limit ≡ exactOf s lent .worth
+  pub free-best : AllFree prices → (lent : List ℕ) → exactOf s lent .answer .refusal ≡ 0 → limitOf s prices .limit ≡ exactOf s lent .answer .worth

@@ -36,58 +36,91 @@ module _ (T : Turns) (slopes : ℕ) (prices : List ℕ) where
   unfolding countedTurns
   counted-count = refl
 
-  module _ (orders : List ℕ) (few : T .count ≤ mostTurns) (o : Ordered T orders) where
-    places-counted : InTurnOrder (countedTurns T slopes prices) orders
-    places-counted =
+  module _ (orders : List ℕ) where
+    places-counted : InTurnOrder T orders → InTurnOrder (countedTurns T slopes prices) orders
+    places-counted o =
         record {
           places = omega (arith, o .places, counted-count);
-          turns = λ i h. o .groomers i (omega (arith, counted-count)) ∙ ap (λ (ts : List ℕ). getD ts i 0) (sym counted-order);
+          turns = λ i h. o .turns i (omega (arith, counted-count)) ∙ ap (λ (ts : List ℕ). getD ts i 0) (sym counted-order);
         }
 
-    befores-counted : Befores (countedTurns T slopes prices) orders (countedTurns T slopes prices .count)
-    befores-counted = record { places = omega (arith, o .places); values = λ k h. o .before k (omega (arith, counted-count)) ∙ sym (counted-before k) }
+    befores-counted : Befores T orders (T .count) → Befores (countedTurns T slopes prices) orders (countedTurns T slopes prices .count)
+    befores-counted b = record { places = b .places; values = λ k h. b .values k (omega (arith, counted-count)) ∙ sym (counted-before k) }
 
   counts-are : (counts : List ℕ) → T .count ≤ mostTurns → CountsTo T slopes prices counts (T .count) → Counts (countedTurns T slopes prices) counts
   unfolding countedTurns
   counts-are counts few c = record { places = omega (arith, c .places); values = c .values }
 
+-- ---- the table over counts
+
+module _ (e : Extent) (cols prices : List ℕ) (few : e .size .count ≤ mostTurns) (orders : List ℕ) (o : InTurnOrder (turnsIn e cols) orders) where
+  abbrev C : Turns
+  C = countedTurns (turnsIn e cols) (e .slopes) prices
+
+  abbrev o′ : InTurnOrder C orders
+  o′ = places-counted (turnsIn e cols) (e .slopes) prices orders o
+
+  module _ (b : Befores (turnsIn e cols) orders (e .size .count)) (counts : List ℕ) (c : CountsTo (turnsIn e cols) (e .slopes) prices counts (e .size .count)) where
+    pub table-chained : Chained (e .size .count) orders counts
+    unfolding turnsBy countedTurns
+    table-chained = turns-chained C orders o′ counts few (befores-counted (turnsIn e cols) (e .slopes) prices orders b) (counts-are (turnsIn e cols) (e .slopes) prices counts few c)
+
+    module _ (worths skips : List ℕ) (f : Filled (e .size .count) orders counts 0 worths skips) where
+      pub table-skips : Skips C 0 skips
+      unfolding turnsBy countedTurns
+      table-skips = filled-skips C orders o′ counts few (befores-counted (turnsIn e cols) (e .slopes) prices orders b) (counts-are (turnsIn e cols) (e .slopes) prices counts few c) worths skips f
+
+      pub table-first : getD worths 0 0 ≡ bestWorth C
+      unfolding turnsBy countedTurns
+      table-first =
+          first-entry C worths (filled-entries C orders o′ counts few (befores-counted (turnsIn e cols) (e .slopes) prices orders b) (counts-are (turnsIn e cols) (e .slopes) prices counts few c) worths skips f)
+
+  module _ (skips : List ℕ) (s : Skips C 0 skips) where
+    pub table-readable : Readable (e .size .count) orders skips
+    unfolding turnsBy countedTurns
+    table-readable = turns-readable C orders o′ skips few s
+
+    pub table-best : {S S′ : List Bool} → S ≡ replicate (e .size .count) false → S′ ≡ marked S (wayFrom orders skips (e .size .count) (e .size .count) 0) → S′ ≡ bestChoice C
+    unfolding turnsBy countedTurns
+    table-best q r = way-best C orders o′ skips few s q r
+
 -- ---- as the code leaves it
 
+module _ (T : Turns) (orders : List ℕ) (few : T .count ≤ mostTurns) (o : Ordered T orders) where
+  ordered-turns : InTurnOrder T orders
+  ordered-turns = record { places = omega (arith, o .places); turns = o .groomers }
+
+  ordered-befores : Befores T orders (T .count)
+  ordered-befores = record { places = omega (arith, o .places); values = o .before }
+
 module _ (e : Extent) (cols orders prices : List ℕ) (w : Priced e cols prices) (o : Ordered (turnsIn e cols) orders) where
+  in-order : InTurnOrder (turnsIn e cols) orders
+  unfolding turnsBy
+  in-order = ordered-turns (turnsBy (e .size) cols) orders (w .few) o
+
+  in-befores : Befores (turnsIn e cols) orders (e .size .count)
+  unfolding turnsBy
+  in-befores = ordered-befores (turnsBy (e .size) cols) orders (w .few) o
+
   module _ (counts : List ℕ) (c : CountsTo (turnsIn e cols) (e .slopes) prices counts (e .size .count)) where
     pub look-chained : Chained (e .size .count) orders counts
-    unfolding turnsBy countedTurns
-    look-chained =
-        turns-chained (countedTurns (turnsIn e cols) (e .slopes) prices) orders (places-counted (turnsIn e cols) (e .slopes) prices orders (w .few) o) counts (w .few)
-        (befores-counted (turnsIn e cols) (e .slopes) prices orders (w .few) o) (counts-are (turnsIn e cols) (e .slopes) prices counts (w .few) c)
+    look-chained = table-chained e cols prices (w .few) orders in-order in-befores counts c
 
     module _ (worths skips : List ℕ) (f : Filled (e .size .count) orders counts 0 worths skips) where
       pub look-skips : Skips (countedTurns (turnsIn e cols) (e .slopes) prices) 0 skips
-      unfolding turnsBy countedTurns
-      look-skips =
-          filled-skips (countedTurns (turnsIn e cols) (e .slopes) prices) orders (places-counted (turnsIn e cols) (e .slopes) prices orders (w .few) o) counts (w .few)
-          (befores-counted (turnsIn e cols) (e .slopes) prices orders (w .few) o) (counts-are (turnsIn e cols) (e .slopes) prices counts (w .few) c) worths skips f
-
-      first-is : getD worths 0 0 ≡ bestWorth (countedTurns (turnsIn e cols) (e .slopes) prices)
-      unfolding turnsBy countedTurns
-      first-is =
-          first-entry (countedTurns (turnsIn e cols) (e .slopes) prices) worths (
-          filled-entries (countedTurns (turnsIn e cols) (e .slopes) prices) orders (places-counted (turnsIn e cols) (e .slopes) prices orders (w .few) o) counts (w .few)
-          (befores-counted (turnsIn e cols) (e .slopes) prices orders (w .few) o) (counts-are (turnsIn e cols) (e .slopes) prices counts (w .few) c) worths skips f)
+      look-skips = table-skips e cols prices (w .few) orders in-order in-befores counts c worths skips f
 
       pub look-sum : {a : ℕ} → a ≡ priceSum (turnsIn e cols) (e .slopes) prices → a + getD worths 0 0 ≡ priceSum (turnsIn e cols) (e .slopes) prices + bestWorth (countedTurns (turnsIn e cols) (e .slopes) prices)
-      look-sum q = rw (q, first-is)
+      look-sum q = rw (q, table-first e cols prices (w .few) orders in-order in-befores counts c worths skips f)
 
       pub look-fits : {a : ℕ} → a ≤ (mostSlopes + mostTurns) * mostPrice → Fits w32 (a + getD worths 0 0)
       look-fits l = omega (arith, f .most 0 (omega arith) (omega arith), w .few)
 
   module _ (skips : List ℕ) (s : Skips (countedTurns (turnsIn e cols) (e .slopes) prices) 0 skips) where
     pub look-readable : Readable (e .size .count) orders skips
-    unfolding turnsBy countedTurns
-    look-readable = turns-readable (countedTurns (turnsIn e cols) (e .slopes) prices) orders (places-counted (turnsIn e cols) (e .slopes) prices orders (w .few) o) skips (w .few) s
+    look-readable = table-readable e cols prices (w .few) orders in-order skips s
 
     pub look-best : {S S′ : List Bool} → S ≡ replicate (e .size .count) false → S′ ≡ marked S (wayFrom orders skips (e .size .count) (e .size .count) 0) → S′ ≡ bestChoice (countedTurns (turnsIn e cols) (e .slopes) prices)
-    unfolding turnsBy countedTurns
-    look-best q r = way-best (countedTurns (turnsIn e cols) (e .slopes) prices) orders (places-counted (turnsIn e cols) (e .slopes) prices orders (w .few) o) skips (w .few) s q r
+    look-best q r = table-best e cols prices (w .few) orders in-order skips s q r
 
 pub ruleset look-cases = (look-chained, look-skips, look-sum, look-fits, look-readable, look-best)

@@ -71,7 +71,7 @@ module _ (D : Turns) where
   groomers-rise : (i j : ℕ) → i < j → j < D .count → D .groomer (at i) ≤ D .groomer (at j)
   groomers-rise i j l h = leads-groomer D (at i) (at j) (leads-at i j l h)
 
-  ends-fall : (i j : ℕ) → i < j → j < D .count → D .groomer (at i) ≡ D .groomer (at j) → D .end (at j) ≤ D .end (at i)
+  pub ends-fall : (i j : ℕ) → i < j → j < D .count → D .groomer (at i) ≡ D .groomer (at j) → D .end (at j) ≤ D .end (at i)
   ends-fall i j l h g = go (leads-at i j l h)
     where
       go : Leads D (at i) (at j) → D .end (at j) ≤ D .end (at i)
@@ -104,14 +104,14 @@ module _ (D : Turns) where
 
   -- ---- what is in the way
 
-  way-is : (t u : ℕ) → inTheWay D t u ≡ true → (D .groomer t ≡ D .groomer u) × (D .start t < D .end u + D .gap)
+  pub way-is : (t u : ℕ) → inTheWay D t u ≡ true → (D .groomer t ≡ D .groomer u) × (D .start t < D .end u + D .gap)
   unfolding inTheWay oneGroomer
   way-is t u e = (
     eqb-true (D .groomer t) (D .groomer u) (and-1 (eqb (D .groomer t) (D .groomer u)) (ltb (D .start t) (D .end u + D .gap)) e),
     ltb-true (D .start t) (D .end u + D .gap) (and-2 (eqb (D .groomer t) (D .groomer u)) (ltb (D .start t) (D .end u + D .gap)) e),
   )
 
-  is-way : (t u : ℕ) → D .groomer t ≡ D .groomer u → D .start t < D .end u + D .gap → inTheWay D t u ≡ true
+  pub is-way : (t u : ℕ) → D .groomer t ≡ D .groomer u → D .start t < D .end u + D .gap → inTheWay D t u ≡ true
   unfolding inTheWay oneGroomer
   is-way t u g h = and-of (eqb (D .groomer t) (D .groomer u)) (ltb (D .start t) (D .end u + D .gap)) (eq-eqb (D .groomer t) (D .groomer u) g) (lt-ltb (D .start t) (D .end u + D .gap) h)
 
@@ -136,12 +136,12 @@ module _ (D : Turns) where
       go false e h ih = e
 
   module _ (i j : ℕ) (h : j < D .count) where
-    behind-way : i < j → j < placeBefore D i → inTheWay D (at i) (at j) ≡ true
+    pub behind-way : i < j → j < placeBefore D i → inTheWay D (at i) (at j) ≡ true
     behind-way l m =
         let e : i + 1 + (j - (i + 1)) ≡ j = omega arith in
         rw e at (rw getD-drop at (passed-way (at i) (drop (i + 1) (turnOrder D)) (j - (i + 1)) (omega arith)))
 
-    past-way : i < D .count → placeBefore D i ≤ j → inTheWay D (at i) (at j) ≡ false
+    pub past-way : i < D .count → placeBefore D i ≤ j → inTheWay D (at i) (at j) ≡ false
     past-way k m = go (ℕ-discrete (placeBefore D i) j)
       where
         stop : placeBefore D i < D .count → inTheWay D (at i) (at (placeBefore D i)) ≡ false
@@ -154,11 +154,11 @@ module _ (D : Turns) where
   -- ---- what the turn at a place pays for
 
   pub run-none : (i : ℕ) → D .groomer (at i) ≡ 0 → PlaceRun D i 0 0
-  run-none i e = record { rising = omega arith; within = omega arith; pays = λ j h. (λ q. absurd (q .named e), λ r. absurd (omega (arith, r .1))) }
+  run-none i e = record { none = λ z. refl; rising = omega arith; within = omega arith; pays = λ j h. (λ q. absurd (q .named e), λ r. absurd (omega (arith, r .1))) }
 
   pub run-is : (i from : ℕ) → PositiveLengths D → i < D .count → D .groomer (at i) ≢ 0 → RunStart D i from → PlaceRun D i from (placeBefore D i)
   run-is i from lengths hi d r =
-      record { rising = omega (arith, r .upto); within = before-within D i hi; pays = λ j h. (λ q. (not-before j h q (decLt j from), not-past j h q (decLt j (placeBefore D i))), λ s. inside j h (s .0) (s .1) (decLt i j)) }
+      record { none = λ z. absurd (d z); rising = omega (arith, r .upto); within = before-within D i hi; pays = λ j h. (λ q. (not-before j h q (decLt j from), not-past j h q (decLt j (placeBefore D i))), λ s. inside j h (s .0) (s .1) (decLt i j)) }
     where
       not-before : (j : ℕ) → j < D .count → PaysAs D (at j) (at i) → Dec (j < from) → from ≤ j
       not-before j h q (yes l) = absurd (r .first j l (record { groomer = q .same; end = omega (arith, q .no-later, ends-fall j i (omega (arith, r .upto)) hi (q .same)) }))

@@ -251,11 +251,16 @@ module _ (T : Turns) (few : T .count ≤ mostTurns) (lengths : (t : ℕ) → t <
   unfolding byDrivers
   drivers-count = refl
 
+  drivers-named : (t : ℕ) → byDrivers T .groomer t ≡ T .driver t
+  unfolding byDrivers
+  drivers-named t = refl
+
   paid-run : (t : ℕ) → t < T .count → PaidRun T t (paidFrom orders t) (paidTo orders t)
   paid-run t h =
       let (i, l, q) = order-place (byDrivers T) t (omega (arith, drivers-count)) in
       let r = rw q at (w .runs i (omega (arith, drivers-count))) in
       record {
+        none = λ z. r .none (rw q (drivers-named t ∙ z));
         rising = r .rising;
         within = omega (arith, r .within, drivers-count);
         pays = λ j k.

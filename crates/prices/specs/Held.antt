@@ -1,4 +1,4 @@
--- How the functions hold prices, counts and the orders that no price changes; for inner functions only (requests P-1 and P-2). Assumes nothing.
+-- How the functions hold prices, counts and the orders that do not depend on prices; for inner functions only (requests P-1 and P-2). Assumes nothing.
 use mathlib.Core.Path.{_≡_}
 use mathlib.Core.Logic.{_≢_, _↔_}
 use mathlib.Core.Bool.{true, cond}
@@ -81,6 +81,10 @@ withRun orders i t from to = set (set (set orders (2 * mostTurns + i) t) (3 * mo
 pub record Driven (p : Size) (cols : List ℕ) : Type 0 where
   pub drivers : (t : ℕ) → t < p .count → turnsBy p cols .driver t ≤ mostDriver
 
+-- the first i turns name no driver above a number
+unfoldable pub DriversUpTo : Turns → ℕ → ℕ → Type 0
+DriversUpTo T i most = (t : ℕ) → t < i → T .driver t ≤ most
+
 -- the first i groomers of some columns are the drivers, and the rest is as it was
 pub record DriversPut (cols room : List ℕ) (i : ℕ) : Type 0 where
   pub places : length room ≡ length cols
@@ -110,8 +114,9 @@ pub record PaysAs (D : Turns) (u t : ℕ) : Type 0 where
   pub no-later : D .end u ≤ D .end t
   pub near : D .start t < D .end u + D .gap
 
--- the turn at place i of an order pays for those from one place to before another, and for no others
+-- the turn at place i of an order pays for those from one place to before another, and for no others; one with groomer 0 has its run at the front
 pub record PlaceRun (D : Turns) (i from to : ℕ) : Type 0 where
+  pub none : D .groomer (getD (turnOrder D) i 0) ≡ 0 → to ≡ 0
   pub rising : from ≤ to
   pub within : to ≤ D .count
   pub pays : (j : ℕ) → j < D .count → PaysAs D (getD (turnOrder D) j 0) (getD (turnOrder D) i 0) ↔ ((from ≤ j) × (j < to))
@@ -140,13 +145,14 @@ pub record CountsTo (T : Turns) (slopes : ℕ) (prices counts : List ℕ) (i : �
   pub places : length counts ≡ mostTurns
   pub values : (t : ℕ) → t < i → getD counts t 0 ≡ countsFor T slopes prices t
 
--- a turn pays the prices of the turns from one place of the drivers' order to before another, and no others
+-- a turn pays the prices of the turns from one place of the drivers' order to before another, and no others; one without a driver has its run at the front
 pub record PaidRun (T : Turns) (t from to : ℕ) : Type 0 where
+  pub none : T .driver t ≡ 0 → to ≡ 0
   pub rising : from ≤ to
   pub within : to ≤ T .count
   pub pays : (j : ℕ) → j < T .count → (paysTurn T (getD (turnOrder (byDrivers T)) j 0) t ≡ true) ↔ ((from ≤ j) × (j < to))
 
--- what no price changes: the groomers' order and where its sets go on, the drivers' order and what each turn pays for in it
+-- what does not depend on prices: the groomers' order and where its sets go on, the drivers' order and what each turn pays for in it
 pub record Ordered (T : Turns) (orders : List ℕ) : Type 0 where
   pub places : length orders ≡ orderPlaces
   pub groomers : (i : ℕ) → i < T .count → groomerPlace orders i ≡ getD (turnOrder T) i 0

@@ -12,6 +12,8 @@ use super::runs::TOS;
 use super::sums::price_at;
 use super::sums::put_sums;
 use super::sums::slope_prices;
+use super::undriven::driver_bound;
+use super::undriven::put_slope_counts;
 use best_table::ENTRIES;
 use instance::MOST_TURNS;
 use instance::PLACES;
@@ -26,16 +28,15 @@ fn run_sum(orders: &[u16; ORDERS], sums: &[u32; ENTRIES], t: usize) -> u32
     sums[orders[TOS + t] as usize] - sums[orders[FROMS + t] as usize]
 }
 
-// The greater of two numbers.
+// The greater of x and least.
 fn at_least(x: u32, least: u32) -> u32
     ensures { λ r. ⌜ r ≡ least + (x - least) ⌝ }
 {
     if x <= least { least } else { x }
 }
 
-// What is left of a worth, nothing if all of it is paid. It has no jumps: one a turn would be guessed wrong
-// too often.
-fn left_of(worth: u16, paid: u32) -> u16
+// What is left of a worth, nothing if all of it is paid. Branch-free: a branch per turn would be mispredicted.
+pub fn left_of(worth: u16, paid: u32) -> u16
     ensures { λ r. ⌜ r ≡ worth - paid ⌝ }
 {
     (at_least(worth as u32, paid) - paid) as u16
@@ -97,8 +98,8 @@ fn put_counts_with(
     }
 }
 
-// What all turns count for; returns the prices that the limit has in it.
-pub fn put_counts(
+// What all turns count for, where some may name a driver; returns the prices that the limit has in it.
+fn put_driven_counts(
     e: Extent,
     cols: &[u16; PLACES],
     orders: &[u16; ORDERS],
@@ -114,4 +115,23 @@ pub fn put_counts(
     put_counts_with(e, cols, orders, prices, &sums, &mut *counts);
     let n = e.size.count;
     slope_prices(prices, e.slopes) + sums[n]
+}
+
+// What all turns count for; returns the prices that the limit has in it.
+pub fn put_counts(
+    e: Extent,
+    cols: &[u16; PLACES],
+    orders: &[u16; ORDERS],
+    prices: &[u16],
+    counts: &mut [u16; MOST_TURNS],
+) -> u32
+    requires { ⌜ Priced e (now cols) (now prices) × Ordered (turnsIn e (now cols)) (now orders) × (length (now counts) ≡ mostTurns) ⌝ }
+    ensures { λ _. ⌜ CountsTo (turnsIn e (now (cols .entry))) (e .slopes) (now (prices .entry)) (now (counts .exit)) (e .size .count) ⌝ }
+    ensures { λ r. ⌜ (r ≡ priceSum (turnsIn e (now (cols .entry))) (e .slopes) (now (prices .entry))) × (r ≤ (mostSlopes + mostTurns) * mostPrice) ⌝ }
+{
+    if 0 < driver_bound(e.size, cols) {
+        return put_driven_counts(e, cols, orders, prices, &mut *counts);
+    }
+    put_slope_counts(e, cols, prices, &mut *counts);
+    slope_prices(prices, e.slopes)
 }

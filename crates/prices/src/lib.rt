@@ -4,14 +4,21 @@ mod looking;
 mod orders;
 mod runs;
 mod sums;
+mod undriven;
 
 use instance::MOST_TURNS;
 use instance::Size;
 pub use looking::limit_at;
 pub use looking::look;
 pub use orders::put_orders;
+pub use runs::DRIVERS;
+pub use runs::FROMS;
+pub use runs::TOS;
+pub use undriven::driver_bound;
+pub use undriven::limit_undriven;
 
-// Five numbers for each turn: see Ordered.
+// Five columns: the groomers' order, where its sets go on, the drivers' order, where each turn's run starts and
+// where it ends (Ordered).
 pub const ORDERS: usize = 5 * MOST_TURNS;
 
 // How many turns and slopes there are, and the gap.

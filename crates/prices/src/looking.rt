@@ -39,7 +39,7 @@ fn limit_with(
     sum + worths[0]
 }
 
-// The limit at these prices, and the turns of the groomers' best sets into a map that has none chosen.
+// The limit at these prices; the best sets of all groomers go into a map that has none chosen.
 pub fn look(
     e: Extent,
     cols: &[u16; PLACES],

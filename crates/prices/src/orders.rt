@@ -1,4 +1,4 @@
-// What no price changes: the groomers' order and where its sets go on, the drivers' order and what each turn
+// What does not depend on prices: the groomers' order and where its sets go on, the drivers' order and what each turn
 // pays for in it.
 ghost use mathlib.Core.Path.{_≡_};
 ghost use Prim.Native.Nat.{_≤_};
@@ -19,14 +19,14 @@ const GROOMER_COLUMN: usize = MOST_TURNS;
 
 const DRIVER_COLUMN: usize = 5 * MOST_TURNS;
 
-// Columns as they are.
+// Copies all columns.
 fn copy_columns(cols: &[u16; PLACES], room: &mut [u16; PLACES])
     ensures { λ _. ⌜ now (room .exit) ≡ now (cols .entry) ⌝ }
 {
     *room = *cols;
 }
 
-// The drivers of the first n turns in the groomers' place.
+// Writes the driver of each of the first n turns where its groomer stands.
 fn put_groomers(cols: &[u16; PLACES], n: usize, room: &mut [u16; PLACES])
     requires { ⌜ (n ≤ mostTurns) × (now room ≡ now cols) × (length (now cols) ≡ columnPlaces) ⌝ }
     ensures { λ _. ⌜ DriversPut (now (cols .entry)) (now (room .exit)) n ⌝ }
@@ -38,7 +38,7 @@ fn put_groomers(cols: &[u16; PLACES], n: usize, room: &mut [u16; PLACES])
     }
 }
 
-// The columns with drivers in the groomers' place.
+// Copies the columns, with each turn's driver where its groomer stands.
 fn put_by_drivers(p: Size, cols: &[u16; PLACES], room: &mut [u16; PLACES])
     requires { ⌜ Held p (now cols) ⌝ }
     ensures { λ _. ⌜ (turnsBy p (now (room .exit)) ≡ byDrivers (turnsBy p (now (cols .entry)))) × (length (now (room .exit)) ≡ columnPlaces) ⌝ }
@@ -47,7 +47,8 @@ fn put_by_drivers(p: Size, cols: &[u16; PLACES], room: &mut [u16; PLACES])
     put_groomers(cols, p.count, &mut *room);
 }
 
-// All of it; of what the room holds afterwards nothing is said but its length.
+// Puts both orders, with what stands beside them. The room is for the columns by drivers; what it holds
+// afterwards is of no use.
 pub fn put_orders(
     e: Extent,
     cols: &[u16; PLACES],

@@ -17,11 +17,13 @@ use instance::PLACES;
 use instance::Row;
 use instance::Size;
 
-// Where the drivers' order begins, and the first and last places of the runs.
+// Behind the groomers' order and where its sets go on: the turns in the drivers' order.
 pub const DRIVERS: usize = 2 * MOST_TURNS;
 
+// For each turn, the first place of its run in that order.
 pub const FROMS: usize = 3 * MOST_TURNS;
 
+// For each turn, the place behind the last of its run.
 pub const TOS: usize = 4 * MOST_TURNS;
 
 // Places of the drivers' order, from one to before another.
@@ -37,7 +39,7 @@ fn in_one_run(x: Row, y: Row) -> bool
     (x.groomer == y.groomer) & (x.end == y.end)
 }
 
-// The first place whose turn has the groomer and the end of the one at i, from that of the place before.
+// The first place whose turn has the groomer and end of the one at i; from is that place for i - 1.
 fn run_start(p: Size, cols: &[u16; PLACES], order: &[u16], i: usize, from: usize) -> usize
     requires { ⌜ (i < p .count) × Held p (now cols) × InTurnOrder (turnsBy p (now cols)) (now order) × RunBefore (turnsBy p (now cols)) i from ⌝ }
     ensures { λ r. ⌜ RunStart (turnsBy p (now (cols .entry))) i r ⌝ }
@@ -95,7 +97,7 @@ fn put_runs(p: Size, cols: &[u16; PLACES], order: &[u16], orders: &mut [u16; ORD
     }
 }
 
-// The same from the columns alone, with places for the order.
+// Puts the turns in the drivers' order, in a place for it, and then with their runs into the orders.
 fn put_drivers_with(p: Size, cols: &[u16; PLACES], order: &mut [u16], orders: &mut [u16; ORDERS])
     requires { ⌜ Held p (now cols) × Numbered p (now cols) × (p .count ≤ length (now order)) × (length (now orders) ≡ orderPlaces) ⌝ }
     ensures { λ _. ⌜ RunsTo (turnsBy p (now (cols .entry))) (now (orders .entry)) (now (orders .exit)) (p .count) ⌝ }
@@ -105,7 +107,7 @@ fn put_drivers_with(p: Size, cols: &[u16; PLACES], order: &mut [u16], orders: &m
     put_runs(p, cols, &*order, &mut *orders);
 }
 
-// The same.
+// Puts the turns in the drivers' order and their runs into the orders.
 pub fn put_drivers(p: Size, cols: &[u16; PLACES], orders: &mut [u16; ORDERS])
     requires { ⌜ Held p (now cols) × Numbered p (now cols) × (length (now orders) ≡ orderPlaces) ⌝ }
     ensures { λ _. ⌜ RunsTo (turnsBy p (now (cols .entry))) (now (orders .entry)) (now (orders .exit)) (p .count) ⌝ }

@@ -5,34 +5,32 @@ use mathlib.Core.Bool.{Bool, false, cond, _||_}
 use mathlib.Core.List.{List, [], _∷_, _++_}
 use native.Mathlib.Omega.{arith}
 use lib.Dec.{ltb}
-use lib.ListN.{length, take, drop, replicate, length-take}
+use lib.ListN.{length, take, drop, replicate}
 use lib.Seq.{length-take-le}
-use borrow.Author.Tests.{lt-ltb, le-ltb, ne-eqb}
+use borrow.Author.Tests.{lt-ltb, le-ltb}
 use Rattle.lists.proofs.Bools.{or-1, or-2}
 use Rattle.refusal.specs.Number.{bufferTooSmall}
 use Rattle.refusal.specs.Cause.{Cause, _when_, firstOf}
 use Rattle.refusal.proofs.Order.{first-stops, first-goes}
+use Rattle.refusal.proofs.Outcome.{unless-first, unless-none}
 use Rattle.wire.specs.Number.{bytesOf, puts}
 use Rattle.wire.proofs.Puts.{puts-length}
-use Rattle.turn.specs.Turn.{mostDriver}
 use Rattle.model.specs.Turns.{Turns}
-use Rattle.model.specs.Choice.{chosen, choice}
+use Rattle.model.specs.Choice.{chosen, fits, choice}
 use Rattle.sheet.specs.declared.answer.ReadAnswer.{ReadAnswer}
-use Rattle.sheet.specs.Kind.{mostTurns, garage}
-use Rattle.sheet.specs.Read.{countsIn, turnCount, sheetCauses, answerOf}
-use Rattle.sheet.proofs.SoundKinds.{garage-sound}
+use Rattle.sheet.specs.Kind.{mostTurns}
+use Rattle.sheet.specs.Read.{countsIn, turnCount, sheetCauses}
 use Rattle.sheet.proofs.Readings.{sheet-numbered}
 use Rattle.sheet.proofs.Unrefused.{few-slopes, few-groomers}
-use Rattle.sheet.proofs.Whole.{whole-refusal, whole-accepted, whole-answer, whole-turns}
 use Rattle.best_spec.specs.Table.{bestWorth, bestChoice}
 use Rattle.choice_map.specs.Choice.{mapBytes, choiceIn, mapOf, Clean}
 use Rattle.choice_map.proofs.Clean.{choice-length, clean-map}
 use Rattle.board.specs.Board.{worthPlace, boardHeader, boardLength}
 use Rattle.instance.specs.declared.columns.Size.{Size}
-use Rattle.instance.specs.Columns.{turnsBy, Held}
-use Rattle.instance_spec.specs.Problem.{problemOf, shiftGap, sheetTurns}
-use Rattle.instance.specs.Load.{shiftSize, Posed}
-use Rattle.instance_spec.proofs.SheetTurns.{sheet-range-for, sheet-count, sheet-slopes, sheet-groomers}
+use Rattle.instance.specs.Columns.{columnPlaces, turnsBy, Held}
+use Rattle.instance_spec.specs.Problem.{sheetTurns}
+use Rattle.instance.specs.Load.{shiftSize, Loaded}
+use Rattle.instance_spec.proofs.SheetTurns.{sheet-slopes, sheet-groomers, sheet-drivers}
 use Rattle.instance.proofs.Rows.{count-is}
 use Rattle.selection.proofs.Unchosen.{zeros-size}
 use Rattle.plan_spec.specs.Plan.{boardFor}
@@ -42,51 +40,58 @@ use Rattle.price_spec.specs.Prices.{priceSum, limitBy}
 use Rattle.price_spec.specs.Limit.{priceCount}
 use Rattle.price_spec.proofs.Limits.{priced-sum, priced-best}
 use Rattle.prices.specs.declared.Extent.{Extent}
-use Rattle.prices.specs.Held.{countedTurns, turnsIn, Priced}
+use Rattle.prices.specs.Held.{countedTurns, turnsIn}
 use Rattle.refine_spec.specs.declared.RefineAnswer.{RefineAnswer}
 use Rattle.refine_spec.specs.Rounds.{Rule, Stage, startFrom, refined, firstChange}
+use Rattle.refine_spec.specs.Selection.{choiceFrom}
 use Rattle.refine_spec.specs.Shift.{relaxedSet, movedPrices, shiftRule, greatestWorth, shiftStart, shiftRefined}
 use Rattle.refine_spec.specs.Refine.{refineCauses, boardWith, refinementOf, notRefined, refineOf}
 use Rattle.refine_spec.proofs.Rounds.{chosen-worth}
 use Rattle.refine_spec.proofs.Relaxed.{relaxed-counted}
 use Rattle.refine.specs.declared.planned.Planned.{Planned}
-use Rattle.refine.specs.declared.rounds.Reached.{Reached}
-use Rattle.refine.specs.Stages.{tableRule, tableRefined, choiceMade, choiceWorth, PlannedIn, Reaches}
+use Rattle.price_rule.specs.declared.RuleFor.the-variants.{Shift}
+use Rattle.price_rule.specs.Rules.{sizeOf, pricesOf, changeOf, limitOf, relaxedOf, fitsOf, movedOf, choiceOf, worthOf, ruleOf, ShiftPosed, RulePosed}
+use Rattle.price_rounds.specs.declared.Reached.{Reached}
+use Rattle.price_rounds.specs.Rounds.{roundsFrom, Reaches, RoundsStart}
+use Rattle.refine.specs.Stages.{shiftRounds, choiceWorth, PlannedIn}
 use Rattle.refine_spec.specs.Answer.{refinedBy, refineRefused}
 use Rattle.refine.proofs.BoardCases.{changed-size, board-changed}
+use Rattle.instance.proofs.Posed.{loaded-held, loaded-turns}
 
--- ---- the rule by one table over all turns is the shift's
+-- ---- the rule that the functions compute, by one table over all turns, is the shift's
 
-module _ (T : Turns) (groomers slopes : ℕ) (numbers : (t : ℕ) → t < T .count → (1 ≤ T .groomer t) × (T .groomer t ≤ groomers)) where
-  relaxed-is : (prices : List ℕ) → bestChoice (countedTurns T slopes prices) ≡ relaxedSet T slopes prices
+module _ (e : Extent) (cols : List ℕ) (groomers : ℕ) (numbers : (t : ℕ) → t < turnsIn e cols .count → (1 ≤ turnsIn e cols .groomer t) × (turnsIn e cols .groomer t ≤ groomers)) where
+  abbrev U : Turns
+  U = turnsIn e cols
+
+  relaxed-is : (prices : List ℕ) → bestChoice (countedTurns U (e .slopes) prices) ≡ relaxedSet U (e .slopes) prices
   unfolding countedTurns
-  relaxed-is prices = sym (relaxed-counted T slopes prices)
+  relaxed-is prices = sym (relaxed-counted U (e .slopes) prices)
 
-  limit-is : (prices : List ℕ) → priceSum T slopes prices + bestWorth (countedTurns T slopes prices) ≡ limitBy T groomers slopes prices
+  limit-is : (prices : List ℕ) → priceSum U (e .slopes) prices + bestWorth (countedTurns U (e .slopes) prices) ≡ limitBy U groomers (e .slopes) prices
   unfolding countedTurns limitBy
-  limit-is prices = ap (λ (n : ℕ). priceSum T slopes prices + n) (priced-best T slopes prices ∙ priced-sum T slopes prices groomers numbers)
+  limit-is prices = ap (λ (n : ℕ). priceSum U (e .slopes) prices + n) (priced-best U (e .slopes) prices ∙ priced-sum U (e .slopes) prices groomers numbers)
 
-  rule-is : tableRule T slopes ≡ shiftRule T groomers slopes
-  unfolding tableRule shiftRule
+  rule-is : ruleOf (Shift e) cols ≡ shiftRule U groomers (e .slopes)
+  unfolding ruleOf limitOf relaxedOf fitsOf movedOf choiceOf worthOf sizeOf shiftRule
   rule-is =
       λ j. record {
         limit = λ prices. limit-is prices j;
-        choice = λ prices. choiceMade T (relaxed-is prices j);
-        worth = λ S. chosen (T .count) S (T .worth);
-        moved = λ change prices. movedPrices T slopes (relaxed-is prices j) change prices;
+        choice = λ prices. choiceFrom (fits U) U (relaxed-is prices j);
+        worth = λ S. chosen (U .count) S (U .worth);
+        moved = λ change prices. movedPrices U (e .slopes) (relaxed-is prices j) change prices;
       }
 
-  pub refined-is : (rounds : ℕ) → tableRefined T slopes rounds (choice T) ≡ shiftRefined T groomers slopes rounds
-  unfolding tableRefined shiftRefined shiftStart
-  refined-is rounds = ap (λ (R : Rule). refined R rounds (startFrom R (firstChange 4 (greatestWorth T)) (replicate (slopes + T .count) 0) (choice T))) rule-is
+  pub refined-is : (rounds : ℕ) → shiftRounds e cols rounds (choice (turnsIn e cols)) ≡ shiftRefined (turnsIn e cols) groomers (e .slopes) rounds
+  unfolding roundsFrom changeOf pricesOf shiftRefined shiftStart
+  refined-is rounds =
+      ap (λ (n : ℕ). refined (ruleOf (Shift e) cols) rounds (startFrom (ruleOf (Shift e) cols) (firstChange 4 (greatestWorth U)) (replicate (e .slopes + n) 0) (choice U))) (sym (count-is (e .size) cols))
+      ∙ ap (λ (R : Rule). refined R rounds (startFrom R (firstChange 4 (greatestWorth U)) (replicate (e .slopes + U .count) 0) (choice U))) rule-is
 
 -- ---- a board and a price list in lent places
 
 pub map-given : (n : ℕ) → n ≤ mostTurns → {size : ℕ} → size ≡ mapBytes n → length (take size (replicate {A = ℕ} (mapBytes mostTurns) 0)) ≡ mapBytes n
 map-given n h s = sym (zeros-size n h s) ∙ s
-
-pub list-within : (e : Extent) (cols prices : List ℕ) → Priced e cols (take (e .slopes + e .size .count) prices) → e .slopes + e .size .count ≤ length prices
-list-within e cols prices h = omega (arith, h .list, length-take (e .slopes + e .size .count) prices)
 
 module _ (p : Size) (cols lent : List ℕ) {plan : Planned} {board map : List ℕ} (u : PlannedIn p cols lent plan board map) where
   pub start-worth : plan .worth ≡ choiceWorth (turnsBy p cols) (choiceIn (p .count) map)
@@ -95,25 +100,43 @@ module _ (p : Size) (cols lent : List ℕ) {plan : Planned} {board map : List �
   pub write-room : {map′ : List ℕ} → boardLength (p .count) (p .count) ≤ length lent → Clean (p .count) map′ → boardHeader + length map′ ≤ length board
   write-room h q = omega (arith, q .size, ap (λ (l : List ℕ). length l) (u .board-is), puts-length (boardFor (turnsBy p cols)) lent 0)
 
+pub lent-list : (k : ℕ) (prices : List ℕ) → k ≤ length prices → k ≡ length (take k prices)
+lent-list k prices l = sym (length-take-le k prices l)
+
+pub posed-held : (e : Extent) (cols : List ℕ) → ShiftPosed e cols → Held (e .size) cols
+posed-held e cols w = w .held
+
+-- what the rounds start from
+module _ (e : Extent) (cols lent prices room : List ℕ) (rounds : ℕ) {plan : Planned} {board map : List ℕ} (w : ShiftPosed e cols) (u : PlannedIn (e .size) cols lent plan board map) where
+  pub rounds-start : e .slopes + e .size .count ≤ length prices → length room ≡ columnPlaces
+      → RoundsStart (record { rule = Shift e; rounds = rounds; worth = plan .worth }) cols (take (e .slopes + e .size .count) prices) map room
+  unfolding RulePosed pricesOf sizeOf worthOf
+  rounds-start l p = record { posed = w; prices = length-take-le (e .slopes + e .size .count) prices l; clean = u .clean; worth-is = start-worth (e .size) cols lent u; places = p }
+
+-- and what they came to
+pub map-kept : (e : Extent) {x : Stage} {r : Reached} {list map : List ℕ} → Reaches (sizeOf (Shift e) .count) x r list map → Clean (e .size .count) map
+unfolding sizeOf
+map-kept e q = q .clean
+
 module _ (e : Extent) (cols lent : List ℕ) {plan : Planned} {board map : List ℕ} (u : PlannedIn (e .size) cols lent plan board map) where
-  module _ (rounds : ℕ) (prices : List ℕ) (room : boardLength (e .size .count) (e .size .count) ≤ length lent) (priced : Priced e cols (take (e .slopes + e .size .count) prices)) {r : Reached} {list map′ board′ : List ℕ}
-      (q : Reaches (e .size .count) (tableRefined (turnsIn e cols) (e .slopes) rounds (choiceIn (e .size .count) map)) r list map′)
-      (w : board′ ≡ puts board worthPlace (bytesOf 4 (r .worth) ++ map′)) where
+  module _ (rounds : ℕ) (prices : List ℕ) (room : boardLength (e .size .count) (e .size .count) ≤ length lent) (enough : e .slopes + e .size .count ≤ length prices) {r : Reached} {list map′ board′ : List ℕ}
+      (q : Reaches (sizeOf (Shift e) .count) (roundsFrom (Shift e) cols rounds (choiceIn (sizeOf (Shift e) .count) map)) r list map′) (w : board′ ≡ puts board worthPlace (bytesOf 4 (r .worth) ++ map′)) where
     abbrev T : Turns
     T = turnsIn e cols
 
     abbrev x : Stage
-    x = tableRefined T (e .slopes) rounds (choice T)
+    x = shiftRounds e cols rounds (choice T)
 
-    reached : Reaches (e .size .count) (tableRefined T (e .slopes) rounds (choice T)) r list map′
+    reached : Reaches (e .size .count) (shiftRounds e cols rounds (choice T)) r list map′
+    unfolding sizeOf
     reached = rw (u .choice-is) at q
 
     made : length (x .choice) ≡ T .count
     made = ap (λ (S : List Bool). length S) (sym (reached .choice)) ∙ choice-length (e .size .count) map′ ∙ sym (count-is (e .size) cols)
 
     worth-made : r .worth ≡ choiceWorth T (x .choice)
-    unfolding tableRefined startFrom tableRule
-    worth-made = reached .worth ∙ chosen-worth (tableRule T (e .slopes)) rounds (startFrom (tableRule T (e .slopes)) (firstChange 4 (greatestWorth T)) (replicate (e .slopes + T .count) 0) (choice T)) refl
+    unfolding roundsFrom startFrom ruleOf worthOf sizeOf
+    worth-made = reached .worth ∙ chosen-worth (ruleOf (Shift e) cols) rounds (startFrom (ruleOf (Shift e) cols) (changeOf (Shift e) cols) (replicate (pricesOf (Shift e)) 0) (choice T)) refl
 
     map-made : map′ ≡ mapOf (x .choice)
     map-made = clean-map (e .size .count) map′ (reached .clean) ∙ ap mapOf (reached .choice)
@@ -129,41 +152,44 @@ module _ (e : Extent) (cols lent : List ℕ) {plan : Planned} {board map : List 
     board-is = w ∙ rw (u .board-is, planned, worth-made, map-made) (board-changed T (choice T) (x .choice) (choice-count T) made lent wide)
 
     pub refine-written : length list ≡ length (take (e .slopes + e .size .count) prices) → refinedBy (record { refusal = 0; bytes = plan .bytes; worth = r .worth; limit = r .limit; rounds = r .rounds }) board′ (list ++ drop (e .slopes + e .size .count) prices)
-        ≡ refinementOf (turnsIn e cols) (tableRefined (turnsIn e cols) (e .slopes) rounds (choice (turnsIn e cols))) lent prices
+        ≡ refinementOf (turnsIn e cols) (shiftRounds e cols rounds (choice (turnsIn e cols))) lent prices
     unfolding refinementOf
     refine-written k =
-        let l : length list ≡ e .slopes + e .size .count = k ∙ priced .list in
+        let l : length list ≡ e .slopes + e .size .count = k ∙ length-take-le (e .slopes + e .size .count) prices enough in
         let bytes : plan .bytes ≡ length (boardWith T (x .choice)) = u .bytes-are ∙ ap (λ (v : List ℕ). length v) planned ∙ changed-size T (choice T) (x .choice) (choice-count T) made in
         rw (bytes, reached .worth, reached .limit, reached .rounds, board-is, ← l, reached .list-is)
 
-pub ruleset written-cases = (map-given, list-within, start-worth, write-room, refine-written)
+pub ruleset written-cases = (map-given, posed-held, lent-list, start-worth, write-room, rounds-start, map-kept, refine-written)
 
 -- ---- the answer
 
 pub refine-room : (n : ℕ) (board : List ℕ) {p : Size} {size : ℕ} → p ≡ shiftSize n → size ≡ boardLength n n → size ≤ length board → boardLength (p .count) (p .count) ≤ length board
 refine-room n board q h l = rw q (omega (arith, h))
 
-module _ (s : List ℕ) (rounds : ℕ) (board prices : List ℕ) {r : ReadAnswer} (g : r ≡ answerOf s) where
+pub refine-list : (n slopes : ℕ) (prices : List ℕ) {p : Size} → p ≡ shiftSize n → slopes + n ≤ length prices → slopes + p .count ≤ length prices
+refine-list n slopes prices q l = rw q l
+
+module _ (s cols : List ℕ) (rounds : ℕ) (board prices : List ℕ) {r : ReadAnswer} (g : Loaded s r cols) where
   abbrev after : List Cause
   after = bufferTooSmall when (ltb (length board) (boardLength (turnCount s) (turnCount s)) || ltb (length prices) (priceCount s)) ∷ []
 
   declines : (k : ℕ) → firstOf (refineCauses s (length board) (length prices)) ≡ k → (k ≡ 0 → ⊥) → refineOf s rounds board prices ≡ notRefined k board prices
   unfolding refineOf
-  declines k f z = rw (f, ne-eqb k 0 z)
+  declines k f z = unless-first (refineCauses s (length board) (length prices)) _ (λ k. notRefined k board prices) k f z
 
   pub refine-fault : {x : RefineAnswer} → (r .refusal ≡ 0 → ⊥) → x ≡ refineRefused (r .refusal) → refinedBy x board prices ≡ refineOf s rounds board prices
   unfolding refineCauses
-  refine-fault f h = rw h (sym (declines (r .refusal) (first-stops (sheetCauses s) after (r .refusal) (sym (whole-refusal s g)) f) f))
+  refine-fault f h = rw h (sym (declines (r .refusal) (first-stops (sheetCauses s) after (r .refusal) (sym (g .refusal)) f) f))
 
   module _ (f : r .refusal ≡ 0) where
     sound : firstOf (sheetCauses s) ≡ 0
-    sound = whole-accepted s g f
+    sound = g .posed f .sound
 
     turns-are : r .turns ≡ turnCount s
-    turns-are = whole-turns s g f
+    turns-are = g .posed f .count
 
     slopes-are : r .slopes ≡ countsIn s .slopes
-    slopes-are = ap (λ (x : ReadAnswer). x .slopes) (whole-answer s g f)
+    slopes-are = g .posed f .slopes
 
     later : {b : Bool} → (ltb (length board) (boardLength (turnCount s) (turnCount s)) || ltb (length prices) (priceCount s)) ≡ b → firstOf (refineCauses s (length board) (length prices)) ≡ cond b bufferTooSmall 0
     unfolding refineCauses firstOf
@@ -175,50 +201,42 @@ module _ (s : List ℕ) (rounds : ℕ) (board prices : List ℕ) {r : ReadAnswer
     pub refine-few : {x : RefineAnswer} → x ≡ refineRefused bufferTooSmall → length prices < r .slopes + r .turns → refinedBy x board prices ≡ refineOf s rounds board prices
     refine-few h l = rw h (sym (declines bufferTooSmall (later (or-2 (ltb (length board) (boardLength (turnCount s) (turnCount s))) (ltb (length prices) (priceCount s)) (lt-ltb (length prices) (priceCount s) (omega (arith, slopes-are, turns-are))))) (omega arith)))
 
-    module _ (cols : List ℕ) {p : Size} (w : r .refusal ≡ 0 → Posed s cols) (q : p ≡ shiftSize (r .turns)) where
-      size-is : p ≡ shiftSize (turnCount s)
-      size-is = q ∙ ap shiftSize turns-are
-
+    module _ {p : Size} (q : p ≡ shiftSize (r .turns)) where
       count-same : p .count ≡ r .turns
       count-same = ap (λ (x : Size). x .count) q
 
-      pub refine-held : Held p cols
-      refine-held = rw size-is (w f .held)
+      refine-held : Held p cols
+      refine-held = loaded-held s cols g f q
 
       posed : turnsBy p cols ≡ sheetTurns s
-      posed = rw size-is (w f .turns)
+      posed = loaded-turns s cols g f q
 
       inside : (t : ℕ) → t < p .count → t < turnCount s
       inside t h = omega (arith, count-same, turns-are)
 
-      pub refine-ranged : Ranged p cols
+      refine-ranged : Ranged p cols
       refine-ranged = record { groomers = λ t h. rw posed (omega (arith, sheet-groomers s sound t (inside t h), few-groomers s sound)) }
 
-      sheet-drivers : (t : ℕ) → t < turnCount s → sheetTurns s .driver t ≤ mostDriver
-      unfolding sheetTurns problemOf sheetCauses
-      sheet-drivers t h = sheet-range-for garage garage-sound shiftGap s sound t h .driver-to
+      pub refine-posed : ShiftPosed (record { size = p; slopes = r .slopes }) cols
+      refine-posed =
+          record {
+            held = refine-held;
+            ranged = refine-ranged;
+            few-slopes = omega (arith, slopes-are, few-slopes s sound);
+            numbers = λ t h. let z = sheet-slopes s sound t (inside t h) in rw posed (omega (arith, slopes-are, z .0), omega (arith, slopes-are, z .1));
+            drivers = λ t h. rw posed (sheet-drivers s sound t (inside t h));
+          }
 
       module _ (l : r .slopes + r .turns ≤ length prices) where
-        pub refine-priced : Priced (record { size = p; slopes = r .slopes }) cols (take (r .slopes + p .count) prices)
-        refine-priced =
-            record {
-              places = refine-held .places;
-              few = refine-held .few;
-              few-slopes = omega (arith, slopes-are, few-slopes s sound);
-              numbers = λ t h. let z = sheet-slopes s sound t (inside t h) in rw posed (omega (arith, slopes-are, z .0), omega (arith, slopes-are, z .1));
-              drivers = λ t h. rw posed (sheet-drivers t (inside t h));
-              list = length-take-le (r .slopes + p .count) prices (omega (arith, count-same));
-            }
-
-        numbers : (t : ℕ) → t < sheetTurns s .count → (1 ≤ sheetTurns s .groomer t) × (sheetTurns s .groomer t ≤ countsIn s .groomers)
-        numbers t h = sheet-groomers s sound t (omega (arith, sheet-count s sound))
+        numbers : (t : ℕ) → t < turnsBy p cols .count → (1 ≤ turnsBy p cols .groomer t) × (turnsBy p cols .groomer t ≤ countsIn s .groomers)
+        numbers t h = let k : t < turnCount s = omega (arith, count-is p cols, count-same, turns-are) in rw posed (sheet-groomers s sound t k)
 
         pub refine-done : {x : RefineAnswer} {board′ prices′ : List ℕ} {size : ℕ} → size ≡ boardLength (r .turns) (r .turns) → size ≤ length board
-            → refinedBy x board′ prices′ ≡ refinementOf (turnsBy p cols) (tableRefined (turnsBy p cols) (r .slopes) rounds (choice (turnsBy p cols))) board prices → refinedBy x board′ prices′ ≡ refineOf s rounds board prices
+            → refinedBy x board′ prices′ ≡ refinementOf (turnsBy p cols) (shiftRounds (record { size = p; slopes = r .slopes }) cols rounds (choice (turnsBy p cols))) board prices → refinedBy x board′ prices′ ≡ refineOf s rounds board prices
         unfolding refineOf
         refine-done h k z =
             let none : (ltb (length board) (boardLength (turnCount s) (turnCount s)) || ltb (length prices) (priceCount s)) ≡ false =
             rw (le-ltb (length board) (boardLength (turnCount s) (turnCount s)) (omega (arith, h, turns-are)), le-ltb (length prices) (priceCount s) (omega (arith, slopes-are, turns-are))) in
-            z ∙ rw (later none, posed, slopes-are, refined-is (sheetTurns s) (countsIn s .groomers) (countsIn s .slopes) numbers rounds)
+            z ∙ rw (unless-none (refineCauses s (length board) (length prices)) (refinementOf (sheetTurns s) (shiftRefined (sheetTurns s) (countsIn s .groomers) (countsIn s .slopes) rounds) board prices) (λ k. notRefined k board prices) (later none), refined-is (record { size = p; slopes = r .slopes }) cols (countsIn s .groomers) numbers rounds, posed, slopes-are)
 
-pub ruleset answer-cases = (refine-fault, refine-short, refine-few, refine-held, refine-ranged, refine-priced, refine-room, refine-done)
+pub ruleset answer-cases = (refine-fault, refine-short, refine-few, refine-posed, refine-list, refine-room, refine-done)

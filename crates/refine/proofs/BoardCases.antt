@@ -27,7 +27,7 @@ use Rattle.refusal.specs.Written.{atFront}
 use Rattle.refine_spec.specs.Refine.{boardWith}
 use Rattle.refine_spec.proofs.Boards.{with-size, with-most}
 use Rattle.refine.specs.Stages.{choiceWorth}
-use Rattle.refine.proofs.ChoiceCases.{all-copied}
+use Rattle.round_parts.proofs.RankCases.{all-copied}
 
 -- ---- what the planned board has
 

@@ -1,47 +1,29 @@
 // A better board, and a limit close above it, by rounds in which prices move.
 ghost use mathlib.Core.Path.{_≡_};
 ghost use Prim.Native.Nat.{_+_, _≤_};
-ghost use lib.ListN.{length, take};
+ghost use lib.ListN.{length};
 ghost use Rattle.model.specs.Choice.{choice};
 ghost use Rattle.board.specs.Board.{boardLength};
-ghost use Rattle.instance.specs.Columns.{columnPlaces, Held};
-ghost use Rattle.best_table.specs.Held.{Ranged};
-ghost use Rattle.prices.specs.Held.{turnsIn, Priced};
+ghost use Rattle.instance.specs.Columns.{columnPlaces};
+ghost use Rattle.prices.specs.Held.{turnsIn};
 ghost use Rattle.refine_spec.specs.Refine.{refinementOf, refineOf};
-ghost use Rattle.refine.specs.Stages.{tableRefined, RoundsStart, ReachedFrom};
 ghost use Rattle.refine_spec.specs.Answer.{refinedBy, refineRefused};
+ghost use Rattle.price_rule.specs.Rules.{ShiftPosed};
+ghost use Rattle.refine.specs.Stages.{shiftRounds};
 
-mod moving;
 mod planned;
-mod rounds;
-mod selecting;
 
+use instance::MOST_TURNS;
 use instance::PLACES;
 use planned::plan_board;
 use planned::write_choice;
+use price_rounds::Start;
+use price_rounds::shift_rounds;
 use prices::Extent;
-use prices::ORDERS;
 use refine_spec::RefineAnswer;
-use rounds::Reached;
-use rounds::Task;
-use rounds::make_rounds;
-use selecting::MAP_BYTES;
 
-// Puts the turns in their orders, and makes the rounds from the choice in a map.
-fn run(
-    t: Task,
-    cols: &[u16; PLACES],
-    list: &mut [u16],
-    map: &mut [u8],
-    room: &mut [u16; PLACES],
-) -> Reached
-    requires { ⌜ RoundsStart t (now cols) (now list) (now map) (now room) × Ranged (t .extent .size) (now cols) ⌝ }
-    ensures { λ r. ⌜ ReachedFrom t (now (cols .entry)) (now (map .entry)) r (now (list .exit)) (now (map .exit)) ⌝ }
-{
-    let mut orders = [0u16; ORDERS];
-    prices::put_orders(t.extent, cols, &mut orders, &mut *room);
-    make_rounds(t, cols, &orders, &mut *list, &mut *map, &mut *room)
-}
+// A bit for each turn that a sheet can have.
+const MAP_BYTES: usize = (MOST_TURNS + 7) / 8;
 
 // Plans a board and makes it better by rounds, where the lent places suffice.
 fn refine_with(
@@ -52,24 +34,22 @@ fn refine_with(
     prices: &mut [u16],
     room: &mut [u16; PLACES],
 ) -> RefineAnswer
-    requires { ⌜ Held (e .size) (now cols) × Ranged (e .size) (now cols) × Priced e (now cols) (take (e .slopes + e .size .count) (now prices)) ⌝ }
+    requires { ⌜ ShiftPosed e (now cols) × (e .slopes + e .size .count ≤ length (now prices)) ⌝ }
     requires { ⌜ (boardLength (e .size .count) (e .size .count) ≤ length (now board)) × (length (now room) ≡ columnPlaces) ⌝ }
     ensures { λ r. ⌜ refinedBy r (now (board .exit)) (now (prices .exit)) ≡ refinementOf (turnsIn e (now (cols .entry)))
-        (tableRefined (turnsIn e (now (cols .entry))) (e .slopes) rounds (choice (turnsIn e (now (cols .entry)))))
-        (now (board .entry)) (now (prices .entry)) ⌝ }
+        (shiftRounds e (now (cols .entry)) rounds (choice (turnsIn e (now (cols .entry))))) (now (board .entry)) (now (prices .entry)) ⌝ }
 {
     let p = e.size;
     let size = choice_map::map_bytes(p.count as u16);
     let mut space = [0u8; MAP_BYTES];
     let map = &mut space[..size];
     let plan = plan_board(p, cols, &mut *board, &mut *map, &mut *room);
-    let task = Task {
-        extent: e,
+    let start = Start {
         rounds: rounds,
         worth: plan.worth,
     };
     let k = e.slopes + p.count;
-    let r = run(task, cols, &mut prices[..k], &mut *map, &mut *room);
+    let r = shift_rounds(e, start, cols, &mut prices[..k], &mut *map, &mut *room);
     write_choice(&mut *board, r.worth, &*map);
     RefineAnswer {
         refusal: 0,

@@ -33,7 +33,7 @@ fn copy_choice(p: Size, cols: &[u16; PLACES], b: &[u8], map: &mut [u8]) -> u32
     board::worth(b)
 }
 
-// Plans a board, and copies its map. Here and below, the room is for what functions put down on the way.
+// Plans a board, and copies its map. The room is scratch space.
 pub fn plan_board(
     p: Size,
     cols: &[u16; PLACES],

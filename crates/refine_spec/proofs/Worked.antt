@@ -1,6 +1,7 @@
 -- The boards worked by hand hold: each line is computed. Assumes nothing.
 use mathlib.Core.Path.{refl}
 use Rattle.refusal.specs.Cause.{firstOf}
+use Rattle.refusal.specs.Outcome.{unless}
 use Rattle.wire.specs.Mark.{opensWith}
 use Rattle.turn.specs.Turn.{outsideRange, pastShift, turnCauses}
 use Rattle.sheet.specs.Kind.{garage}
@@ -9,7 +10,7 @@ use Rattle.sheet.specs.Read.{countCauses, headerCauses, recordsCauses, turnsFro
 use Rattle.lists.specs.Lists.{every, tab}
 use Rattle.lists.specs.Sorting.{insertBy, sortBy}
 use Rattle.model.specs.Turns.{overlapping, overlap, bySlope, oneGroomer, byGroomer, oneDriver, byDriver, conflict}
-use Rattle.model.specs.Steps.{isOpen, left, initial, touches, reduced, change, afterStep, tally}
+use Rattle.model.specs.Steps.{isOpen, left, initial, touches, lessened, change, afterStepBy, conflictTakes, afterStep, tally}
 use Rattle.model.specs.Pick.{sooner, better, best, pick, nextStep, planBy, plan, steps}
 use Rattle.model.specs.Choice.{chosen, fits, choose, chooseEach, back, fill, goBack, choice}
 use Rattle.choice_map.specs.Choice.{byteOf, mapOf}
@@ -25,7 +26,7 @@ use Rattle.refine_spec.specs.Refine.{refineCauses, boardWith, refinement
 use Rattle.refine_spec.specs.Cases.{RefineCases}
 
 pub refine-cases : RefineCases
-unfolding firstOf opensWith outsideRange pastShift turnCauses garage widthOf field turnFrom badMapFor endAt turnAt cursorAfter recordCauses firstCursor countCauses headerCauses recordsCauses turnsFrom causesFor sheetCauses turnsOf every tab insertBy sortBy overlapping overlap bySlope oneGroomer byGroomer oneDriver byDriver conflict isOpen left initial touches reduced change afterStep tally sooner better best pick nextStep planBy plan steps chosen fits choose chooseEach back fill goBack choice byteOf mapOf stepBytes boardOf problemOf sheetTurns laterFirst turnOrder greater inTheWay blocked bestTable bestOf isAmong keep ownTurns groomerWorth groomersWorth slopePrice turnPrice paysTurn paidBy countsFor pricedTurns priceSum limitBy startFrom lowerLimit betterChoice looked nextChange moving refined greatestOf firstChange poorerFirst byWorth choiceFrom isRelaxed relaxedSet slopePayers turnPayers movedPrice turnChange movedPrices shiftRule greatestWorth shiftStart shiftRefined refineCauses boardWith refinementOf refineOf
+unfolding firstOf opensWith outsideRange pastShift turnCauses garage widthOf field turnFrom badMapFor endAt turnAt cursorAfter recordCauses firstCursor countCauses headerCauses recordsCauses turnsFrom causesFor sheetCauses turnsOf every tab insertBy sortBy overlapping overlap bySlope oneGroomer byGroomer oneDriver byDriver conflict isOpen left initial touches lessened change afterStepBy conflictTakes afterStep tally sooner better best pick nextStep planBy plan steps chosen fits choose chooseEach back fill goBack choice byteOf mapOf stepBytes boardOf problemOf sheetTurns laterFirst turnOrder greater inTheWay blocked bestTable bestOf isAmong keep ownTurns groomerWorth groomersWorth slopePrice turnPrice paysTurn paidBy countsFor pricedTurns priceSum limitBy startFrom lowerLimit betterChoice looked nextChange moving refined greatestOf firstChange poorerFirst byWorth choiceFrom isRelaxed relaxedSet slopePayers turnPayers movedPrice turnChange movedPrices shiftRule greatestWorth shiftStart shiftRefined refineCauses boardWith refinementOf refineOf unless
 refine-cases =
     record {
       shift-none = refl;

@@ -34,7 +34,7 @@ pub record RefinePromised (s : List ℕ) (rounds : ℕ) (board prices : List ℕ
   pub no-less : boardWorth (plannedBoard s) ≤ refineOf s rounds board prices .worth
   -- the limit is what the limit's entry gives for the written prices
   pub limit-is : limitOf s (refinedPrices s rounds board prices) ≡ limitIs (refineOf s rounds board prices .limit)
-  -- no feasible set of the sheet's turns is worth more than the limit; the board is not
+  -- no feasible set of the sheet's turns is worth more than the limit, and neither is the board
   pub within : (R : List ℕ) → Feasible (sheetTurns s) R → worthOf (sheetTurns s) R ≤ refineOf s rounds board prices .limit
   pub worth-within : refineOf s rounds board prices .worth ≤ refineOf s rounds board prices .limit
   -- where limit and worth are equal, none is worth more than the board
@@ -45,11 +45,11 @@ pub record RefinePromised (s : List ℕ) (rounds : ℕ) (board prices : List ℕ
       refineOf s rounds board prices .worth ≤ refineOf s more board′ prices′ .worth
   pub more-limit : (more : ℕ) (board′ prices′ : List ℕ) → rounds ≤ more → refineOf s more board′ prices′ .refusal ≡ 0 →
       refineOf s more board′ prices′ .limit ≤ refineOf s rounds board prices .limit
-  -- with as many rounds worth, limit and rounds made are the same
+  -- with the same number of rounds, worth, limit and rounds made do not depend on what is lent
   pub places-apart : (board′ prices′ : List ℕ) → refineOf s rounds board′ prices′ .refusal ≡ 0 →
       (refineOf s rounds board′ prices′ .worth ≡ refineOf s rounds board prices .worth) × (refineOf s rounds board′ prices′ .limit ≡ refineOf s rounds board prices .limit)
       × (refineOf s rounds board′ prices′ .rounds ≡ refineOf s rounds board prices .rounds)
-  -- the rounds made: no more than given; fewer only if limit and worth are equal; and with a number of rounds below that they are not, whatever is lent then
+  -- the rounds made: no more than given; fewer only if limit and worth are equal; with any fewer rounds they are not equal
   pub made : refineOf s rounds board prices .rounds ≤ rounds
   pub ended : (refineOf s rounds board prices .rounds ≡ rounds) ⊎ (refineOf s rounds board prices .limit ≡ refineOf s rounds board prices .worth)
   pub not-before : (k : ℕ) (board′ prices′ : List ℕ) → k < refineOf s rounds board prices .rounds → refineOf s k board′ prices′ .refusal ≡ 0 →

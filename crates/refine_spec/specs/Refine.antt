@@ -1,18 +1,19 @@
 -- The entry: any bytes as a sheet, any number of rounds, lent bytes for the board and lent numbers for the price list (request P-2). Assumes nothing.
 use Prim.Native.Nat.{ℕ, _<_}
-use mathlib.Core.Bool.{Bool, cond, _||_}
+use mathlib.Core.Bool.{Bool, _||_}
 use mathlib.Core.List.{List, [], _∷_, _++_}
 use lib.ListN.{length}
-use lib.Dec.{ltb, eqb}
+use lib.Dec.{ltb}
 use Rattle.refusal.specs.Number.{bufferTooSmall}
-use Rattle.refusal.specs.Cause.{Cause, _when_, firstOf, FirstAmong}
+use Rattle.refusal.specs.Cause.{Cause, _when_, FirstAmong}
+use Rattle.refusal.specs.Outcome.{unless}
 use Rattle.model.specs.Turns.{Turns}
 use Rattle.model.specs.Steps.{tally}
 use Rattle.model.specs.Pick.{steps}
 use Rattle.model.specs.Choice.{chosen}
 use Rattle.sheet.specs.Read.{countsIn, turnCount, sheetCauses}
 use Rattle.refusal.specs.Written.{atFront}
-use Rattle.sheet.specs.Accepted.{SheetCause, placeOf}
+use Rattle.sheet.specs.Accepted.{MoreCause}
 use Rattle.board.specs.Board.{boardLength, boardOf}
 use Rattle.instance_spec.specs.Problem.{sheetTurns}
 use Rattle.price_spec.specs.Limit.{priceCount}
@@ -58,16 +59,20 @@ notRefined k board prices = record { refusal = k; bytes = 0; worth = 0; limit = 
 -- for a sheet, unless a cause is there
 unfoldable pub refineOf : List ℕ → ℕ → List ℕ → List ℕ → Refinement
 refineOf s rounds board prices =
-    let f = firstOf (refineCauses s (length board) (length prices)) in
-    cond (eqb f 0) (refinementOf (sheetTurns s) (shiftRefined (sheetTurns s) (countsIn s .groomers) (countsIn s .slopes) rounds) board prices) (notRefined f board prices)
+    unless (refineCauses s (length board) (length prices))
+    (refinementOf (sheetTurns s) (shiftRefined (sheetTurns s) (countsIn s .groomers) (countsIn s .slopes) rounds) board prices)
+    (λ k. notRefined k board prices)
 
 -- ---- as statements
 
--- a cause to refuse is there: its number, and its place in the order
-pub data RefineCause (s : List ℕ) (bytes numbers : ℕ) : ℕ → ℕ → Type 0 where
-  of-sheet : {k r : ℕ} → SheetCause s k r → RefineCause s bytes numbers k r
-  few-bytes : bytes < boardLength (turnCount s) (turnCount s) → RefineCause s bytes numbers bufferTooSmall (placeOf (turnCount s) 1)
-  few-prices : numbers < priceCount s → RefineCause s bytes numbers bufferTooSmall (placeOf (turnCount s) 1)
+-- one of the lent places is too short
+pub data PlacesFail (s : List ℕ) (bytes numbers : ℕ) : Type 0 where
+  few-bytes : bytes < boardLength (turnCount s) (turnCount s) → PlacesFail s bytes numbers
+  few-prices : numbers < priceCount s → PlacesFail s bytes numbers
+
+-- a cause to refuse is there, at its place in the order: the sheet's, then a lent place that is too short
+abbrev pub RefineCause : List ℕ → ℕ → ℕ → ℕ → ℕ → Type 0
+RefineCause s bytes numbers = MoreCause s bufferTooSmall (PlacesFail s bytes numbers)
 
 -- the first of them has number k
 abbrev pub FirstRefineCause : List ℕ → ℕ → ℕ → ℕ → Type 0

@@ -5,9 +5,10 @@ use mathlib.Core.List.{List, [], _∷_, _++_}
 use mathlib.Core.Logic.{_⊎_, inl, inr, ⊎-elim, _↔_}
 use Prim.Native.Nat.{ℕ, suc, _<_}
 use native.Mathlib.Omega.{arith}
+use native.Mathlib.Decide.{ℕ-discrete}
 use lib.Dec.{ltb}
 use borrow.Author.Tests.{ltb-true}
-use Rattle.refusal.specs.Cause.{Cause, firstOf, There, here, later, FirstAmong, First}
+use Rattle.refusal.specs.Cause.{Cause, firstOf, There, here, later, FirstAmong, First, _when_}
 
 -- every number in the list is above 0, which stands for none
 abbrev pub numbered : List Cause → Bool
@@ -52,6 +53,14 @@ first-goes (c ∷ a) b p e = go (c .there) e (first-goes a b (both-1 (ltb 0 (c .
     go true e ih = absurd (omega (arith, ltb-true 0 (c .number) (both-0 (ltb 0 (c .number)) (numbered a) p)))
     go false e ih = ih e
 
+-- lists with the same first cause have it before the same list too
+pub first-append : (a b cs : List Cause) → numbered a ≡ true → numbered b ≡ true → firstOf a ≡ firstOf b → firstOf (a ++ cs) ≡ firstOf (b ++ cs)
+first-append a b cs p q e = go (ℕ-discrete (firstOf b) 0)
+  where
+    go : Dec (firstOf b ≡ 0) → firstOf (a ++ cs) ≡ firstOf (b ++ cs)
+    go (yes z) = first-goes a cs p (e ∙ z) ∙ sym (first-goes b cs q z)
+    go (no n) = first-stops a cs (firstOf b) e n ∙ sym (first-stops b cs (firstOf b) refl n)
+
 -- ---- nothing given: of a cause and those behind it, of one list and another
 
 pub clear-cons : (c : Cause) (cs : List Cause) → (c .number ≡ 0 → ⊥) → firstOf (c ∷ cs) ≡ 0 → (c .there ≡ false) × (firstOf cs ≡ 0)
@@ -70,6 +79,14 @@ clear-append (c ∷ a) b p e = go (c .there) e (clear-append a b (both-1 (ltb 0 
     go : (t : Bool) → cond t (c .number) (firstOf (a ++ b)) ≡ 0 → (firstOf (a ++ b) ≡ 0 → (firstOf a ≡ 0) × (firstOf b ≡ 0)) → (cond t (c .number) (firstOf a) ≡ 0) × (firstOf b ≡ 0)
     go true e ih = absurd (omega (arith, ltb-true 0 (c .number) (both-0 (ltb 0 (c .number)) (numbered a) p)))
     go false e ih = ih e
+
+-- of a list and one cause more
+pub clear-last : (a : List Cause) (k : ℕ) (t : Bool) → numbered a ≡ true → (k ≡ 0 → ⊥) → (firstOf (a ++ k when t ∷ []) ≡ 0) ↔ ((firstOf a ≡ 0) × (t ≡ false))
+unfolding firstOf
+clear-last a k t n z = (
+  λ e. let both = clear-append a (k when t ∷ []) n e in (both .0, clear-cons (k when t) [] z (both .1) .0),
+  λ h. first-goes a (k when t ∷ []) n (h .0) ∙ rw (h .1),
+)
 
 -- ---- the order
 

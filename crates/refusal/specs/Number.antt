@@ -1,4 +1,4 @@
--- The refusals' numbers; what each is given for stands in src/lib.rt (document 01: what the box says; requests R-5, R-8 to R-11, R-13, R-14, P-1). Assumes nothing.
+-- The refusals' numbers; what each is given for stands in src/lib.rt (document 01: what the box says; requests R-5, R-8 to R-11, R-13, R-14, P-1, P-3). Assumes nothing.
 use Prim.Native.Nat.{ℕ}
 
 -- the bytes end too early (torn)
@@ -101,6 +101,6 @@ badDelays = 24
 abbrev pub badDraw : ℕ
 badDraw = 25
 
--- a price list of another length than the sheet's slopes and turns ask for
+-- a price list of another length than the sheet asks for
 abbrev pub badPrices : ℕ
 badPrices = 26

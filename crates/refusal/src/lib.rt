@@ -51,4 +51,12 @@ pub const BAD_DELAYS: u8 = 24; // the delay table has not a number for each turn
 
 pub const BAD_DRAW: u8 = 25; // a window's draw is not in 1 to the hall's units
 
-pub const BAD_PRICES: u8 = 26; // a price list of other than slopes plus turns numbers
+pub const BAD_PRICES: u8 = 26; // a price list of another length than is due: slopes plus turns, in a hall the minutes
+
+// What an entry returns that writes bytes into a lent place: a refusal, 0 if none, and the bytes written, 0 on a
+// refusal.
+#[repr(C)]
+pub struct WriteAnswer {
+    pub refusal: u8,
+    pub bytes: u32,
+}

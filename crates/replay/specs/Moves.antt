@@ -6,6 +6,6 @@ use Rattle.board.specs.Board.{stepsIn}
 use Rattle.model_relabel.specs.Relabelling.{relabelAll}
 use Rattle.instance_by_end.specs.Placing.{placeAt}
 
--- m written steps so
+-- m written steps, read in this way
 unfoldable pub movesIn : List ℕ → ℕ → List ℕ → List Step
 movesIn places m bytes = relabelAll (placeAt places) (stepsIn m bytes)

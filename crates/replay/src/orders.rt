@@ -14,7 +14,7 @@ use local_ratio::is_open;
 use local_ratio::left_of;
 
 // Whether turn t is not an open turn of j's groomer or driver with an earlier end. All tests are always
-// done: a jump a turn would be guessed wrong too often.
+// made: a branch at each turn would be mispredicted too often.
 fn is_no_earlier(rest: &[i32], p: Size, cols: &[u16; PLACES], j: usize, t: usize) -> bool
     requires { ⌜ (j < p .count) × (t < p .count) × Residuals (p .count) (now rest) × Held p (now cols) ⌝ }
     ensures { λ r. ⌜ r ≡ noEarlier (turnsBy p (now (cols .entry))) (now (rest .entry)) j t ⌝ }

@@ -26,8 +26,9 @@ pub struct Replayed {
     pub cost: u32,
 }
 
-// The same of one step, and how many turns at the front are closed.
-pub struct Outcome {
+// Whether one step is right where it stands, what it counts for, and how many turns at the front are closed
+// after it.
+pub struct StepReplayed {
     pub right: bool,
     pub cost: u32,
     pub closed: usize,
@@ -77,7 +78,7 @@ fn replay_one(
     j: usize,
     amount: u16,
     closed: usize,
-) -> Outcome
+) -> StepReplayed
     requires { ⌜ Residuals (p .count) (now rest) × Held p (now cols) × ClosedTo closed (now rest) × EndsRise (turnsBy p (now cols)) ⌝ }
     ensures { λ r. ⌜ (r .right ≡ right (turnsBy p (now (cols .entry))) (now (rest .entry)) (record { turn = j; amount = amount }))
         × (now (rest .exit) ≡ cond (r .right) (afterStep (turnsBy p (now (cols .entry))) (now (rest .entry)) (record { turn = j; amount = amount }))
@@ -89,13 +90,13 @@ fn replay_one(
     let from = local_ratio::first_open(&*rest, closed);
     if super::orders::is_right(&*rest, p, cols, j, amount, from) {
         let cost = local_ratio::apply_step(&mut *rest, p, cols, j, amount, from);
-        return Outcome {
+        return StepReplayed {
             right: true,
             cost: cost,
             closed: from,
         };
     }
-    Outcome {
+    StepReplayed {
         right: false,
         cost: 0,
         closed: from,

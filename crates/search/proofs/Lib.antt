@@ -1,5 +1,7 @@
 pub mod WordBits
 pub mod WordCases
-pub mod SearchCases
+pub mod OneMore
 pub mod TableCases
-pub mod Linked
+pub mod CarriedCases
+pub mod Beside
+pub mod SearchCases

@@ -1,3 +1,3 @@
 pub mod Words
 pub mod Table
-pub mod Underway
+pub mod Carried

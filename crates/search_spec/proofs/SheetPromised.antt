@@ -1,18 +1,14 @@
 -- The entry keeps its promises for every sheet that it does not refuse. Assumes nothing.
 use mathlib.Core.Path.{_≡_, sym, ap, _∙_}
 use mathlib.Core.Logic.{_≢_}
-use mathlib.Core.Bool.{true, false}
-use mathlib.Core.List.{List, [], _∷_, _++_}
+use mathlib.Core.Bool.{true}
+use mathlib.Core.List.{List, _++_}
 use Prim.Native.Nat.{ℕ, _+_, _≤_}
 use native.Mathlib.Omega.{arith}
 use native.Mathlib.Nat.{pow-le-pow-right}
-use lib.Dec.{ltb}
 use lib.ListN.{length, take, drop}
 use lib.Seq.{take-at, drop-at}
-use borrow.Author.Tests.{eq-eqb, ltb-false, le-ltb}
-use Rattle.refusal.specs.Number.{bufferTooSmall, tooManyToSearch}
-use Rattle.refusal.specs.Cause.{_when_, firstOf}
-use Rattle.refusal.proofs.Order.{first-goes, clear-append, clear-cons}
+use Rattle.refusal.specs.Cause.{firstOf}
 use Rattle.model.specs.Pick.{steps}
 use Rattle.model.specs.Choice.{choice}
 use Rattle.model.specs.Ceiling.{ceiling}
@@ -24,7 +20,6 @@ use Rattle.search_spec.proofs.Firsts.{first-stays}
 use Rattle.search_spec.proofs.Sets.{search-compares}
 use Rattle.search_spec.proofs.Promised.{visits-most, visits-empty, none-allowed, search-promises}
 use Rattle.sheet.specs.Read.{turnCount, sheetCauses}
-use Rattle.sheet.proofs.Readings.{sheet-numbered}
 use Rattle.sheet.proofs.Unrefused.{few-turns}
 use Rattle.choice_map.specs.Choice.{mapBytes, mapOf, choiceIn}
 use Rattle.choice_map.proofs.Clean.{map-length, map-choice}
@@ -36,59 +31,45 @@ use Rattle.plan_spec.specs.Plan.{boardFor, plannedBoard}
 use Rattle.plan_spec.proofs.Planned.{planned-back}
 use Rattle.search_spec.specs.Improve.{mostSearched, improveCauses, Improvement, improvedFor, improveOf}
 use Rattle.search_spec.specs.SheetPromises.{answeredMap, answeredChoice, ImprovedSheet, PlanComesBack}
-use Rattle.search_spec.proofs.ImproveCauses.{improve-number, afterSheet}
+use Rattle.search_spec.proofs.ImproveCauses.{improve-number, improve-answers, clear-iff}
 
-module _ (s : List ℕ) (limit : ℕ) (lent : List ℕ) (z : improveOf s limit lent .refusal ≡ 0) where
+module _ (s : List ℕ) (limit : ℕ) (lent : List ℕ) (z : improveOf s limit lent .answer .refusal ≡ 0) where
   none-first : firstOf (improveCauses s (length lent)) ≡ 0
   none-first = sym (improve-number s lent limit) ∙ z
 
   answered : improveOf s limit lent ≡ improvedFor (sheetTurns s) limit lent
-  unfolding improveOf
-  answered = rw (eq-eqb (firstOf (improveCauses s (length lent))) 0 none-first)
+  answered = improve-answers s lent limit none-first
 
-  split : (firstOf (sheetCauses s) ≡ 0) × (firstOf (afterSheet s (length lent)) ≡ 0)
-  unfolding improveCauses
-  split = clear-append (sheetCauses s) (afterSheet s (length lent)) (sheet-numbered s) none-first
+  clear : (firstOf (sheetCauses s) ≡ 0) × (turnCount s ≤ mostSearched) × (mapBytes (turnCount s) ≤ length lent)
+  clear = clear-iff s (length lent) .0 none-first
 
-  after : (ltb mostSearched (turnCount s) ≡ false) × (firstOf (bufferTooSmall when ltb (length lent) (mapBytes (turnCount s)) ∷ []) ≡ 0)
-  after = clear-cons (tooManyToSearch when ltb mostSearched (turnCount s)) (bufferTooSmall when ltb (length lent) (mapBytes (turnCount s)) ∷ []) (omega arith) (split .1)
-
-  few : turnCount s ≤ mostSearched
-  few = ltb-false mostSearched (turnCount s) (after .0)
-
-  room : mapBytes (turnCount s) ≤ length lent
-  room = ltb-false (length lent) (mapBytes (turnCount s)) (clear-cons (bufferTooSmall when ltb (length lent) (mapBytes (turnCount s))) [] (omega arith) (after .1) .0)
+  sound : firstOf (sheetCauses s) ≡ 0
+  sound = clear .0
 
   promised : SearchPromises (sheetTurns s) limit
-  promised = search-promises (sheetTurns s) limit (sheet-lengths s (split .0))
+  promised = search-promises (sheetTurns s) limit (sheet-lengths s sound)
 
-  sum-is : improvedFor (sheetTurns s) limit lent .worth + improvedFor (sheetTurns s) limit lent .above ≡ ceiling (sheetTurns s) (steps (sheetTurns s))
+  sum-is : improvedFor (sheetTurns s) limit lent .answer .worth + improvedFor (sheetTurns s) limit lent .answer .above ≡ ceiling (sheetTurns s) (steps (sheetTurns s))
   unfolding improvedFor
   sum-is = omega (arith, promised .within-ceiling)
 
   -- ---- the answer's fields
 
   -- neither the limit nor what the lent bytes held has a part in what is refused
-  clear-at : (place : List ℕ) → mapBytes (turnCount s) ≤ length place → firstOf (improveCauses s (length place)) ≡ 0
-  unfolding improveCauses firstOf
-  clear-at place l =
-      first-goes (sheetCauses s) (afterSheet s (length place)) (sheet-numbered s) (split .0)
-      ∙ rw (le-ltb mostSearched (turnCount s) few, le-ltb (length place) (mapBytes (turnCount s)) l)
-
-  worth-at : (more : ℕ) (place : List ℕ) → mapBytes (turnCount s) ≤ length place → improveOf s more place .worth ≡ searchAll (sheetTurns s) more .worth
-  unfolding improveOf improvedFor
-  worth-at more place l = rw (eq-eqb (firstOf (improveCauses s (length place))) 0 (clear-at place l))
-
-  worth-is : improveOf s limit lent .worth ≡ searchAll (sheetTurns s) limit .worth
-  worth-is = worth-at limit lent room
-
-  whole-is : improveOf s limit lent .whole ≡ searchAll (sheetTurns s) limit .whole
+  worth-at : (more : ℕ) (place : List ℕ) → mapBytes (turnCount s) ≤ length place → improveOf s more place .answer .worth ≡ searchAll (sheetTurns s) more .worth
   unfolding improvedFor
-  whole-is = ap (λ (x : Improvement). x .whole) answered
+  worth-at more place l = ap (λ (x : Improvement). x .answer .worth) (improve-answers s place more (clear-iff s (length place) .1 (sound, clear .1, l)))
 
-  visits-are : improveOf s limit lent .visits ≡ visitsMade (sheetTurns s) limit
+  worth-is : improveOf s limit lent .answer .worth ≡ searchAll (sheetTurns s) limit .worth
+  worth-is = worth-at limit lent (clear .2)
+
+  whole-is : improveOf s limit lent .answer .whole ≡ searchAll (sheetTurns s) limit .whole
   unfolding improvedFor
-  visits-are = ap (λ (x : Improvement). x .visits) answered
+  whole-is = ap (λ (x : Improvement). x .answer .whole) answered
+
+  visits-are : improveOf s limit lent .answer .visits ≡ visitsMade (sheetTurns s) limit
+  unfolding improvedFor
+  visits-are = ap (λ (x : Improvement). x .answer .visits) answered
 
   best-map : List ℕ
   best-map = mapOf (searchAll (sheetTurns s) limit .best)
@@ -99,7 +80,7 @@ module _ (s : List ℕ) (limit : ℕ) (lent : List ℕ) (z : improveOf s limit l
 
   map-size : length best-map ≡ mapBytes (turnCount s)
   unfolding best-map
-  map-size = map-length (searchAll (sheetTurns s) limit .best) ∙ ap mapBytes (promised .places ∙ sheet-count s (split .0))
+  map-size = map-length (searchAll (sheetTurns s) limit .best) ∙ ap mapBytes (promised .places ∙ sheet-count s sound)
 
   map-first : take (mapBytes (turnCount s)) (improveOf s limit lent .lent) ≡ best-map
   map-first = rw lent-is (take-at best-map (drop (length best-map) lent) (mapBytes (turnCount s)) map-size)
@@ -107,13 +88,13 @@ module _ (s : List ℕ) (limit : ℕ) (lent : List ℕ) (z : improveOf s limit l
   bytes-behind : drop (mapBytes (turnCount s)) (improveOf s limit lent .lent) ≡ drop (mapBytes (turnCount s)) lent
   bytes-behind = rw (lent-is, map-size) (drop-at best-map (drop (mapBytes (turnCount s)) lent) (mapBytes (turnCount s)) map-size)
 
-  sum-whole : improveOf s limit lent .worth + improveOf s limit lent .above ≡ ceiling (sheetTurns s) (steps (sheetTurns s))
-  sum-whole = ap (λ (x : Improvement). x .worth + x .above) answered ∙ sum-is
+  sum-whole : improveOf s limit lent .answer .worth + improveOf s limit lent .answer .above ≡ ceiling (sheetTurns s) (steps (sheetTurns s))
+  sum-whole = ap (λ (x : Improvement). x .answer .worth + x .answer .above) answered ∙ sum-is
 
   -- ---- the choice in the bytes
 
   bits : length (searchAll (sheetTurns s) limit .best) ≡ turnCount s
-  bits = promised .places ∙ sheet-count s (split .0)
+  bits = promised .places ∙ sheet-count s sound
 
   choice-is : answeredChoice s limit lent ≡ searchAll (sheetTurns s) limit .best
   unfolding best-map
@@ -126,16 +107,16 @@ module _ (s : List ℕ) (limit : ℕ) (lent : List ℕ) (z : improveOf s limit l
   map-held = map-first ∙ ap mapOf (sym choice-is)
 
   compares-are : Compares (sheetTurns s) limit (searchAll (sheetTurns s) limit .worth) (searchAll (sheetTurns s) limit .best)
-  compares-are = search-compares (sheetTurns s) (sheet-lengths s (split .0)) limit
+  compares-are = search-compares (sheetTurns s) (sheet-lengths s sound) limit
 
   plan-map : boardMap (plannedBoard s) ≡ mapOf (choice (sheetTurns s))
   unfolding plannedBoard boardFor
-  plan-map = written.map-read (choice (sheetTurns s)) (steps (sheetTurns s)) _ _ (omega (arith, planned-length (sheetTurns s), sheet-count s (split .0), few-turns s (split .0)))
+  plan-map = written.map-read (choice (sheetTurns s)) (steps (sheetTurns s)) _ _ (omega (arith, planned-length (sheetTurns s), sheet-count s sound, few-turns s sound))
 
-  kept : improveOf s limit lent .worth ≤ boardWorth (plannedBoard s) → answeredMap s limit lent ≡ boardMap (plannedBoard s)
+  kept : improveOf s limit lent .answer .worth ≤ boardWorth (plannedBoard s) → answeredMap s limit lent ≡ boardMap (plannedBoard s)
   unfolding best-map
   kept l =
-      map-first ∙ ap mapOf (first-stays (sheetTurns s) (compares-are .first-most) (omega (arith, worth-is, promised .earns, planned-back s (split .0) .worth)))
+      map-first ∙ ap mapOf (first-stays (sheetTurns s) (compares-are .first-most) (omega (arith, worth-is, promised .earns, planned-back s sound .worth)))
       ∙ sym plan-map
 
   pub improved-sheet : ImprovedSheet s limit lent
@@ -144,21 +125,21 @@ module _ (s : List ℕ) (limit : ℕ) (lent : List ℕ) (z : improveOf s limit l
         found = answered;
         promises = promised;
         up-to-ceiling = sum-whole;
-        bounded = λ R f. omega (arith, sum-whole, planned-promises (sheetTurns s) (sheet-lengths s (split .0)) .within-ceiling R f);
-        countable = omega (arith, visits-most (sheetTurns s), pow-le-pow-right {n = 2} (omega arith) {i = sheetTurns s .count} {j = 64} (omega (arith, sheet-count s (split .0), few)));
+        bounded = λ R f. omega (arith, sum-whole, planned-promises (sheetTurns s) (sheet-lengths s sound) .within-ceiling R f);
+        countable = omega (arith, visits-most (sheetTurns s), pow-le-pow-right {n = 2} (omega arith) {i = sheetTurns s .count} {j = 64} (omega (arith, sheet-count s sound, clear .1)));
         all-used = λ l. visits-are ∙ promised .all-used l;
         all-made = λ l. visits-are ∙ promised .all-made l;
         ran-whole = (λ w. promised .ran-whole .0 (sym whole-is ∙ w), λ l. whole-is ∙ promised .ran-whole .1 l);
         greatest = λ w R f. omega (arith, worth-is, promised .greatest (sym whole-is ∙ w) R f);
-        room = room;
+        room = clear .2;
         larger = λ more l place r. omega (arith, worth-is, worth-at more place r, promised .larger more l);
         places = ap length choice-is ∙ promised .places;
         apart = rw choice-is (promised .apart);
         earns = rw (choice-is, worth-is) (promised .earns);
         map = map-held;
         behind = bytes-behind;
-        no-less = omega (arith, worth-is, promised .no-less, planned-back s (split .0) .worth);
-        starts = planned-back s (split .0) .chosen-turns;
+        no-less = omega (arith, worth-is, promised .no-less, planned-back s sound .worth);
+        starts = planned-back s sound .chosen-turns;
         compares = rw (worth-is, choice-is) compares-are;
         plan-kept = kept;
       }
@@ -166,13 +147,13 @@ module _ (s : List ℕ) (limit : ℕ) (lent : List ℕ) (z : improveOf s limit l
   -- ---- the ends
 
   -- without turns every search is whole, whatever it is allowed
-  pub no-turns-whole : turnCount s ≡ 0 → improveOf s limit lent .whole ≡ true
-  no-turns-whole e = improved-sheet .ran-whole .1 (omega (arith, visits-empty (sheetTurns s) (sheet-count s (split .0) ∙ e)))
+  pub no-turns-whole : turnCount s ≡ 0 → improveOf s limit lent .answer .whole ≡ true
+  no-turns-whole e = improved-sheet .ran-whole .1 (omega (arith, visits-empty (sheetTurns s) (sheet-count s sound ∙ e)))
 
 -- with no visit allowed, and a turn to visit, the planned board's set comes back
-pub none-allowed-plan : (s lent : List ℕ) → improveOf s 0 lent .refusal ≡ 0 → turnCount s ≢ 0 → PlanComesBack s 0 lent
+pub none-allowed-plan : (s lent : List ℕ) → improveOf s 0 lent .answer .refusal ≡ 0 → turnCount s ≢ 0 → PlanComesBack s 0 lent
 none-allowed-plan s lent z h =
-    let accepted = split s 0 lent z .0 in
+    let accepted = sound s 0 lent z in
     let e = none-allowed (sheetTurns s) (λ q. h (sym (sheet-count s accepted) ∙ q)) in
-    let same : improveOf s 0 lent .worth ≡ boardWorth (plannedBoard s) = worth-is s 0 lent z ∙ ap (λ (x : Progress). x .worth) e ∙ sym (planned-back s accepted .worth) in
+    let same : improveOf s 0 lent .answer .worth ≡ boardWorth (plannedBoard s) = worth-is s 0 lent z ∙ ap (λ (x : Progress). x .worth) e ∙ sym (planned-back s accepted .worth) in
     record { worth-is = same; map-is = kept s 0 lent z (omega (arith, same)) }

@@ -35,40 +35,40 @@ pub record ImprovedSheet (s : List ℕ) (limit : ℕ) (lent : List ℕ) : Type 0
   -- which keeps the search's promises
   pub promises : SearchPromises (sheetTurns s) limit
   -- the worth and what the ceiling exceeds it by make the ceiling: nothing is cut off at 0
-  pub up-to-ceiling : improveOf s limit lent .worth + improveOf s limit lent .above ≡ ceiling (sheetTurns s) (steps (sheetTurns s))
+  pub up-to-ceiling : improveOf s limit lent .answer .worth + improveOf s limit lent .answer .above ≡ ceiling (sheetTurns s) (steps (sheetTurns s))
   -- no feasible set earns more than the two together
-  pub bounded : (R : List ℕ) → Feasible (sheetTurns s) R → worthOf (sheetTurns s) R ≤ improveOf s limit lent .worth + improveOf s limit lent .above
+  pub bounded : (R : List ℕ) → Feasible (sheetTurns s) R → worthOf (sheetTurns s) R ≤ improveOf s limit lent .answer .worth + improveOf s limit lent .answer .above
   -- a whole search's visits are a number of 64 bits
   pub countable : wholeVisits (sheetTurns s) < 2 ^ 64
   -- a limit no greater than the whole search needs is used up; with a greater one the visits are what the whole search needs
-  pub all-used : limit ≤ wholeVisits (sheetTurns s) → improveOf s limit lent .visits ≡ limit
-  pub all-made : wholeVisits (sheetTurns s) ≤ limit → improveOf s limit lent .visits ≡ wholeVisits (sheetTurns s)
+  pub all-used : limit ≤ wholeVisits (sheetTurns s) → improveOf s limit lent .answer .visits ≡ limit
+  pub all-made : wholeVisits (sheetTurns s) ≤ limit → improveOf s limit lent .answer .visits ≡ wholeVisits (sheetTurns s)
   -- the search ran whole just if the limit allows them all
-  pub ran-whole : (improveOf s limit lent .whole ≡ true) ↔ (wholeVisits (sheetTurns s) ≤ limit)
+  pub ran-whole : (improveOf s limit lent .answer .whole ≡ true) ↔ (wholeVisits (sheetTurns s) ≤ limit)
   -- then no feasible set earns more than the worth
-  pub greatest : improveOf s limit lent .whole ≡ true → (R : List ℕ) → Feasible (sheetTurns s) R → worthOf (sheetTurns s) R ≤ improveOf s limit lent .worth
+  pub greatest : improveOf s limit lent .answer .whole ≡ true → (R : List ℕ) → Feasible (sheetTurns s) R → worthOf (sheetTurns s) R ≤ improveOf s limit lent .answer .worth
   -- the lent bytes hold a map
   pub room : mapBytes (turnCount s) ≤ length lent
   -- a greater limit earns at least as much, into whatever lent bytes that hold a map
-  pub larger : (more : ℕ) → limit ≤ more → (place : List ℕ) → mapBytes (turnCount s) ≤ length place → improveOf s limit lent .worth ≤ improveOf s more place .worth
+  pub larger : (more : ℕ) → limit ≤ more → (place : List ℕ) → mapBytes (turnCount s) ≤ length place → improveOf s limit lent .answer .worth ≤ improveOf s more place .answer .worth
   -- there is a place for each turn, and no two turns whose bits are set conflict
   pub places : length (answeredChoice s limit lent) ≡ sheetTurns s .count
   pub apart : Independent (sheetTurns s) (answeredChoice s limit lent)
   -- they earn the worth
-  pub earns : chosen (sheetTurns s .count) (answeredChoice s limit lent) (sheetTurns s .worth) ≡ improveOf s limit lent .worth
+  pub earns : chosen (sheetTurns s .count) (answeredChoice s limit lent) (sheetTurns s .worth) ≡ improveOf s limit lent .answer .worth
   -- the first bytes are their map: no other bit is set there
   pub map : answeredMap s limit lent ≡ mapOf (answeredChoice s limit lent)
   -- the bytes behind the map stay as they were
   pub behind : drop (mapBytes (turnCount s)) (improveOf s limit lent .lent) ≡ drop (mapBytes (turnCount s)) lent
   -- the planned board is worth no more
-  pub no-less : boardWorth (plannedBoard s) ≤ improveOf s limit lent .worth
+  pub no-less : boardWorth (plannedBoard s) ≤ improveOf s limit lent .answer .worth
   -- its turns are compared first, then the sets that the limit pays for, one after another; the worth and the turns are what that finds
   pub starts : boardChoice (plannedBoard s) ≡ choice (sheetTurns s)
-  pub compares : Compares (sheetTurns s) limit (improveOf s limit lent .worth) (answeredChoice s limit lent)
+  pub compares : Compares (sheetTurns s) limit (improveOf s limit lent .answer .worth) (answeredChoice s limit lent)
   -- where nothing of greater worth is found, the map is the planned board's
-  pub plan-kept : improveOf s limit lent .worth ≤ boardWorth (plannedBoard s) → answeredMap s limit lent ≡ boardMap (plannedBoard s)
+  pub plan-kept : improveOf s limit lent .answer .worth ≤ boardWorth (plannedBoard s) → answeredMap s limit lent ≡ boardMap (plannedBoard s)
 
 -- the answer has the planned board's set
 pub record PlanComesBack (s : List ℕ) (limit : ℕ) (lent : List ℕ) : Type 0 where
-  pub worth-is : improveOf s limit lent .worth ≡ boardWorth (plannedBoard s)
+  pub worth-is : improveOf s limit lent .answer .worth ≡ boardWorth (plannedBoard s)
   pub map-is : answeredMap s limit lent ≡ boardMap (plannedBoard s)

@@ -2,7 +2,7 @@
 // steps: going back over them, then filling. It knows turns only as rows in columns.
 mod asking;
 mod choosing;
-mod room;
+mod gathered;
 mod rules;
 
 pub use asking::ASKED;

@@ -1,5 +1,5 @@
-// What the rules ask of a choice, held in a choice map: no two of its turns conflict, no turn is left
-// that fits beside it, and what it is worth.
+// The rules for a choice that is held in a choice map: no two chosen turns conflict, and no further turn
+// fits beside them. Also the worth of a choice.
 ghost use mathlib.Core.Path.{_≡_};
 ghost use mathlib.Core.Bool.{cond};
 ghost use Prim.Native.Nat.{_<_};
@@ -10,20 +10,20 @@ ghost use Rattle.instance.specs.Columns.{columnPlaces, slopePlaces, turnsBy};
 ghost use Rattle.selection.specs.Bounds.{Lent};
 ghost use Rattle.selection.specs.Below.{independentBelow, maximalBelow, chosenBelow};
 ghost use Rattle.selection.specs.Gathered.{Gathered};
-use super::room::has_room;
-use super::room::take_if_room;
-use super::room::take_row;
+use super::gathered::fits_beside;
+use super::gathered::gather_if_fits;
+use super::gathered::gather_row;
 use instance::PLACES;
 use instance::SLOPES;
 use instance::Size;
 use instance::row_at;
 
-// Whether no two chosen turns conflict, with a place for the rows: each has room beside those of lower
-// numbers.
-pub fn is_independent(p: Size, cols: &[u16; PLACES], map: &[u8], taken: &mut [u16; PLACES]) -> bool
-    requires { ⌜ Lent p (now cols) (now map) × (length (now taken) ≡ columnPlaces) ⌝ }
+// Whether no two chosen turns conflict: each must fit beside those of lower numbers. Their rows are
+// gathered in the lent columns.
+pub fn is_independent(p: Size, cols: &[u16; PLACES], map: &[u8], rows: &mut [u16; PLACES]) -> bool
+    requires { ⌜ Lent p (now cols) (now map) × (length (now rows) ≡ columnPlaces) ⌝ }
     ensures { λ r. ⌜ r ≡ independentBelow (turnsBy p (now (cols .entry))) (choiceIn (p .count) (now (map .entry))) (p .count) ⌝ }
-    ensures { λ _. ⌜ length (now (taken .exit)) ≡ columnPlaces ⌝ }
+    ensures { λ _. ⌜ length (now (rows .exit)) ≡ columnPlaces ⌝ }
 {
     let n = p.count;
     let mut flags = [0u8; SLOPES];
@@ -31,7 +31,7 @@ pub fn is_independent(p: Size, cols: &[u16; PLACES], map: &[u8], taken: &mut [u1
     let mut x = 0;
     while x < n {
         if choice_map::is_chosen(map, x) {
-            if !take_if_room(p.gap, &mut *taken, &mut flags, c, row_at(cols, x)) {
+            if !gather_if_fits(p.gap, &mut *rows, &mut flags, c, row_at(cols, x)) {
                 return false;
             }
             c += 1;
@@ -43,22 +43,22 @@ pub fn is_independent(p: Size, cols: &[u16; PLACES], map: &[u8], taken: &mut [u1
     true
 }
 
-// Takes all chosen turns into rows that have none, with clear flags; returns how many they are.
-fn take_chosen(
+// Gathers the rows of all chosen turns and sets the flags of their slopes; returns how many they are.
+fn gather_chosen(
     p: Size,
     cols: &[u16; PLACES],
     map: &[u8],
-    taken: &mut [u16; PLACES],
+    rows: &mut [u16; PLACES],
     flags: &mut [u8; SLOPES],
 ) -> usize
-    requires { ⌜ Lent p (now cols) (now map) × (length (now taken) ≡ columnPlaces) × (now flags ≡ replicate slopePlaces 0) ⌝ }
-    ensures { λ r. ⌜ Gathered (turnsBy p (now (cols .entry))) (choiceIn (p .count) (now (map .entry))) (p .count) r (now (taken .exit)) (now (flags .exit)) ⌝ }
+    requires { ⌜ Lent p (now cols) (now map) × (length (now rows) ≡ columnPlaces) × (now flags ≡ replicate slopePlaces 0) ⌝ }
+    ensures { λ r. ⌜ Gathered (turnsBy p (now (cols .entry))) (choiceIn (p .count) (now (map .entry))) (p .count) r (now (rows .exit)) (now (flags .exit)) ⌝ }
 {
     let mut c = 0;
     let mut x = 0;
     while x < p.count {
         if choice_map::is_chosen(map, x) {
-            take_row(&mut *taken, &mut *flags, c, row_at(cols, x));
+            gather_row(&mut *rows, &mut *flags, c, row_at(cols, x));
             c += 1;
             x += 1;
         } else {
@@ -68,16 +68,16 @@ fn take_chosen(
     c
 }
 
-// Whether every turn is chosen or has no room beside the rows of all chosen turns.
+// Whether every turn is chosen or does not fit beside the rows of all chosen turns.
 fn are_settled(
     p: Size,
     cols: &[u16; PLACES],
     map: &[u8],
-    taken: &[u16; PLACES],
+    rows: &[u16; PLACES],
     flags: &[u8; SLOPES],
     c: usize,
 ) -> bool
-    requires { ⌜ Lent p (now cols) (now map) × Gathered (turnsBy p (now cols)) (choiceIn (p .count) (now map)) (p .count) c (now taken) (now flags) ⌝ }
+    requires { ⌜ Lent p (now cols) (now map) × Gathered (turnsBy p (now cols)) (choiceIn (p .count) (now map)) (p .count) c (now rows) (now flags) ⌝ }
     ensures { λ r. ⌜ r ≡ maximalBelow (turnsBy p (now (cols .entry))) (choiceIn (p .count) (now (map .entry))) (p .count) ⌝ }
 {
     let n = p.count;
@@ -86,7 +86,7 @@ fn are_settled(
         if choice_map::is_chosen(map, t) {
             t += 1;
         } else {
-            if has_room(p.gap, taken, flags, c, row_at(cols, t)) {
+            if fits_beside(p.gap, rows, flags, c, row_at(cols, t)) {
                 return false;
             }
             t += 1;
@@ -95,15 +95,16 @@ fn are_settled(
     true
 }
 
-// Whether every turn is chosen or conflicts with a chosen one, with a place for the rows.
-pub fn is_maximal(p: Size, cols: &[u16; PLACES], map: &[u8], taken: &mut [u16; PLACES]) -> bool
-    requires { ⌜ Lent p (now cols) (now map) × (length (now taken) ≡ columnPlaces) ⌝ }
+// Whether every turn is chosen or conflicts with a chosen one. The rows of the chosen turns are gathered
+// in the lent columns.
+pub fn is_maximal(p: Size, cols: &[u16; PLACES], map: &[u8], rows: &mut [u16; PLACES]) -> bool
+    requires { ⌜ Lent p (now cols) (now map) × (length (now rows) ≡ columnPlaces) ⌝ }
     ensures { λ r. ⌜ r ≡ maximalBelow (turnsBy p (now (cols .entry))) (choiceIn (p .count) (now (map .entry))) (p .count) ⌝ }
-    ensures { λ _. ⌜ length (now (taken .exit)) ≡ columnPlaces ⌝ }
+    ensures { λ _. ⌜ length (now (rows .exit)) ≡ columnPlaces ⌝ }
 {
     let mut flags = [0u8; SLOPES];
-    let c = take_chosen(p, cols, map, &mut *taken, &mut flags);
-    are_settled(p, cols, map, &*taken, &flags, c)
+    let c = gather_chosen(p, cols, map, &mut *rows, &mut flags);
+    are_settled(p, cols, map, &*rows, &flags, c)
 }
 
 // A turn's worth if it is chosen, else 0.

@@ -10,9 +10,9 @@ use lib.Dec.{ltb}
 use lib.ListN.{length, getD, take, drop, length-drop, take-append-drop, drop-of-length-le}
 use lib.Seq.{drop-cons}
 use borrow.Author.Tests.{le-ltb, ltb-false}
-use Rattle.refusal.specs.Number.{trailingBytes, bufferTooSmall}
+use Rattle.refusal.specs.Number.{trailingBytes}
 use Rattle.refusal.specs.Cause.{_when_, firstOf}
-use Rattle.refusal.proofs.Order.{first-goes, clear-cons, clear-append, none-iff}
+use Rattle.refusal.proofs.Order.{first-goes, clear-cons, clear-append}
 use Rattle.wire.specs.Number.{bytesOf, valueAt, Bytes}
 use Rattle.wire.specs.Mark.{opensWith}
 use Rattle.wire.proofs.Numbers.{value-read, bytes-rest}
@@ -31,8 +31,10 @@ use Rattle.sheet.proofs.Headers.{legal-counts, header-numbered, header-
 use Rattle.sheet.proofs.Scans.{record-numbered}
 use Rattle.sheet.proofs.Readings.{causes-numbered, sheet-by-records, turnsFrom-length}
 use Rattle.sheet.proofs.Fields.{RecordRead, record-reads, record-stands}
-use Rattle.sheet.proofs.Causes.{cause-there-for, there-cause-for}
-use Rattle.sheet.proofs.ReadCauses.{read-number-for}
+use Rattle.sheet.proofs.ReadCauses.{read-number-for, causes-tell-for}
+use Rattle.refusal.specs.Outcome.{thenRoom}
+use Rattle.refusal.proofs.Outcome.{enough-iff}
+use Rattle.refusal.proofs.Words.{tells-none}
 
 -- ---- from the turns to what is read
 
@@ -137,28 +139,18 @@ module _ (K : Kind) (sound : Sound K) {s : List ℕ} (b : Bytes s) where
 
   -- in words alone: no cause is there
   pub accepted-no-cause-for : AcceptedFor K s ↔ ((k r : ℕ) → CauseFor K s k r → ⊥)
-  accepted-no-cause-for = (
-    λ a k r h. none-iff (causesFor K s) (causes-numbered K (sound .numbers) s) .0 (accepted-iff-for .1 a) k r (cause-there-for K (sound .mark) s h),
-    λ n. accepted-iff-for .0 (none-iff (causesFor K s) (causes-numbered K (sound .numbers) s) .1 (λ k r h. n k r (there-cause-for K (sound .mark) s h))),
-  )
+  accepted-no-cause-for = let none = tells-none (causes-tell-for K sound s) in (λ a. none .0 (accepted-iff-for .1 a), λ n. accepted-iff-for .0 (none .1 n))
 
-  -- the reader refuses nothing just if the sheet is accepted and the table long enough
+  -- where too few lent places are the last cause: nothing is refused just if the sheet is accepted and the places are enough
+  pub lent-accepted-iff-for : (need places : ℕ) {f : ℕ} → f ≡ firstOf (thenRoom (causesFor K s) need places) → (f ≡ 0) ↔ (AcceptedFor K s × (need ≤ places))
+  lent-accepted-iff-for need places q =
+      let e = enough-iff (causesFor K s) places need (causes-numbered K (sound .numbers) s) in
+      (λ z. let h = e .0 (sym q ∙ z) in (accepted-iff-for .0 (h .0), h .1), λ h. q ∙ e .1 (accepted-iff-for .1 (h .0), h .1))
+
+  -- so it is for the reader
   pub read-accepted-iff-for : (lent : List ℕ) → (readFor K s lent .answer .refusal ≡ 0) ↔ (AcceptedFor K s × (rowNumbers * turnCount s ≤ length lent))
-  unfolding readCausesFor firstOf
-  read-accepted-iff-for lent = (to, from)
-    where
-      to : readFor K s lent .answer .refusal ≡ 0 → AcceptedFor K s × (rowNumbers * turnCount s ≤ length lent)
-      to e =
-          let small = bufferTooSmall when ltb (length lent) (rowNumbers * turnCount s) in
-          let both = clear-append (causesFor K s) (small ∷ []) (causes-numbered K (sound .numbers) s) (sym (read-number-for K s lent) ∙ e) in
-          let last = clear-cons small [] (omega arith) (both .1) in
-          (accepted-iff-for .0 (both .0), ltb-false (length lent) (rowNumbers * turnCount s) (last .0))
-
-      from : AcceptedFor K s × (rowNumbers * turnCount s ≤ length lent) → readFor K s lent .answer .refusal ≡ 0
-      from a =
-          let small = bufferTooSmall when ltb (length lent) (rowNumbers * turnCount s) in
-          let rest = first-goes (causesFor K s) (small ∷ []) (causes-numbered K (sound .numbers) s) (accepted-iff-for .1 (a .0)) in
-          read-number-for K s lent ∙ rest ∙ rw (le-ltb (length lent) (rowNumbers * turnCount s) (a .1))
+  unfolding readCausesFor
+  read-accepted-iff-for lent = lent-accepted-iff-for (rowNumbers * turnCount s) (length lent) (read-number-for K s lent)
 
 -- ---- the garage's sheet
 
@@ -166,6 +158,10 @@ module _ {s : List ℕ} (b : Bytes s) where
   pub accepted-iff : (firstOf (sheetCauses s) ≡ 0) ↔ Accepted s
   unfolding sheetCauses
   accepted-iff = accepted-iff-for garage garage-sound b
+
+  pub lent-accepted-iff : (need places : ℕ) {f : ℕ} → f ≡ firstOf (thenRoom (sheetCauses s) need places) → (f ≡ 0) ↔ (Accepted s × (need ≤ places))
+  unfolding sheetCauses
+  lent-accepted-iff = lent-accepted-iff-for garage garage-sound b
 
   pub accepted-no-cause : Accepted s ↔ ((k r : ℕ) → SheetCause s k r → ⊥)
   accepted-no-cause = accepted-no-cause-for garage garage-sound b

@@ -11,6 +11,8 @@ use Rattle.sheet.specs.declared.record.Cursor.{Cursor}
 use Rattle.sheet.specs.Kind.{withTurns}
 use Rattle.sheet.specs.Record.{cursorAfter, recordCauses, firstCursor}
 use Rattle.sheet.specs.Read.{countsIn, turnCount, countCauses, headerCauses, recordsCauses, causesFor, readCausesFor, answerFor, readFor}
+use Rattle.refusal.proofs.Outcome.{unless-same}
+use lib.ListN.{length}
 
 module _ (K : Kind) (turns number : ℕ) where
   -- the limit says nothing of the records
@@ -41,8 +43,8 @@ module _ (K : Kind) (turns number : ℕ) where
 
     pub same-answer : answerFor (withTurns K turns number) s ≡ answerFor K s
     unfolding answerFor
-    same-answer = rw same-refusal
+    same-answer = unless-same (causesFor (withTurns K turns number) s) _ _ (causesFor K s) same-refusal
 
     pub same-reading : (lent : List ℕ) → readFor (withTurns K turns number) s lent ≡ readFor K s lent
     unfolding readFor readCausesFor
-    same-reading lent = rw (first-alike _)
+    same-reading lent = unless-same (readCausesFor (withTurns K turns number) s (length lent)) _ _ (readCausesFor K s (length lent)) (first-alike _)

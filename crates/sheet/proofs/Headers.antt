@@ -20,6 +20,7 @@ use Rattle.sheet.specs.declared.header.Header.{Header}
 use Rattle.sheet.specs.declared.header.Header.the-variants.{Found, Refused}
 use Rattle.sheet.specs.Read.{headerBytes, countsIn, turnCount, countCauses, headerCauses, headerOf, countsHeader}
 use Rattle.sheet.specs.Accepted.{Legal}
+use Rattle.refusal.specs.Outcome.{unless}
 
 -- ---- the counts, from wherever they come
 
@@ -73,27 +74,27 @@ module _ (K : Kind) (counts : Counts) (n : ℕ) where
 
 module _ (K : Kind) (s : List ℕ) {g k n f : ℕ} (p : g ≡ valueAt s 3 1) (q : k ≡ valueAt s 4 1) (r : n ≡ valueAt s 5 2) (e : f ≡ firstOf (countCauses K (countsOf g k) n)) where
   pub counts-refused : (f ≡ 0 → ⊥) → Refused f ≡ countsHeader K s
-  unfolding countsHeader
+  unfolding countsHeader unless
   counts-refused z = rw (← p, ← q, ← r, ← e, ne-eqb f 0 z)
 
   pub counts-found : f ≡ 0 → Found (countsOf g k) n ≡ countsHeader K s
-  unfolding countsHeader
+  unfolding countsHeader unless
   counts-found z = rw (← p, ← q, ← r, ← e, eq-eqb f 0 z)
 
 pub ruleset counts-cases = (counts-refused, counts-found)
 
 module _ (K : Kind) (s : List ℕ) where
   pub header-short : length s < headerBytes → Refused truncated ≡ headerOf K s
-  unfolding headerOf headerCauses firstOf
+  unfolding headerOf headerCauses firstOf unless
   header-short h = rw (lt-ltb (length s) headerBytes h)
 
   module _ {m : Bool} (h : headerBytes ≤ length s) (e : m ≡ opensWith (K .mark) s) where
     pub header-mark : m ≡ false → Refused badMagic ≡ headerOf K s
-    unfolding headerOf headerCauses firstOf
+    unfolding headerOf headerCauses firstOf unless
     header-mark f = rw (le-ltb (length s) headerBytes h, ← e, f)
 
     pub header-counts : {r : Header} → m ≡ true → r ≡ countsHeader K s → r ≡ headerOf K s
-    unfolding headerOf headerCauses firstOf countsHeader
+    unfolding headerOf headerCauses firstOf countsHeader unless
     header-counts t k = rw (le-ltb (length s) headerBytes h, ← e, t) k
 
 pub ruleset header-cases = (header-short, header-mark, header-counts)

@@ -12,10 +12,10 @@ use Rattle.wire.specs.Number.{Bytes}
 use Rattle.turn.specs.Turn.{rowNumbers}
 use Rattle.sheet.specs.declared.kind.Kind.{Kind}
 use Rattle.sheet.specs.Kind.{garage, withTurns, mostTurns, Sound}
-use Rattle.sheet.specs.Read.{turnCount, tableOf, causesFor, Outcome, readCausesFor, readFor, readOf}
+use Rattle.sheet.specs.Read.{turnCount, tableOf, causesFor, readCausesFor, readFor, readOf, Reading}
 use Rattle.refusal.specs.Written.{atFront}
 use Rattle.sheet.specs.Promises.{ReadPromisedFor}
-use Rattle.sheet.specs.Accepted.{short-header, other-mark, groomer-count, slope-count, turn-count, no-map, wrong-map, short-fields, slope, groomer, time, worth, driver, bytes-behind, of-sheet, too-small, ReadCauseFor}
+use Rattle.sheet.specs.Accepted.{short-header, other-mark, groomer-count, slope-count, turn-count, no-map, wrong-map, short-fields, slope, groomer, time, worth, driver, bytes-behind, ReadCauseFor}
 use Rattle.sheet.proofs.Alike.{same-refusal, same-reading}
 use Rattle.sheet.proofs.SoundKinds.{garage-sound}
 use Rattle.sheet.proofs.Accepting.{read-accepted-iff-for}
@@ -26,6 +26,7 @@ use Rattle.sheet.proofs.Promised.{read-whole, read-promised-for}
 use Rattle.sheet.proofs.Tables.{table-length}
 use Rattle.sheet.proofs.Unrefused.{legal-header}
 use Rattle.sheet.specs.Screen.{screenTurns, liftDesk, readShortOf, AcceptedShort, FirstShortCause, ReadAlike}
+use Rattle.refusal.specs.Words.{only, before, behind}
 
 -- ---- any two kinds
 
@@ -96,7 +97,7 @@ pub ruleset desk-cases = (desk-made)
 pub lift-desk-given : {K : Kind} → K ≡ liftDesk → Sound K
 lift-desk-given e = rw e lift-desk-sound
 
-pub read-given : (s lent : List ℕ) {K : Kind} {o : Outcome} → K ≡ liftDesk → o ≡ readFor K s lent → o ≡ readShortOf s lent
+pub read-given : (s lent : List ℕ) {K : Kind} {o : Reading} → K ≡ liftDesk → o ≡ readFor K s lent → o ≡ readShortOf s lent
 unfolding readShortOf
 read-given s lent e f = rw (← e) f
 
@@ -106,7 +107,7 @@ pub ruleset screen-cases = (lift-desk-given, read-given)
 
 pub short-refused-iff : (s lent : List ℕ) (k : ℕ) → (k ≡ 0 → ⊥) → (readShortOf s lent .answer .refusal ≡ k) ↔ FirstShortCause s (length lent) k
 unfolding readShortOf
-short-refused-iff = read-refused-iff-for liftDesk (lift-desk-sound .mark)
+short-refused-iff = read-refused-iff-for liftDesk lift-desk-sound
 
 pub short-accepted-iff : {s : List ℕ} → Bytes s → (lent : List ℕ) → (readShortOf s lent .answer .refusal ≡ 0) ↔ (AcceptedShort s × (rowNumbers * turnCount s ≤ length lent))
 unfolding readShortOf
@@ -120,21 +121,21 @@ short-promised b lent = read-promised-for liftDesk lift-desk-sound b lent
 -- the garage's number for too many turns is none of its causes
 not-garage-number : (s : List ℕ) (places k r : ℕ) → ReadCauseFor liftDesk s places k r → k ≢ tooManyTurns
 unfolding liftDesk withTurns garage
-not-garage-number s places k r (of-sheet (short-header h)) e = omega arith
-not-garage-number s places k r (of-sheet (other-mark h)) e = omega arith
-not-garage-number s places k r (of-sheet (groomer-count h)) e = omega arith
-not-garage-number s places k r (of-sheet (slope-count h)) e = omega arith
-not-garage-number s places k r (of-sheet (turn-count h)) e = omega arith
-not-garage-number s places k r (of-sheet (no-map i l h)) e = omega arith
-not-garage-number s places k r (of-sheet (wrong-map i l h)) e = omega arith
-not-garage-number s places k r (of-sheet (short-fields i l h)) e = omega arith
-not-garage-number s places k r (of-sheet (slope i l h)) e = omega arith
-not-garage-number s places k r (of-sheet (groomer i l h)) e = omega arith
-not-garage-number s places k r (of-sheet (time i l h)) e = omega arith
-not-garage-number s places k r (of-sheet (worth i l h)) e = omega arith
-not-garage-number s places k r (of-sheet (driver i l h)) e = omega arith
-not-garage-number s places k r (of-sheet (bytes-behind h)) e = omega arith
-not-garage-number s places k r (too-small h) e = omega arith
+not-garage-number s places k r (before (short-header h)) e = omega arith
+not-garage-number s places k r (before (other-mark h)) e = omega arith
+not-garage-number s places k r (before (groomer-count h)) e = omega arith
+not-garage-number s places k r (before (slope-count h)) e = omega arith
+not-garage-number s places k r (before (turn-count h)) e = omega arith
+not-garage-number s places k r (before (no-map i l h)) e = omega arith
+not-garage-number s places k r (before (wrong-map i l h)) e = omega arith
+not-garage-number s places k r (before (short-fields i l h)) e = omega arith
+not-garage-number s places k r (before (slope i l h)) e = omega arith
+not-garage-number s places k r (before (groomer i l h)) e = omega arith
+not-garage-number s places k r (before (time i l h)) e = omega arith
+not-garage-number s places k r (before (worth i l h)) e = omega arith
+not-garage-number s places k r (before (driver i l h)) e = omega arith
+not-garage-number s places k r (before (bytes-behind h)) e = omega arith
+not-garage-number s places k r (behind (only h)) e = omega arith
 
 pub never-garage-number : (s lent : List ℕ) → readShortOf s lent .answer .refusal ≢ tooManyTurns
 never-garage-number s lent e = let f = short-refused-iff s lent tooManyTurns (λ z. omega arith) .0 e in not-garage-number s (length lent) tooManyTurns (f .place) (f .cause) refl

@@ -1,41 +1,34 @@
 -- What the reader hands back is what is promised, for every kind of sheet. Assumes nothing.
 use Prim.Native.Nat.{ℕ, _*_}
-use mathlib.Core.Path.{_≡_, sym, _∙_, ap}
+use mathlib.Core.Path.{_≡_, _∙_, ap, refl}
 use mathlib.Core.List.{List}
 use native.Mathlib.Omega.{arith}
 use lib.ListN.{length, drop}
 use lib.Seq.{take-at, drop-at}
-use borrow.Author.Tests.{ne-eqb}
-use Rattle.refusal.specs.Cause.{firstOf}
 use Rattle.wire.specs.Number.{Bytes}
 use Rattle.turn.specs.Turn.{rowNumbers, rows}
 use Rattle.turn.proofs.Rows.{rows-length}
 use Rattle.sheet.specs.declared.kind.Kind.{Kind}
 use Rattle.sheet.specs.Kind.{garage, Sound}
-use Rattle.sheet.specs.Read.{turnCount, tableOf, Outcome, outcome, readRefused, readAnswer, readCausesFor, readFor, readOf}
+use Rattle.sheet.specs.Read.{turnCount, tableOf, readRefused, readAnswer, readCausesFor, readFor, readOf, Reading}
 use Rattle.refusal.specs.Written.{atFront}
 use Rattle.sheet.specs.Accepted.{AcceptedFor}
 use Rattle.sheet.specs.Promises.{ReadInto, ReadPromisedFor, ReadPromised}
 use Rattle.sheet.proofs.SoundKinds.{garage-sound}
-use Rattle.sheet.proofs.ReadCauses.{read-number-for}
 use Rattle.sheet.proofs.Accepting.{sheet-reads, read-accepted-iff-for}
+use Rattle.refusal.specs.Outcome.{beside}
+use Rattle.refusal.proofs.Outcome.{number-none, number-refused}
 
 module _ (K : Kind) (s lent : List ℕ) where
-  clear-outcome : firstOf (readCausesFor K s (length lent)) ≡ 0 → readFor K s lent ≡ outcome (readAnswer s) (atFront (tableOf s) lent)
-  unfolding readFor
-  clear-outcome e = rw e
-
   -- where nothing is refused the lent table begins with the sheet's, and goes on as it was
-  pub read-whole : readFor K s lent .answer .refusal ≡ 0 → readFor K s lent ≡ outcome (readAnswer s) (atFront (tableOf s) lent)
-  read-whole z = clear-outcome (sym (read-number-for K s lent) ∙ z)
+  pub read-whole : readFor K s lent .answer .refusal ≡ 0 → readFor K s lent ≡ beside (readAnswer s) (atFront (tableOf s) lent)
+  unfolding readFor
+  read-whole = number-none (readCausesFor K s (length lent)) _ _ (λ (o : Reading). o .answer .refusal) refl (λ k. refl)
 
   -- a refusal leaves it as it was
-  refused-outcome : (k : ℕ) → firstOf (readCausesFor K s (length lent)) ≡ k → (k ≡ 0 → ⊥) → readFor K s lent ≡ outcome (readRefused k) lent
+  pub read-refused : (readFor K s lent .answer .refusal ≡ 0 → ⊥) → readFor K s lent ≡ beside (readRefused (readFor K s lent .answer .refusal)) lent
   unfolding readFor
-  refused-outcome k e z = rw (e, ne-eqb k 0 z)
-
-  pub read-refused : (readFor K s lent .answer .refusal ≡ 0 → ⊥) → readFor K s lent ≡ outcome (readRefused (readFor K s lent .answer .refusal)) lent
-  read-refused z = refused-outcome (readFor K s lent .answer .refusal) (sym (read-number-for K s lent)) z
+  read-refused = number-refused (readCausesFor K s (length lent)) _ _ (λ (o : Reading). o .answer .refusal) refl (λ k. refl)
 
   module _ (sound : Sound K) (a : AcceptedFor K s) where
     table-of : tableOf s ≡ rows (a .turns)
@@ -46,11 +39,11 @@ module _ (K : Kind) (s lent : List ℕ) where
     read-into z =
         let r = sheet-reads K sound s (a .counts) (a .turns) (a .sheet) in
         let whole = read-whole z in
-        let table : readFor K s lent .table ≡ atFront (rows (a .turns)) lent = ap (λ (o : Outcome). o .table) whole ∙ ap (λ (t : List ℕ). atFront t lent) table-of in
+        let table : readFor K s lent .lent ≡ atFront (rows (a .turns)) lent = ap (λ (o : Reading). o .lent) whole ∙ ap (λ (t : List ℕ). atFront t lent) table-of in
         let n = rowNumbers * length (a .turns) in
         let size : length (rows (a .turns)) ≡ n = rows-length (a .turns) in
         record {
-          answer = ap (λ (o : Outcome). o .answer) whole ∙ (λ i. record { refusal = 0; groomers = r .1 i .groomers; slopes = r .1 i .slopes; turns = r .3 i });
+          answer = ap (λ (o : Reading). o .answer) whole ∙ (λ i. record { refusal = 0; groomers = r .1 i .groomers; slopes = r .1 i .slopes; turns = r .3 i });
           front = rw table (take-at (rows (a .turns)) (drop (length (rows (a .turns))) lent) n size);
           behind = rw table (drop-at (rows (a .turns)) (drop (length (rows (a .turns))) lent) n size ∙ ap (λ (k : ℕ). drop k lent) size);
         }

@@ -1,38 +1,32 @@
 -- What an entry with a lent buffer refuses: the sheet's causes in their order, and after them all a buffer that is too short. Assumes nothing.
 use Prim.Native.Nat.{ℕ, zero, suc, _+_, _*_}
-use mathlib.Core.Path.{_≡_, refl, sym, _∙_}
-use mathlib.Core.Bool.{Bool, true, false, cond, true≢false}
+use mathlib.Core.Path.{_≡_, refl}
 use mathlib.Core.List.{List, [], _∷_, _++_}
-use mathlib.Core.Logic.{⊎-elim, _↔_}
+use mathlib.Core.Logic.{_↔_}
 use native.Mathlib.Omega.{arith}
-use lib.Dec.{ltb, eqb}
 use lib.ListN.{length}
-use borrow.Author.Tests.{ltb-true, lt-ltb, eqb-true}
-use Rattle.refusal.specs.Number.{bufferTooSmall}
-use Rattle.refusal.specs.Cause.{Cause, _when_, There, firstOf}
-use Rattle.refusal.proofs.Places.{there-at, at-there, there-left, there-right, there-split}
+use Rattle.refusal.specs.Cause.{firstOf, _when_}
 use Rattle.turn.specs.declared.Counts.{Counts}
 use Rattle.turn.specs.Turn.{rowNumbers, turnCauses}
 use Rattle.sheet.specs.declared.kind.Kind.{Kind}
 use Rattle.sheet.specs.declared.record.Cursor.{Cursor}
-use Rattle.sheet.specs.Kind.{garage, ThreeBytes}
+use Rattle.sheet.specs.Kind.{garage, Sound}
 use Rattle.sheet.specs.Record.{cursorAfter, firstCursor, recordCauses}
-use Rattle.sheet.specs.Read.{countsIn, turnCount, countCauses, headerCauses, recordsCauses, causesFor, readCausesFor, tableOf, outcome, readRefused, readAnswer, readFor, sheetCauses, readCauses, readOf}
-use Rattle.refusal.specs.Written.{atFront}
-use Rattle.sheet.specs.Accepted.{placeOf, LentCauseFor, of-sheet, too-small, ReadCauseFor, LentCause, FirstReadCause, FirstAmong}
+use Rattle.sheet.specs.Read.{countsIn, turnCount, countCauses, headerCauses, recordsCauses, causesFor, readCausesFor, readFor, sheetCauses, readOf, Reading}
+use Rattle.sheet.specs.Accepted.{placeOf, LentCauseFor, ReadCauseFor, LentCause, FirstReadCause, FirstAmong, CauseFor, SheetCause, MoreCauseFor, MoreCause}
 use Rattle.sheet.proofs.SoundKinds.{garage-sound}
-use Rattle.sheet.proofs.Causes.{there-cause-for, cause-there-for}
-use Rattle.refusal.proofs.Order.{first-same}
+use Rattle.sheet.proofs.Causes.{causes-iff-for}
+use Rattle.refusal.specs.Outcome.{thenRoom}
+use Rattle.refusal.proofs.Words.{Within, Tells, says-tells, says-within, room-tells, then-tells, only-tells, then-within, only-within}
+use Rattle.refusal.proofs.Outcome.{number-first, number-iff}
+use Rattle.sheet.proofs.Readings.{causes-numbered}
+use Rattle.refusal.proofs.Order.{numbered}
+use mathlib.Core.Bool.{Bool, true}
 
 -- the reader's number is that of the first cause
 pub read-number-for : (K : Kind) (s lent : List ℕ) → readFor K s lent .answer .refusal ≡ firstOf (readCausesFor K s (length lent))
 unfolding readFor
-read-number-for K s lent = go (eqb (firstOf (readCausesFor K s (length lent))) 0) refl
-  where
-    go : (b : Bool) → eqb (firstOf (readCausesFor K s (length lent))) 0 ≡ b
-        → cond b (outcome (readAnswer s) (atFront (tableOf s) lent)) (outcome (readRefused (firstOf (readCausesFor K s (length lent)))) lent) .answer .refusal ≡ firstOf (readCausesFor K s (length lent))
-    go true q = sym (eqb-true (firstOf (readCausesFor K s (length lent))) 0 q)
-    go false q = refl
+read-number-for K s lent = number-first (readCausesFor K s (length lent)) _ _ (λ (o : Reading). o .answer .refusal) refl (λ k. refl)
 
 records-places : (K : Kind) (n : ℕ) (s : List ℕ) (limits : Counts) (c : Cursor) → length (recordsCauses K n s limits c) ≡ 8 * n + 1
 unfolding recordsCauses recordCauses turnCauses
@@ -44,52 +38,53 @@ pub sheet-places : (K : Kind) (s : List ℕ) → length (causesFor K s) ≡ plac
 unfolding causesFor headerCauses countCauses
 sheet-places K s = omega (arith, records-places K (turnCount s) s (countsIn s) firstCursor)
 
--- ---- a buffer of so many places, behind the sheet's causes: once for every need
+-- ---- a sheet of any kind: its causes in words, and behind them those of a lent buffer, once for every need
 
-abbrev small : ℕ → ℕ → List Cause
-small need places = bufferTooSmall when ltb places need ∷ []
+module _ (K : Kind) (sound : Sound K) (s : List ℕ) where
+  pub causes-tell-for : Tells (CauseFor K s) (causesFor K s)
+  causes-tell-for = says-tells (CauseFor K s) (causesFor K s) (causes-iff-for K (sound .mark) s) (causes-numbered K (sound .numbers) s)
 
-module _ (K : Kind) (mark : ThreeBytes (K .mark)) (s : List ℕ) (need places : ℕ) where
-  lent-cause : {k r : ℕ} → There (causesFor K s ++ small need places) k r → LentCauseFor K s need places k r
-  lent-cause {k} {r} h = ⊎-elim (λ t. of-sheet (there-cause-for K mark s t)) right (there-split (causesFor K s) h)
-    where
-      last : (q : ℕ) → There (small need places) k q → LentCauseFor K s need places k (length (causesFor K s) + q)
-      last zero t = let e : length (causesFor K s) + 0 ≡ placeOf (turnCount s) 1 = omega (arith, sheet-places K s) in rw (e, at-there t .1) (too-small (ltb-true places need (at-there t .0)))
-      last (suc q) t = absurd (true≢false (sym (at-there t .0)))
+  pub causes-within-for : Within (CauseFor K s) (placeOf (turnCount s) 1)
+  causes-within-for k r c = omega (arith, says-within (CauseFor K s) (causesFor K s) (causes-iff-for K (sound .mark) s) k r c, sheet-places K s)
 
-      right : (q : ℕ) × (r ≡ length (causesFor K s) + q) × There (small need places) k q → LentCauseFor K s need places k r
-      right x = rw (x .1) (last (x .0) (x .2))
+  module _ (n : ℕ) (P : Type 0) (test : Bool) (iff : (test ≡ true) ↔ P) where
+    pub more-tell-for : numbered (n when test ∷ []) ≡ true → Tells (MoreCauseFor K s n P) (causesFor K s ++ n when test ∷ [])
+    more-tell-for z =
+        then-tells (placeOf (turnCount s) 1) causes-within-for (causesFor K s) (n when test ∷ []) (causes-numbered K (sound .numbers) s) causes-tell-for (λ e. only-tells n P test iff z)
 
-  cause-lent : {k r : ℕ} → LentCauseFor K s need places k r → There (causesFor K s ++ small need places) k r
-  cause-lent (of-sheet h) = there-left _ (cause-there-for K mark s h)
-  cause-lent (too-small h) =
-      let e : placeOf (turnCount s) 1 ≡ length (causesFor K s) + 0 = omega (arith, sheet-places K s) in
-      rw e (there-right (causesFor K s) (there-at (small need places) 0 (lt-ltb places need h)))
+  pub more-within-for : (n : ℕ) (P : Type 0) → Within (MoreCauseFor K s n P) (placeOf (turnCount s) 2)
+  more-within-for n P k r c = omega (arith, then-within (placeOf (turnCount s) 1) causes-within-for 1 (only-within n P) k r c)
 
-  pub lent-causes-iff-for : (k r : ℕ) → LentCauseFor K s need places k r ↔ There (causesFor K s ++ small need places) k r
-  lent-causes-iff-for k r = (cause-lent, lent-cause)
-
-module _ (K : Kind) (mark : ThreeBytes (K .mark)) (s : List ℕ) where
-  pub read-causes-iff-for : (places k r : ℕ) → ReadCauseFor K s places k r ↔ There (readCausesFor K s places) k r
-  unfolding readCausesFor
-  read-causes-iff-for places = lent-causes-iff-for K mark s (rowNumbers * turnCount s) places
+  pub lent-tell-for : (need places : ℕ) → Tells (LentCauseFor K s need places) (thenRoom (causesFor K s) need places)
+  lent-tell-for = room-tells (placeOf (turnCount s) 1) causes-within-for (causesFor K s) (causes-numbered K (sound .numbers) s) causes-tell-for
 
   -- the reader gives k exactly where the first cause has number k
   pub read-refused-iff-for : (lent : List ℕ) (k : ℕ) → (k ≡ 0 → ⊥) → (readFor K s lent .answer .refusal ≡ k) ↔ FirstAmong (ReadCauseFor K s (length lent)) k
-  read-refused-iff-for lent k z =
-      let same = first-same (readCausesFor K s (length lent)) (ReadCauseFor K s (length lent)) (read-causes-iff-for (length lent)) k z in
-      (λ e. same .0 (sym (read-number-for K s lent) ∙ e), λ f. read-number-for K s lent ∙ same .1 f)
+  unfolding readFor readCausesFor
+  read-refused-iff-for lent =
+      number-iff (readCausesFor K s (length lent)) _ _ (λ (o : Reading). o .answer .refusal) refl (λ k. refl) (lent-tell-for (rowNumbers * turnCount s) (length lent))
 
 -- ---- the garage's sheet
 
-pub lent-causes-iff : (s : List ℕ) (need places k r : ℕ) → LentCause s need places k r ↔ There (sheetCauses s ++ small need places) k r
-unfolding sheetCauses
-lent-causes-iff = lent-causes-iff-for garage (garage-sound .mark)
+module _ (s : List ℕ) where
+  pub sheet-tells : Tells (SheetCause s) (sheetCauses s)
+  unfolding sheetCauses
+  sheet-tells = causes-tell-for garage garage-sound s
 
-pub read-number : (s lent : List ℕ) → readOf s lent .answer .refusal ≡ firstOf (readCauses s (length lent))
-unfolding readOf readCauses
-read-number = read-number-for garage
+  pub sheet-within : Within (SheetCause s) (placeOf (turnCount s) 1)
+  sheet-within = causes-within-for garage garage-sound s
+
+  pub more-tell : (n : ℕ) (P : Type 0) (test : Bool) → (test ≡ true) ↔ P → numbered (n when test ∷ []) ≡ true → Tells (MoreCause s n P) (sheetCauses s ++ n when test ∷ [])
+  unfolding sheetCauses
+  more-tell = more-tell-for garage garage-sound s
+
+  pub more-within : (n : ℕ) (P : Type 0) → Within (MoreCause s n P) (placeOf (turnCount s) 2)
+  more-within = more-within-for garage garage-sound s
+
+  pub lent-tell : (need places : ℕ) → Tells (LentCause s need places) (thenRoom (sheetCauses s) need places)
+  unfolding sheetCauses
+  lent-tell = lent-tell-for garage garage-sound s
 
 pub read-refused-iff : (s lent : List ℕ) (k : ℕ) → (k ≡ 0 → ⊥) → (readOf s lent .answer .refusal ≡ k) ↔ FirstReadCause s (length lent) k
 unfolding readOf
-read-refused-iff = read-refused-iff-for garage (garage-sound .mark)
+read-refused-iff = read-refused-iff-for garage garage-sound

@@ -6,7 +6,7 @@ use mathlib.Core.List.{List}
 use native.Mathlib.Omega.{arith}
 use lib.ListN.{length}
 use lib.Dec.{eqb}
-use borrow.Author.Tests.{eq-eqb, ne-eqb, eqb-true, eqb-false}
+use borrow.Author.Tests.{eqb-true, eqb-false}
 use Rattle.refusal.specs.Cause.{firstOf}
 use Rattle.refusal.proofs.Order.{numbered, numbered-append, first-stops, first-goes}
 use Rattle.wire.specs.Number.{puts}
@@ -21,11 +21,13 @@ use Rattle.sheet.specs.declared.header.Header.the-variants.{Found, Refus
 use Rattle.sheet.specs.declared.answer.ReadAnswer.{ReadAnswer}
 use Rattle.sheet.specs.Kind.{tablePlaces, garage, Sound}
 use Rattle.sheet.specs.Record.{recordCauses, cursorAfter, firstCursor}
-use Rattle.sheet.specs.Read.{countsIn, turnCount, headerCauses, headerOf, recordsCauses, turnsFrom, causesFor, sheetCauses, turnsOf, tableOf, readRefused, answerFor}
+use Rattle.sheet.specs.Read.{countsIn, turnCount, headerCauses, headerOf, recordsCauses, turnsFrom, causesFor, sheetCauses, turnsOf, tableOf, readRefused, answerFor, readAnswer}
 use Rattle.refusal.specs.Written.{atFront}
 use Rattle.sheet.proofs.SoundKinds.{garage-sound}
 use Rattle.sheet.proofs.Headers.{header-numbered, header-few}
 use Rattle.sheet.proofs.Scans.{record-numbered}
+use Rattle.refusal.specs.Outcome.{unless}
+use Rattle.refusal.proofs.Outcome.{unless-first, unless-none}
 
 pub turnsFrom-length : (k : ℕ) (s : List ℕ) (c : Cursor) → length (turnsFrom k s c) ≡ k
 unfolding turnsFrom
@@ -42,7 +44,7 @@ pub record HeaderFound (K : Kind) (s : List ℕ) (limits : Counts) (k : ℕ) : T
 
 module _ (K : Kind) (s : List ℕ) where
   pub header-found : {h : Header} {limits : Counts} {k : ℕ} → h ≡ headerOf K s → h ≡ Found limits k → HeaderFound K s limits k
-  unfolding headerOf
+  unfolding headerOf unless
   header-found {h} {limits} {k} e g = go (eqb (firstOf (headerCauses K s)) 0) refl (sym g ∙ e)
     where
       go : (b : Bool) → eqb (firstOf (headerCauses K s)) 0 ≡ b → Found limits k ≡ cond b (Found (countsIn s) (turnCount s)) (Refused (firstOf (headerCauses K s))) → HeaderFound K s limits k
@@ -50,7 +52,7 @@ module _ (K : Kind) (s : List ℕ) where
       go false q p = let z : _≡_ {A = ℕ} 0 1 = cc in absurd (omega arith)
 
   pub header-refused : {h : Header} {f : ℕ} → h ≡ headerOf K s → h ≡ Refused f → (firstOf (headerCauses K s) ≡ f) × (f ≡ 0 → ⊥)
-  unfolding headerOf
+  unfolding headerOf unless
   header-refused {h} {f} e g = go (eqb (firstOf (headerCauses K s)) 0) refl (sym g ∙ e)
     where
       go : (b : Bool) → eqb (firstOf (headerCauses K s)) 0 ≡ b → Refused f ≡ cond b (Found (countsIn s) (turnCount s)) (Refused (firstOf (headerCauses K s))) → (firstOf (headerCauses K s) ≡ f) × (f ≡ 0 → ⊥)
@@ -87,7 +89,7 @@ sheet-numbered = causes-numbered garage (garage-sound .numbers)
 module _ (K : Kind) (s : List ℕ) where
   answer-refused : {x : ReadAnswer} (f : ℕ) → firstOf (causesFor K s) ≡ f → (f ≡ 0 → ⊥) → x ≡ readRefused f → x ≡ answerFor K s
   unfolding answerFor
-  answer-refused f e z x = x ∙ rw (e, ne-eqb f 0 z)
+  answer-refused f e z x = x ∙ sym (unless-first (causesFor K s) (readAnswer s) readRefused f e z)
 
   module _ {h : Header} {f : ℕ} {x : ReadAnswer} (g : h ≡ Refused f) (e : h ≡ headerOf K s) (x-is : x ≡ readRefused f) where
     pub answer-header : x ≡ answerFor K s
@@ -110,7 +112,7 @@ module _ (K : Kind) (s : List ℕ) where
 
       pub answer-done : f ≡ 0 → record { refusal = 0; groomers = limits .groomers; slopes = limits .slopes; turns = k } ≡ answerFor K s
       unfolding answerFor
-      answer-done z = let n = header-found K s e g in rw (n .limits-are, n .count-is, eq-eqb (firstOf (causesFor K s)) 0 (scans ∙ z))
+      answer-done z = let n = header-found K s e g in rw (n .limits-are, n .count-is) (sym (unless-none (causesFor K s) (readAnswer s) readRefused (scans ∙ z)))
 
       pub table-done : (lent : List ℕ) {t : List ℕ} → (f ≡ 0 → t ≡ puts lent 0 (rows (turnsFrom k s c))) → tablePlaces ≤ length lent → f ≡ 0 → t ≡ atFront (tableOf s) lent
       unfolding tableOf turnsOf

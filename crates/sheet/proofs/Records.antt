@@ -18,6 +18,7 @@ use Rattle.sheet.specs.declared.kind.Kind.{Kind}
 use Rattle.sheet.specs.declared.record.Cursor.{Cursor}
 use Rattle.sheet.specs.declared.record.Next.the-variants.{Read, Refused}
 use Rattle.sheet.specs.Record.{widthOf, field, turnFrom, badMapFor, endAt, turnAt, cursorAfter, recordCauses, nextOf}
+use Rattle.refusal.specs.Outcome.{unless}
 
 -- ---- a field, at every width
 
@@ -66,26 +67,26 @@ pub ruleset map-cases = (map-above, map-later, map-least, map-other)
 
 module _ (K : Kind) (s : List ℕ) (limits : Counts) (c : Cursor) where
   pub next-no-map : length s ≤ c .at → Refused truncated ≡ nextOf K s limits c
-  unfolding nextOf recordCauses firstOf
+  unfolding nextOf recordCauses firstOf unless
   next-no-map h = rw (le-leb (length s) (c .at) h)
 
   module _ {b : Bool} (h : c .at < length s) (e : b ≡ badMapFor (K .maps) (c .first) (getD s (c .at) 0)) where
     pub next-bad-map : b ≡ true → Refused badMap ≡ nextOf K s limits c
-    unfolding nextOf recordCauses firstOf
+    unfolding nextOf recordCauses firstOf unless
     next-bad-map t = rw (lt-leb (length s) (c .at) h, ← e, t)
 
     module _ {w : ℕ} (f : b ≡ false) (g : w ≡ widthOf (getD s (c .at) 0)) where
       pub next-cut : length s < c .at + 1 + w → Refused truncated ≡ nextOf K s limits c
-      unfolding nextOf recordCauses firstOf endAt
+      unfolding nextOf recordCauses firstOf endAt unless
       next-cut k = rw (lt-leb (length s) (c .at) h, ← e, f, ← g, lt-ltb (length s) (c .at + 1 + w) k)
 
       module _ {t : Turn} {n : ℕ} (k : c .at + 1 + w ≤ length s) (p : t ≡ turnFrom s (c .at + 1) (getD s (c .at) 0) (c .prev)) (q : n ≡ firstOf (turnCauses (K .refusals) limits t)) where
         pub next-fault : (n ≡ 0 → ⊥) → Refused n ≡ nextOf K s limits c
-        unfolding nextOf recordCauses firstOf endAt turnAt
+        unfolding nextOf recordCauses firstOf endAt turnAt unless
         next-fault z = rw (lt-leb (length s) (c .at) h, ← e, f, ← g, le-ltb (length s) (c .at + 1 + w) k, ← p, ← q, ne-eqb n 0 z)
 
         pub next-read : n ≡ 0 → Read t (record { at = c .at + 1 + w; first = false; prev = t }) ≡ nextOf K s limits c
-        unfolding nextOf recordCauses firstOf endAt turnAt cursorAfter
+        unfolding nextOf recordCauses firstOf endAt turnAt cursorAfter unless
         next-read z = rw (lt-leb (length s) (c .at) h, ← e, f, ← g, le-ltb (length s) (c .at + 1 + w) k, ← p, ← q, eq-eqb n 0 z)
 
 pub ruleset next-cases = (next-no-map, next-bad-map, next-cut, next-fault, next-read)

@@ -23,6 +23,7 @@ use Rattle.sheet.specs.declared.record.Next.{Next}
 use Rattle.sheet.specs.declared.record.Next.the-variants.{Read, Refused}
 use Rattle.sheet.specs.Record.{turnAt, cursorAfter, recordCauses, nextOf}
 use Rattle.sheet.specs.Read.{recordsCauses, turnsFrom}
+use Rattle.refusal.specs.Outcome.{unless}
 
 -- ---- what an answer of the reader's says
 
@@ -38,7 +39,7 @@ pub record Fine (K : Kind) (s : List ℕ) (limits : Counts) (c : Cursor) (t : Tu
 
 module _ (K : Kind) (s : List ℕ) (limits : Counts) (c : Cursor) where
   pub next-fine : {r : Next} {t : Turn} {d : Cursor} → r ≡ nextOf K s limits c → r ≡ Read t d → Fine K s limits c t d
-  unfolding nextOf
+  unfolding nextOf unless
   next-fine {r} {t} {d} e g = go (eqb (firstOf (recordCauses K s limits c)) 0) refl (sym g ∙ e)
     where
       go : (b : Bool) → eqb (firstOf (recordCauses K s limits c)) 0 ≡ b → Read t d ≡ cond b (Read (turnAt s c) (cursorAfter s c)) (Refused (firstOf (recordCauses K s limits c))) → Fine K s limits c t d
@@ -46,7 +47,7 @@ module _ (K : Kind) (s : List ℕ) (limits : Counts) (c : Cursor) where
       go false q h = let z : _≡_ {A = ℕ} 0 1 = cc in absurd (omega arith)
 
   pub next-refused : {r : Next} {f : ℕ} → r ≡ nextOf K s limits c → r ≡ Refused f → (f ≡ firstOf (recordCauses K s limits c)) × (f ≡ 0 → ⊥)
-  unfolding nextOf
+  unfolding nextOf unless
   next-refused {r} {f} e g = go (eqb (firstOf (recordCauses K s limits c)) 0) refl (sym g ∙ e)
     where
       go : (b : Bool) → eqb (firstOf (recordCauses K s limits c)) 0 ≡ b → Refused f ≡ cond b (Read (turnAt s c) (cursorAfter s c)) (Refused (firstOf (recordCauses K s limits c))) → (f ≡ firstOf (recordCauses K s limits c)) × (f ≡ 0 → ⊥)

@@ -61,7 +61,3 @@ module _ (K : Kind) (sound : Sound K) (s : List ℕ) (a : AcceptedFor K s) (i : 
       let t : InRange (a .counts) (getD (a .turns) i (turnOf s i)) = records-in-range (a .sheet .records) (turnOf s i) i (omega (arith, r .3)) in
       let e : getD (a .turns) i (turnOf s i) ≡ turnOf s i = ap (λ (ts : List Turn). getD ts i (turnOf s i)) (sym (r .2)) ∙ turns-at s (turnOf s i) i h in
       subst₂ InRange (sym (r .1)) e t
-
-  -- so the numbers of each row are
-  pub table-in-range : InRange (countsIn s) (turnIn (tableOf s) i)
-  table-in-range = rw (table-row s i h) accepted-in-range

@@ -69,7 +69,3 @@ module _ (s : List ℕ) (e : firstOf (sheetCauses s) ≡ 0) where
   pub few-turns : turnCount s ≤ mostTurns
   unfolding sheetCauses garage
   few-turns = legal-header garage garage-sound s e .turns-to
-
-  pub row-in-range : (i : ℕ) → i < turnCount s → InRange (countsIn s) (turnIn (tableOf s) i)
-  unfolding sheetCauses
-  row-in-range = row-in-range-for garage garage-sound s e

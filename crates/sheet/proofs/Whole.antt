@@ -1,40 +1,34 @@
 -- What reading into a table with places for every sheet gives: the answer is the sheet's own. Assumes nothing.
 use Prim.Native.Nat.{ℕ, _+_, _*_, _<_, _≤_}
 use mathlib.Core.Path.{_≡_, refl, sym, _∙_, ap}
-use mathlib.Core.Bool.{Bool, true, false, cond}
-use mathlib.Core.List.{List, [], _∷_}
+use mathlib.Core.List.{List, _∷_}
 use native.Mathlib.Omega.{arith}
 use native.Mathlib.Numerals.{add-one}
 use lib.ListN.{length, getD, set, take, drop, length-append}
 use lib.Seq.{take-at, drop-cons, drop-length}
-use lib.Dec.{eqb}
-use borrow.Author.Tests.{eq-eqb, ne-eqb, lt-ltb, le-ltb, eqb-true}
 use Rattle.refusal.specs.Number.{bufferTooSmall}
-use Rattle.refusal.specs.Cause.{_when_, firstOf}
-use Rattle.refusal.proofs.Order.{first-stops, first-goes}
+use Rattle.refusal.specs.Cause.{firstOf}
 use Rattle.wire.specs.Number.{puts}
 use Rattle.wire.proofs.Puts.{puts-front}
 use Rattle.turn.specs.Turn.{rowNumbers}
 use Rattle.sheet.specs.declared.kind.Kind.{Kind}
 use Rattle.sheet.specs.declared.answer.ReadAnswer.{ReadAnswer}
 use Rattle.sheet.specs.Kind.{mostTurns, garage, Sound}
-use Rattle.sheet.specs.Read.{turnCount, tableOf, causesFor, readCausesFor, Outcome, outcome, readRefused, readAnswer, answerFor, readFor, sheetCauses, answerOf, readOf}
+use Rattle.sheet.specs.Read.{turnCount, tableOf, causesFor, readCausesFor, readRefused, readAnswer, answerFor, readFor, sheetCauses, answerOf, readOf, Reading}
 use Rattle.refusal.specs.Written.{atFront}
 use Rattle.sheet.proofs.SoundKinds.{garage-sound, garage-given}
 use Rattle.sheet.proofs.Readings.{causes-numbered}
 use Rattle.sheet.proofs.Tables.{table-length}
 use Rattle.sheet.proofs.Unrefused.{legal-header}
+use Rattle.refusal.specs.Outcome.{beside}
+use Rattle.refusal.proofs.Outcome.{number-first, unless-none, unless-first, room-stopped, room-short, room-enough}
 
 -- ---- the answer
 
 module _ (K : Kind) (s : List ℕ) {a : ReadAnswer} (e : a ≡ answerFor K s) where
   pub whole-refusal-for : a .refusal ≡ firstOf (causesFor K s)
   unfolding answerFor
-  whole-refusal-for = ap (λ (x : ReadAnswer). x .refusal) e ∙ go (eqb (firstOf (causesFor K s)) 0) refl
-    where
-      go : (b : Bool) → eqb (firstOf (causesFor K s)) 0 ≡ b → cond b (readAnswer s) (readRefused (firstOf (causesFor K s))) .refusal ≡ firstOf (causesFor K s)
-      go true q = sym (eqb-true (firstOf (causesFor K s)) 0 q)
-      go false q = refl
+  whole-refusal-for = ap (λ (x : ReadAnswer). x .refusal) e ∙ number-first (causesFor K s) (readAnswer s) readRefused (λ (x : ReadAnswer). x .refusal) refl (λ k. refl)
 
   module _ (z : a .refusal ≡ 0) where
     pub whole-accepted-for : firstOf (causesFor K s) ≡ 0
@@ -42,7 +36,7 @@ module _ (K : Kind) (s : List ℕ) {a : ReadAnswer} (e : a ≡ answerFor K s) wh
 
     pub whole-answer-for : a ≡ readAnswer s
     unfolding answerFor
-    whole-answer-for = e ∙ rw (eq-eqb (firstOf (causesFor K s)) 0 whole-accepted-for)
+    whole-answer-for = e ∙ unless-none (causesFor K s) (readAnswer s) readRefused whole-accepted-for
 
     pub whole-turns-for : a .turns ≡ turnCount s
     whole-turns-for = ap (λ (x : ReadAnswer). x .turns) whole-answer-for
@@ -74,30 +68,28 @@ module _ (l numbers : List ℕ) (i : ℕ) where
 pub ruleset front-cases = (front-more, front-done)
 
 module _ (K : Kind) (s lent : List ℕ) {a : ReadAnswer} (e : a ≡ answerFor K s) where
-  pub read-fault : (a .refusal ≡ 0 → ⊥) → outcome a lent ≡ readFor K s lent
+  pub read-fault : (a .refusal ≡ 0 → ⊥) → beside a lent ≡ readFor K s lent
   unfolding readFor readCausesFor answerFor
   read-fault z =
       let f : firstOf (causesFor K s) ≡ a .refusal = sym (whole-refusal-for K s e) in
-      let g : a ≡ readRefused (a .refusal) = e ∙ rw (f, ne-eqb (a .refusal) 0 z) in
-      ap (λ (x : ReadAnswer). outcome x lent) g ∙ rw (first-stops (causesFor K s) (bufferTooSmall when _ ∷ []) (a .refusal) f z, ne-eqb (a .refusal) 0 z)
+      let g : a ≡ readRefused (a .refusal) = e ∙ unless-first (causesFor K s) (readAnswer s) readRefused (a .refusal) f z in
+      ap (λ (x : ReadAnswer). beside x lent) g ∙ sym (room-stopped (causesFor K s) (rowNumbers * turnCount s) (length lent) (beside (readAnswer s) (atFront (tableOf s) lent)) (λ k. beside (readRefused k) lent) (a .refusal) f z)
 
   module _ (sound : Sound K) (z : a .refusal ≡ 0) where
-    pub read-small : {x : ReadAnswer} → length lent < rowNumbers * a .turns → x ≡ readRefused bufferTooSmall → outcome x lent ≡ readFor K s lent
-    unfolding readFor readCausesFor firstOf
+    pub read-small : {x : ReadAnswer} → length lent < rowNumbers * a .turns → x ≡ readRefused bufferTooSmall → beside x lent ≡ readFor K s lent
+    unfolding readFor readCausesFor
     read-small l x =
         let n = causes-numbered K (sound .numbers) s in
-        rw (x, first-goes (causesFor K s) (bufferTooSmall when _ ∷ []) n (whole-accepted-for K s e z), ← whole-turns-for K s e z, lt-ltb (length lent) (rowNumbers * a .turns) l)
+        rw x (sym (room-short (causesFor K s) (rowNumbers * turnCount s) (length lent) _ _ n (whole-accepted-for K s e z) (omega (arith, whole-turns-for K s e z))))
 
     pub read-done : (zeros : List ℕ) {t u : List ℕ} → rowNumbers * a .turns ≤ length lent → (a .refusal ≡ 0 → t ≡ atFront (tableOf s) zeros) → u ≡ puts lent 0 (take (rowNumbers * a .turns) t)
-        → outcome a u ≡ readFor K s lent
-    unfolding readFor readCausesFor firstOf
+        → beside a u ≡ readFor K s lent
+    unfolding readFor readCausesFor
     read-done zeros {t} {u} l w p =
         let room : length (tableOf s) ≤ length lent = omega (arith, table-length s, whole-turns-for K s e z) in
         let q : u ≡ atFront (tableOf s) lent = p ∙ rw (whole-table-for K s e z zeros w) (puts-front (tableOf s) lent room) in
         let n = causes-numbered K (sound .numbers) s in
-        let c : firstOf (readCausesFor K s (length lent)) ≡ 0 =
-        first-goes (causesFor K s) (bufferTooSmall when _ ∷ []) n (whole-accepted-for K s e z) ∙ rw (← whole-turns-for K s e z, le-ltb (length lent) (rowNumbers * a .turns) l) in
-        ap (λ (x : ReadAnswer). outcome x u) (whole-answer-for K s e z) ∙ rw (q, c)
+        rw (q, whole-answer-for K s e z) (sym (room-enough (causesFor K s) (rowNumbers * turnCount s) (length lent) _ _ n (whole-accepted-for K s e z) (omega (arith, whole-turns-for K s e z))))
 
 pub ruleset read-cases = (read-fault, read-small)
 
@@ -142,7 +134,7 @@ module _ (s : List ℕ) {K : Kind} (k : K ≡ garage) where
   unfolding answerOf
   answer-garage e = e ∙ rw k
 
-  pub read-garage : (lent : List ℕ) {x : Outcome} → x ≡ readFor K s lent → x ≡ readOf s lent
+  pub read-garage : (lent : List ℕ) {x : Reading} → x ≡ readFor K s lent → x ≡ readOf s lent
   unfolding readOf
   read-garage lent e = e ∙ rw k
 

@@ -5,7 +5,7 @@ use mathlib.Core.Logic.{_≢_, _⊎_}
 use mathlib.Core.List.{List, [], _∷_, _++_}
 use mathlib.Core.Bool.{Bool, true, false}
 use lib.ListN.{length, take}
-use Rattle.refusal.specs.Number.{truncated, badMagic, badMap, badTime, badWorth, badDriver, trailingBytes, bufferTooSmall}
+use Rattle.refusal.specs.Number.{truncated, badMagic, badMap, badTime, badWorth, badDriver, trailingBytes}
 pub use Rattle.refusal.specs.Cause.{FirstAmong}
 use Rattle.turn.specs.declared.Turn.{Turn}
 use Rattle.turn.specs.declared.Counts.{Counts}
@@ -17,6 +17,7 @@ use Rattle.sheet.specs.Kind.{garage}
 use Rattle.sheet.specs.Record.{widthOf, mapAt, turnAt, cursorAfter, firstCursor}
 use Rattle.sheet.specs.Read.{headerBytes, countsIn, turnCount}
 use Rattle.sheet.specs.Layout.{recordOf, headerFor}
+use Rattle.refusal.specs.Words.{ThenRoom, Only, Then}
 
 -- ---- accepted
 
@@ -114,10 +115,13 @@ pub data CauseFor (K : Kind) (s : List ℕ) : ℕ → ℕ → Type 0 where
   driver : (i : ℕ) → i < turnCount s → mostDriver < turnOf s i .driver → CauseFor K s badDriver (placeOf i 7)
   bytes-behind : cursorOf s (turnCount s) .at < length s → CauseFor K s trailingBytes (placeOf (turnCount s) 0)
 
+-- one of the sheet's, and behind them all one more
+abbrev pub MoreCauseFor : Kind → List ℕ → ℕ → Type 0 → ℕ → ℕ → Type 0
+MoreCauseFor K s n P = Then (CauseFor K s) (placeOf (turnCount s) 1) (Only n P)
+
 -- a cause to refuse s with a lent buffer of so many places: one of the sheet's, and after them all that the buffer is shorter than the need
-pub data LentCauseFor (K : Kind) (s : List ℕ) (need places : ℕ) : ℕ → ℕ → Type 0 where
-  of-sheet : {k r : ℕ} → CauseFor K s k r → LentCauseFor K s need places k r
-  too-small : places < need → LentCauseFor K s need places bufferTooSmall (placeOf (turnCount s) 1)
+abbrev pub LentCauseFor : Kind → List ℕ → ℕ → ℕ → ℕ → ℕ → Type 0
+LentCauseFor K s = ThenRoom (CauseFor K s) (placeOf (turnCount s) 1)
 
 -- the reader needs a row of places a turn
 abbrev pub ReadCauseFor : Kind → List ℕ → ℕ → ℕ → ℕ → Type 0
@@ -128,6 +132,10 @@ ReadCauseFor K s places = LentCauseFor K s (rowNumbers * turnCount s) places
 -- its causes
 abbrev pub SheetCause : List ℕ → ℕ → ℕ → Type 0
 SheetCause = CauseFor garage
+
+-- with one more
+abbrev pub MoreCause : List ℕ → ℕ → Type 0 → ℕ → ℕ → Type 0
+MoreCause = MoreCauseFor garage
 
 -- with those of a lent buffer
 abbrev pub LentCause : List ℕ → ℕ → ℕ → ℕ → ℕ → Type 0

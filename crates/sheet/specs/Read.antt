@@ -1,11 +1,11 @@
 -- A whole sheet, read (document 01: the sheet, refusals 1 to 11). Assumes nothing.
 use Prim.Native.Nat.{ℕ, zero, suc, _*_}
 use mathlib.Core.List.{List, [], _∷_, _++_}
-use mathlib.Core.Bool.{not, cond}
+use mathlib.Core.Bool.{not}
 use lib.ListN.{length}
-use lib.Dec.{ltb, eqb}
-use Rattle.refusal.specs.Number.{truncated, badMagic, trailingBytes, bufferTooSmall}
-use Rattle.refusal.specs.Cause.{Cause, _when_, firstOf}
+use lib.Dec.{ltb}
+use Rattle.refusal.specs.Number.{truncated, badMagic, trailingBytes}
+use Rattle.refusal.specs.Cause.{Cause, _when_}
 use Rattle.wire.specs.Number.{valueAt}
 use Rattle.wire.specs.Mark.{opensWith}
 use Rattle.turn.specs.declared.Turn.{Turn}
@@ -19,6 +19,7 @@ use Rattle.sheet.specs.declared.answer.ReadAnswer.{ReadAnswer}
 use Rattle.sheet.specs.Kind.{garage}
 use Rattle.sheet.specs.Record.{recordCauses, turnAt, cursorAfter, firstCursor}
 use Rattle.refusal.specs.Written.{atFront}
+use Rattle.refusal.specs.Outcome.{Outcome, beside, unless, thenRoom}
 
 -- the bytes before the first record
 abbrev pub headerBytes : ℕ
@@ -49,7 +50,7 @@ headerCauses K s =
 
 -- a header's answer, by its case: the counts, or the number of the first cause
 abbrev pub headerAnswer : List Cause → List ℕ → Header
-headerAnswer causes s = let f = firstOf causes in cond (eqb f 0) (Found (countsIn s) (turnCount s)) (Refused f)
+headerAnswer causes s = unless causes (Found (countsIn s) (turnCount s)) Refused
 
 -- reading the header: its counts and turns, or the first cause
 unfoldable pub headerOf : Kind → List ℕ → Header
@@ -87,16 +88,11 @@ causesFor K s = headerCauses K s ++ recordsCauses K (turnCount s) s (countsIn s)
 
 -- and last the lent table
 unfoldable pub readCausesFor : Kind → List ℕ → ℕ → List Cause
-readCausesFor K s places = causesFor K s ++ bufferTooSmall when ltb places (rowNumbers * turnCount s) ∷ []
+readCausesFor K s places = thenRoom (causesFor K s) (rowNumbers * turnCount s) places
 
 -- what is returned, and what the lent table holds then
-pub record Outcome : Type 0 where
-  pub answer : ReadAnswer
-  pub table : List ℕ
-
--- an answer beside the table
-abbrev pub outcome : ReadAnswer → List ℕ → Outcome
-outcome answer table = record { answer = answer; table = table }
+abbrev pub Reading : Type 0
+Reading = Outcome ReadAnswer (List ℕ)
 
 -- a refusal returns its number and no counts
 abbrev pub readRefused : ℕ → ReadAnswer
@@ -108,14 +104,11 @@ readAnswer s = record { refusal = 0; groomers = countsIn s .groomers; slopes = c
 
 -- the answer where the table has places for every sheet: no cause but the sheet's own
 unfoldable pub answerFor : Kind → List ℕ → ReadAnswer
-answerFor K s = let f = firstOf (causesFor K s) in cond (eqb f 0) (readAnswer s) (readRefused f)
+answerFor K s = unless (causesFor K s) (readAnswer s) readRefused
 
 -- on success the table, then what was there; on a refusal all as before
-unfoldable pub readFor : Kind → List ℕ → List ℕ → Outcome
-readFor K s lent =
-    let f = firstOf (readCausesFor K s (length lent)) in
-    let table = tableOf s in
-    cond (eqb f 0) (outcome (readAnswer s) (atFront table lent)) (outcome (readRefused f) lent)
+unfoldable pub readFor : Kind → List ℕ → List ℕ → Reading
+readFor K s lent = unless (readCausesFor K s (length lent)) (beside (readAnswer s) (atFront (tableOf s) lent)) (λ k. beside (readRefused k) lent)
 
 -- ---- the garage's sheet
 
@@ -132,5 +125,5 @@ unfoldable pub answerOf : List ℕ → ReadAnswer
 answerOf = answerFor garage
 
 -- reading it
-unfoldable pub readOf : List ℕ → List ℕ → Outcome
+unfoldable pub readOf : List ℕ → List ℕ → Reading
 readOf = readFor garage

@@ -5,7 +5,7 @@ use mathlib.Core.Bool.{Bool, true, false, not, _&&_, cond}
 use lib.ListN.{length, getD}
 use lib.Dec.{ltb, leb, eqb}
 use Rattle.refusal.specs.Number.{truncated, badMap}
-use Rattle.refusal.specs.Cause.{Cause, _when_, firstOf}
+use Rattle.refusal.specs.Cause.{Cause, _when_}
 use Rattle.wire.specs.Number.{valueAt}
 use Rattle.turn.specs.declared.Turn.{Turn}
 use Rattle.turn.specs.declared.Counts.{Counts}
@@ -15,6 +15,7 @@ use Rattle.sheet.specs.declared.kind.Kind.{Kind}
 use Rattle.sheet.specs.declared.record.Cursor.{Cursor}
 use Rattle.sheet.specs.declared.record.Next.{Next}
 use Rattle.sheet.specs.declared.record.Next.the-variants.{Read, Refused}
+use Rattle.refusal.specs.Outcome.{unless}
 
 -- the bytes of the fields that a map names: slope 1, groomer 1, start 2, length 2, worth 2, driver 1
 unfoldable pub widthOf : ℕ → ℕ
@@ -70,7 +71,7 @@ recordCauses K s limits c =
 
 -- the reader's next answer, by its case: the turn and the cursor behind it, or the number of the first cause
 unfoldable pub nextOf : Kind → List ℕ → Counts → Cursor → Next
-nextOf K s limits c = let f = firstOf (recordCauses K s limits c) in cond (eqb f 0) (Read (turnAt s c) (cursorAfter s c)) (Refused f)
+nextOf K s limits c = unless (recordCauses K s limits c) (Read (turnAt s c) (cursorAfter s c)) Refused
 
 -- before the first record: the seven bytes of the header are read, and there is no turn to carry
 unfoldable pub firstCursor : Cursor

@@ -7,7 +7,7 @@ use Rattle.refusal.specs.Number.{tooManyForScreen}
 use Rattle.turn.specs.Turn.{rowNumbers}
 use Rattle.sheet.specs.declared.kind.Kind.{Kind}
 use Rattle.sheet.specs.Kind.{garage, withTurns}
-use Rattle.sheet.specs.Read.{Outcome, readFor}
+use Rattle.sheet.specs.Read.{readFor, Reading}
 use Rattle.sheet.specs.Accepted.{AcceptedFor, ReadCauseFor, FirstAmong}
 
 -- the most turns that the screen shows
@@ -19,7 +19,7 @@ unfoldable pub liftDesk : Kind
 liftDesk = withTurns garage screenTurns tooManyForScreen
 
 -- reading it
-unfoldable pub readShortOf : List ℕ → List ℕ → Outcome
+unfoldable pub readShortOf : List ℕ → List ℕ → Reading
 readShortOf = readFor liftDesk
 
 -- ---- as statements
@@ -33,11 +33,11 @@ abbrev pub FirstShortCause : List ℕ → ℕ → ℕ → Type 0
 FirstShortCause s places k = FirstAmong (ReadCauseFor liftDesk s places) k
 
 -- two readings, into the lent tables a and b, say the same
-pub record ReadAlike (p q : Outcome) (a b : List ℕ) : Type 0 where
+pub record ReadAlike (p q : Reading) (a b : List ℕ) : Type 0 where
   -- one answer
   pub one-answer : p .answer ≡ q .answer
   -- the same numbers in front, a row for each turn of the answer
-  pub same-rows : take (rowNumbers * p .answer .turns) (p .table) ≡ take (rowNumbers * q .answer .turns) (q .table)
+  pub same-rows : take (rowNumbers * p .answer .turns) (p .lent) ≡ take (rowNumbers * q .answer .turns) (q .lent)
   -- behind them either table is as it was
-  pub first-behind : drop (rowNumbers * p .answer .turns) (p .table) ≡ drop (rowNumbers * p .answer .turns) a
-  pub second-behind : drop (rowNumbers * q .answer .turns) (q .table) ≡ drop (rowNumbers * q .answer .turns) b
+  pub first-behind : drop (rowNumbers * p .answer .turns) (p .lent) ≡ drop (rowNumbers * p .answer .turns) a
+  pub second-behind : drop (rowNumbers * q .answer .turns) (q .lent) ≡ drop (rowNumbers * q .answer .turns) b

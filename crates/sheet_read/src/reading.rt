@@ -7,8 +7,9 @@ ghost use Rattle.wire.specs.Number.{puts};
 ghost use Rattle.turn.specs.Turn.{rowNumbers, rowOf, rows, Numbered};
 ghost use Rattle.sheet.specs.Kind.{tablePlaces, Sound};
 ghost use Rattle.sheet.specs.Record.{firstCursor};
-ghost use Rattle.sheet.specs.Read.{recordsCauses, turnsFrom, tableOf, readRefused, answerFor, answerOf, readFor, readOf, outcome};
+ghost use Rattle.sheet.specs.Read.{recordsCauses, turnsFrom, tableOf, readRefused, answerFor, answerOf, readFor, readOf};
 ghost use Rattle.refusal.specs.Written.{atFront};
+ghost use Rattle.refusal.specs.Outcome.{beside};
 use super::header::read_header;
 use super::kind::garage;
 use sheet::Cursor;
@@ -127,7 +128,7 @@ pub fn read_table_of(kind: Kind, s: &[u8], table: &mut [u16]) -> ReadAnswer
     }
 }
 
-// The garage's sheet, likewise, and likewise no entry.
+// Reads any bytes as the garage's sheet, as read_table_of does a sheet of any kind.
 pub fn read_table(s: &[u8], table: &mut [u16]) -> ReadAnswer
     requires { ⌜ tablePlaces ≤ length (now table) ⌝ }
     ensures { λ r. ⌜ (r ≡ answerOf (now (s .entry))) × (r .refusal ≡ 0 → now (table .exit) ≡ atFront (tableOf (now (s .entry))) (now (table .entry))) ⌝ }
@@ -135,7 +136,7 @@ pub fn read_table(s: &[u8], table: &mut [u16]) -> ReadAnswer
     read_table_of(garage(), s, &mut *table)
 }
 
-// Numbers copied to the front of a table.
+// Copies numbers to the front of a table.
 fn put_numbers(table: &mut [u16], numbers: &[u16])
     requires { ⌜ length (now numbers) ≤ length (now table) ⌝ }
     ensures { λ _. ⌜ now (table .exit) ≡ puts (now (table .entry)) 0 (now (numbers .entry)) ⌝ }
@@ -152,7 +153,7 @@ fn put_numbers(table: &mut [u16], numbers: &[u16])
 // refusal.
 pub fn read_as(kind: Kind, s: &[u8], table: &mut [u16]) -> ReadAnswer
     requires { ⌜ Sound kind ⌝ }
-    ensures { λ r. ⌜ outcome r (now (table .exit)) ≡ readFor kind (now (s .entry)) (now (table .entry)) ⌝ }
+    ensures { λ r. ⌜ beside r (now (table .exit)) ≡ readFor kind (now (s .entry)) (now (table .entry)) ⌝ }
 {
     let mut own = [0u16; TABLE_PLACES];
     let r = read_table_of(kind, s, &mut own);
@@ -167,9 +168,9 @@ pub fn read_as(kind: Kind, s: &[u8], table: &mut [u16]) -> ReadAnswer
     r
 }
 
-// Reads any bytes as the garage's sheet, likewise.
+// Reads any bytes as the garage's sheet into any lent table.
 pub fn read(s: &[u8], table: &mut [u16]) -> ReadAnswer
-    ensures { λ r. ⌜ outcome r (now (table .exit)) ≡ readOf (now (s .entry)) (now (table .entry)) ⌝ }
+    ensures { λ r. ⌜ beside r (now (table .exit)) ≡ readOf (now (s .entry)) (now (table .entry)) ⌝ }
 {
     read_as(garage(), s, &mut *table)
 }

@@ -1,7 +1,7 @@
 // The lift desk's reader: the garage's, with a smaller limit on turns.
 ghost use mathlib.Core.Path.{_≡_};
-ghost use Rattle.sheet.specs.Read.{outcome};
 ghost use Rattle.sheet.specs.Screen.{liftDesk, readShortOf};
+ghost use Rattle.refusal.specs.Outcome.{beside};
 use sheet::Kind;
 use sheet::Most;
 use sheet::ReadAnswer;
@@ -38,7 +38,7 @@ fn lift_desk() -> Kind
 
 // Reads any bytes as a sheet for the screen into any lent table.
 pub fn read_short(s: &[u8], table: &mut [u16]) -> ReadAnswer
-    ensures { λ r. ⌜ outcome r (now (table .exit)) ≡ readShortOf (now (s .entry)) (now (table .entry)) ⌝ }
+    ensures { λ r. ⌜ beside r (now (table .exit)) ≡ readShortOf (now (s .entry)) (now (table .entry)) ⌝ }
 {
     sheet_read::read_as(lift_desk(), s, &mut *table)
 }

@@ -2,20 +2,16 @@
 // leave as a part of a slice, have their place and length.
 ghost use mathlib.Core.Path.{_≡_};
 ghost use lib.ListN.{take, drop};
-ghost use Rattle.sheet.specs.Read.{readOf, outcome};
+ghost use Rattle.sheet.specs.Read.{readOf};
 ghost use Rattle.write_spec.specs.Write.{countsOf, writeOf};
-ghost use Rattle.write_spec.specs.Answer.{written};
 ghost use Rattle.board_open.specs.Open.{openOf, stepsPart};
 ghost use Rattle.board_open.specs.Chosen.{countOf, turnChosen};
 ghost use Rattle.check_spec.specs.Check.{checkOf};
-ghost use Rattle.plan_spec.specs.Answer.{planned};
 ghost use Rattle.plan_spec.specs.Plan.{planOf};
-ghost use Rattle.listing_spec.specs.Answer.{listed};
 ghost use Rattle.listing_spec.specs.List.{listOf};
-ghost use Rattle.assign_spec.specs.Partition.{partitioned, partitionOf};
+ghost use Rattle.assign_spec.specs.Assign.{assignOf};
 ghost use Rattle.sheet.specs.Screen.{readShortOf};
 ghost use Rattle.trial_spec.specs.Trial.{drawOf};
-ghost use Rattle.best_spec.specs.Answer.{earned};
 ghost use Rattle.best_spec.specs.Exact.{exactOf};
 ghost use Rattle.price_spec.specs.Limit.{limitOf};
 ghost use Rattle.refine_spec.specs.Refine.{refineOf};
@@ -23,40 +19,37 @@ ghost use Rattle.hall_price_spec.specs.Limit.{chargeLimitOf};
 ghost use Rattle.hall_price_spec.specs.Refine.{chargeRefineOf};
 ghost use Rattle.hall_price_spec.specs.Answer.{chargeRefinedBy};
 ghost use Rattle.refine_spec.specs.Answer.{refinedBy};
-ghost use Rattle.search_spec.specs.Answer.{improved};
 ghost use Rattle.search_spec.specs.Improve.{improveOf};
 ghost use Rattle.archive_spec.specs.Archive.{keepOf, restoreOf};
-ghost use Rattle.play_spec.specs.Play.{played, playOf};
-ghost use Rattle.hall_spec.specs.Answer.{charged};
+ghost use Rattle.play_spec.specs.Play.{playOf};
 ghost use Rattle.hall_spec.specs.Charge.{chargeOf};
 ghost use Rattle.board_open.specs.Part.{stepsPartAt};
-use assign_spec::PartitionAnswer;
+ghost use Rattle.refusal.specs.Outcome.{beside};
+use assign_spec::AssignAnswer;
 use best_spec::BestAnswer;
 use board_open::CountAnswer;
 use board_open::Part;
 use check_spec::CheckAnswer;
 use hall_price_spec::ChargeRefineAnswer;
 use hall_spec::ChargeAnswer;
-use listing_spec::ListAnswer;
-use plan_spec::PlanAnswer;
 use play_spec::PlayAnswer;
 use play_spec::Standing;
 use price_spec::LimitAnswer;
 use refine_spec::RefineAnswer;
+use refusal::WriteAnswer;
 use search_spec::Improved;
 use sheet::ReadAnswer;
-use write_spec::WriteAnswer;
 
 #[no_mangle]
 pub extern "C" fn slopeboard_read(sheet: &[u8], table: &mut [u16]) -> ReadAnswer
-    ensures { λ r. ⌜ outcome r (now (table .exit)) ≡ readOf (now (sheet .entry)) (now (table .entry)) ⌝ }
+    ensures { λ r. ⌜ beside r (now (table .exit)) ≡ readOf (now (sheet .entry)) (now (table .entry)) ⌝ }
 {
     sheet_read::read(sheet, &mut *table)
 }
 
 #[no_mangle]
 pub extern "C" fn slopeboard_read_short(sheet: &[u8], table: &mut [u16]) -> ReadAnswer
-    ensures { λ r. ⌜ outcome r (now (table .exit)) ≡ readShortOf (now (sheet .entry)) (now (table .entry)) ⌝ }
+    ensures { λ r. ⌜ beside r (now (table .exit)) ≡ readShortOf (now (sheet .entry)) (now (table .entry)) ⌝ }
 {
     sheet_read_short::read_short(sheet, &mut *table)
 }
@@ -68,7 +61,7 @@ pub extern "C" fn slopeboard_write(
     table: &[u16],
     bytes: &mut [u8],
 ) -> WriteAnswer
-    ensures { λ r. ⌜ written r (now (bytes .exit)) ≡ writeOf (countsOf groomers slopes) (now (table .entry)) (now (bytes .entry)) ⌝ }
+    ensures { λ r. ⌜ beside r (now (bytes .exit)) ≡ writeOf (countsOf groomers slopes) (now (table .entry)) (now (bytes .entry)) ⌝ }
 {
     write::write(groomers, slopes, table, &mut *bytes)
 }
@@ -118,56 +111,56 @@ pub extern "C" fn slopeboard_draw(
     turns: u32,
     bytes: &mut [u8],
 ) -> WriteAnswer
-    ensures { λ r. ⌜ written r (now (bytes .exit)) ≡ drawOf seed (countsOf groomers slopes) turns (now (bytes .entry)) ⌝ }
+    ensures { λ r. ⌜ beside r (now (bytes .exit)) ≡ drawOf seed (countsOf groomers slopes) turns (now (bytes .entry)) ⌝ }
 {
     trial::draw(seed, groomers, slopes, turns, &mut *bytes)
 }
 
 #[no_mangle]
-pub extern "C" fn slopeboard_plan(sheet: &[u8], board: &mut [u8]) -> PlanAnswer
-    ensures { λ r. ⌜ planned r (now (board .exit)) ≡ planOf (now (sheet .entry)) (now (board .entry)) ⌝ }
+pub extern "C" fn slopeboard_plan(sheet: &[u8], board: &mut [u8]) -> WriteAnswer
+    ensures { λ r. ⌜ beside r (now (board .exit)) ≡ planOf (now (sheet .entry)) (now (board .entry)) ⌝ }
 {
     plan::plan(sheet, &mut *board)
 }
 
 #[no_mangle]
-pub extern "C" fn slopeboard_list(sheet: &[u8], text: &mut [u8]) -> ListAnswer
-    ensures { λ r. ⌜ listed r (now (text .exit)) ≡ listOf (now (sheet .entry)) (now (text .entry)) ⌝ }
+pub extern "C" fn slopeboard_list(sheet: &[u8], text: &mut [u8]) -> WriteAnswer
+    ensures { λ r. ⌜ beside r (now (text .exit)) ≡ listOf (now (sheet .entry)) (now (text .entry)) ⌝ }
 {
     listing::list(sheet, &mut *text)
 }
 
 #[no_mangle]
-pub extern "C" fn slopeboard_assign(sheet: &[u8], places: &mut [u16]) -> PartitionAnswer
-    ensures { λ r. ⌜ partitioned r (now (places .exit)) ≡ partitionOf (now (sheet .entry)) (now (places .entry)) ⌝ }
+pub extern "C" fn slopeboard_assign(sheet: &[u8], places: &mut [u16]) -> AssignAnswer
+    ensures { λ r. ⌜ beside r (now (places .exit)) ≡ assignOf (now (sheet .entry)) (now (places .entry)) ⌝ }
 {
     assign::assign(sheet, &mut *places)
 }
 
 #[no_mangle]
 pub extern "C" fn slopeboard_best(sheet: &[u8], map: &mut [u8]) -> BestAnswer
-    ensures { λ r. ⌜ earned r (now (map .exit)) ≡ exactOf (now (sheet .entry)) (now (map .entry)) ⌝ }
+    ensures { λ r. ⌜ beside r (now (map .exit)) ≡ exactOf (now (sheet .entry)) (now (map .entry)) ⌝ }
 {
     best::best(sheet, &mut *map)
 }
 
 #[no_mangle]
 pub extern "C" fn slopeboard_improve(sheet: &[u8], visits: u64, map: &mut [u8]) -> Improved
-    ensures { λ r. ⌜ improved r (now (map .exit)) ≡ improveOf (now (sheet .entry)) visits (now (map .entry)) ⌝ }
+    ensures { λ r. ⌜ beside r (now (map .exit)) ≡ improveOf (now (sheet .entry)) visits (now (map .entry)) ⌝ }
 {
     improve::improve(sheet, visits, &mut *map)
 }
 
 #[no_mangle]
 pub extern "C" fn slopeboard_keep(sheet: &[u8], kept: &mut [u8]) -> WriteAnswer
-    ensures { λ r. ⌜ written r (now (kept .exit)) ≡ keepOf (now (sheet .entry)) (now (kept .entry)) ⌝ }
+    ensures { λ r. ⌜ beside r (now (kept .exit)) ≡ keepOf (now (sheet .entry)) (now (kept .entry)) ⌝ }
 {
     archive::keep(sheet, &mut *kept)
 }
 
 #[no_mangle]
 pub extern "C" fn slopeboard_restore(kept: &[u8], sheet: &mut [u8]) -> WriteAnswer
-    ensures { λ r. ⌜ written r (now (sheet .exit)) ≡ restoreOf (now (kept .entry)) (now (sheet .entry)) ⌝ }
+    ensures { λ r. ⌜ beside r (now (sheet .exit)) ≡ restoreOf (now (kept .entry)) (now (sheet .entry)) ⌝ }
 {
     archive::restore(kept, &mut *sheet)
 }
@@ -179,14 +172,14 @@ pub extern "C" fn slopeboard_play<'a>(
     delays: &'a [u16],
     list: &mut [Standing],
 ) -> PlayAnswer
-    ensures { λ r. ⌜ played r (now (list .exit)) ≡ playOf (now (sheet .entry)) (now (board .entry)) (now (delays .entry)) (now (list .entry)) ⌝ }
+    ensures { λ r. ⌜ beside r (now (list .exit)) ≡ playOf (now (sheet .entry)) (now (board .entry)) (now (delays .entry)) (now (list .entry)) ⌝ }
 {
     play::play(sheet, board, delays, list)
 }
 
 #[no_mangle]
 pub extern "C" fn slopeboard_charge(sheet: &[u8], map: &mut [u8]) -> ChargeAnswer
-    ensures { λ r. ⌜ charged r (now (map .exit)) ≡ chargeOf (now (sheet .entry)) (now (map .entry)) ⌝ }
+    ensures { λ r. ⌜ beside r (now (map .exit)) ≡ chargeOf (now (sheet .entry)) (now (map .entry)) ⌝ }
 {
     hall::charge(sheet, &mut *map)
 }

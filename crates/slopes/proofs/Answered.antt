@@ -6,7 +6,6 @@ use native.Mathlib.Omega.{arith}
 use native.Mathlib.Decide.{ℕ-discrete}
 use lib.ListN.{length, take, drop, length-append}
 use lib.Seq.{take-at}
-use borrow.Author.Tests.{eq-eqb, ne-eqb}
 use Rattle.refusal.specs.Cause.{firstOf}
 use Rattle.refusal.specs.Written.{Written, wrote, kept}
 use Rattle.refusal.proofs.Written.{kept-before, wrote-enough}
@@ -15,13 +14,14 @@ use Rattle.wire.proofs.Puts.{puts-front, puts-length}
 use Rattle.sheet.specs.Read.{sheetCauses}
 use Rattle.sheet.proofs.Readings.{sheet-numbered}
 use Rattle.sheet.proofs.Prefix.{prefix-refusal, prefix-same}
-use Rattle.listing_spec.specs.declared.ListAnswer.{ListAnswer}
+use Rattle.refusal.specs.declared.WriteAnswer.{WriteAnswer}
 use Rattle.listing_spec.specs.Text.{refusedLine}
 use Rattle.listing_spec.specs.Limits.{inputBytes, listingBytes}
 use Rattle.listing_spec.specs.List.{sheetListing, listCauses, listOf}
-use Rattle.listing_spec.specs.Answer.{listed}
+use Rattle.refusal.specs.Outcome.{beside}
 use Rattle.listing_spec.proofs.Bytes.{listing-bytes}
 use Rattle.slopes.specs.Printed.{printed}
+use Rattle.refusal.proofs.Outcome.{unless-none, unless-first}
 
 -- ---- the two answers that there are, with room for every listing
 
@@ -34,20 +34,20 @@ module _ (s lent : List ℕ) (room : listingBytes ≤ length lent) where
   unfolding listOf listCauses
   list-refuses z = kept-before (sheetCauses s) _ _ lent (firstOf (sheetCauses s)) refl z
 
-  module _ {a : ListAnswer} {text : List ℕ} (e : listed a text ≡ listOf s lent) where
+  module _ {a : WriteAnswer} {text : List ℕ} (e : beside a text ≡ listOf s lent) where
     accepted : a .refusal ≡ 0 → firstOf (sheetCauses s) ≡ 0
     accepted f = go (ℕ-discrete (firstOf (sheetCauses s)) 0)
       where
         go : Dec (firstOf (sheetCauses s) ≡ 0) → firstOf (sheetCauses s) ≡ 0
         go (yes z) = z
-        go (no z) = absurd (z (sym (ap (λ (x : Written). x .refusal) (e ∙ list-refuses z)) ∙ f))
+        go (no z) = absurd (z (sym (ap (λ (x : Written). x .answer .refusal) (e ∙ list-refuses z)) ∙ f))
 
     module _ (f : a .refusal ≡ 0) where
-      found : listed a text ≡ wrote (sheetListing s) lent
+      found : beside a text ≡ wrote (sheetListing s) lent
       found = e ∙ list-fits (accepted f)
 
       bytes-are : a .bytes ≡ length (sheetListing s)
-      bytes-are = ap (λ (x : Written). x .bytes) found
+      bytes-are = ap (λ (x : Written). x .answer .bytes) found
 
       text-is : text ≡ sheetListing s ++ drop (length (sheetListing s)) lent
       text-is = ap (λ (x : Written). x .lent) found
@@ -57,17 +57,17 @@ module _ (s lent : List ℕ) (room : listingBytes ≤ length lent) where
 
       pub answer-listing : take (a .bytes) text ≡ printed s
       unfolding printed
-      answer-listing = rw (text-is, eq-eqb (firstOf (sheetCauses s)) 0 (accepted f)) (take-at (sheetListing s) (drop (length (sheetListing s)) lent) (a .bytes) (sym bytes-are))
+      answer-listing = rw text-is (take-at (sheetListing s) (drop (length (sheetListing s)) lent) (a .bytes) (sym bytes-are)) ∙ sym (unless-none (sheetCauses s) (sheetListing s) refusedLine (accepted f))
 
     module _ (f : a .refusal ≡ 0 → ⊥) where
       refused : firstOf (sheetCauses s) ≡ 0 → ⊥
-      refused z = f (ap (λ (x : Written). x .refusal) (e ∙ list-fits z))
+      refused z = f (ap (λ (x : Written). x .answer .refusal) (e ∙ list-fits z))
 
-      left : listed a text ≡ kept (firstOf (sheetCauses s)) lent
+      left : beside a text ≡ kept (firstOf (sheetCauses s)) lent
       left = e ∙ list-refuses refused
 
       number-is : a .refusal ≡ firstOf (sheetCauses s)
-      number-is = ap (λ (x : Written). x .refusal) left
+      number-is = ap (λ (x : Written). x .answer .refusal) left
 
       text-left : text ≡ lent
       text-left = ap (λ (x : Written). x .lent) left
@@ -80,8 +80,8 @@ module _ (s lent : List ℕ) (room : listingBytes ≤ length lent) where
         unfolding printed
         answer-refused =
             let l : length (refusedLine (a .refusal)) ≤ length text = omega (arith, n, m, ap length text-left) in
-            rw (p, puts-front (refusedLine (a .refusal)) text l, ne-eqb (firstOf (sheetCauses s)) 0 refused)
-            (take-at (refusedLine (a .refusal)) (drop (length (refusedLine (a .refusal))) text) r (sym n) ∙ ap refusedLine number-is)
+            rw (p, puts-front (refusedLine (a .refusal)) text l) (take-at (refusedLine (a .refusal)) (drop (length (refusedLine (a .refusal))) text) r (sym n))
+            ∙ sym (unless-first (sheetCauses s) (sheetListing s) refusedLine (a .refusal) (sym number-is) f)
 
 pub ruleset answer-cases = (answer-fits, answer-listing, line-fits, answer-refused)
 
@@ -89,7 +89,7 @@ pub ruleset answer-cases = (answer-fits, answer-listing, line-fits, answer-refus
 
 refused-prints : (s : List ℕ) (f : ℕ) → firstOf (sheetCauses s) ≡ f → (f ≡ 0 → ⊥) → printed s ≡ refusedLine f
 unfolding printed
-refused-prints s f e z = rw (e, ne-eqb f 0 z)
+refused-prints s = unless-first (sheetCauses s) (sheetListing s) refusedLine
 
 pub printed-first : (s : List ℕ) → printed (take inputBytes s) ≡ printed s
 printed-first s = go (ℕ-discrete (firstOf (sheetCauses s)) 0)

@@ -6,12 +6,10 @@ ghost use Rattle.listing_spec.specs.Limits.{inputBytes, listingBytes};
 ghost use Rattle.slopes.specs.Printed.{printed};
 use libc::STDIN_FILENO;
 use libc::STDOUT_FILENO;
+use listing::LISTING_BYTES;
 
 // One byte more than the longest sheet has: what is behind it changes no answer.
 const INPUT_BYTES: usize = 4008;
-
-// Places for every listing.
-const TEXT_BYTES: usize = 3823;
 
 // Puts what is to be printed for a sheet to the front of the text; returns its bytes.
 fn answer(sheet: &[u8], text: &mut [u8]) -> usize
@@ -37,7 +35,7 @@ fn gather(sheet: &mut [u8]) -> usize
 fn main() {
     let mut sheet = [0u8; INPUT_BYTES];
     let got = gather(&mut sheet);
-    let mut text = [0u8; TEXT_BYTES];
+    let mut text = [0u8; LISTING_BYTES];
     let bytes = answer(&sheet[..got], &mut text);
     io::write_all(STDOUT_FILENO, &text[..bytes]);
 }

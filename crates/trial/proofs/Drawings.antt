@@ -146,8 +146,8 @@ module _ (seed groomers slopes turns : ℕ) {f : ℕ} (e : f ≡ firstOf (seedCa
     pub counts-fit : Legal garage (countsOf groomers slopes) turns
     counts-fit = parts .1
 
-    pub seed-narrow : Fits w32 seed
-    seed-narrow = let h = parts .0 .to in record { fits = omega arith }
+    pub seed-in-word : Fits w32 seed
+    seed-in-word = let h = parts .0 .to in record { fits = omega arith }
 
     pub groomer-count-fits : Fits w16 groomers
     unfolding garage

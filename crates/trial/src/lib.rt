@@ -1,5 +1,5 @@
 // Drawn sheets: from a seed, turns by the generator of Park and Miller, and the sheet that the writer
-// makes of them. The same seed and counts give the same sheet on every box.
+// makes of them. The same seed and counts give the same sheet on every machine.
 ghost use mathlib.Core.Path.{_≡_};
 ghost use Prim.Native.Nat.{_+_, _*_, _%_, _≤_, _<_};
 ghost use lib.ListN.{length};
@@ -12,11 +12,11 @@ ghost use Rattle.write_spec.specs.Key.{keysOf};
 ghost use Rattle.write_spec.specs.Answer.{written};
 ghost use Rattle.trial_spec.specs.Draw.{drawModulus, lengthPlaces, nextDraw, drawNumber, drawnLength, fromOne, turnDrawn, turnDraws, turnAfter, drawnTurns, drawnTable, Drawable};
 ghost use Rattle.trial_spec.specs.Trial.{seedCauses, drawOf};
+use refusal::WriteAnswer;
 use sheet::MOST_TURNS;
 use turn::Counts;
 use turn::MOST_WORTH;
 use turn::Turn;
-use write_spec::WriteAnswer;
 
 // The generator: a draw times the factor, modulo a prime.
 const DRAW_FACTOR: u64 = 16807;

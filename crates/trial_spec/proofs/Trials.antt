@@ -7,20 +7,19 @@ use mathlib.Core.Logic.{_↔_}
 use native.Mathlib.Omega.{arith}
 use native.Mathlib.Decide.{ℕ-discrete}
 use lib.Dec.{ltb}
-use lib.ListN.{length, take}
-use lib.Seq.{take-append-seam}
+use lib.ListN.{length}
 use borrow.Author.Tests.{eq-eqb, le-ltb}
 use Rattle.refusal.specs.Number.{badSeed, bufferTooSmall}
 use Rattle.refusal.specs.Cause.{_when_, firstOf}
-use Rattle.refusal.specs.Written.{Written, atFront}
-use Rattle.refusal.proofs.Order.{numbered, first-stops, clear-cons}
-use Rattle.refusal.proofs.Written.{same-first, first-append, number-first, wrote-all, enough-iff}
+use Rattle.refusal.specs.Written.{Written, atFront, writtenPart}
+use Rattle.refusal.proofs.Order.{numbered, first-stops, clear-cons, first-append}
+use Rattle.refusal.proofs.Written.{written-number, written-bytes, written-same}
 use Rattle.turn.specs.declared.Counts.{Counts}
 use Rattle.turn.specs.Turn.{rowNumbers, rows, tableRows, outsideRange}
 use Rattle.turn.proofs.Rows.{rows-length, turns-rows}
 use Rattle.turn.proofs.Ranges.{inside-iff}
 use Rattle.sheet.specs.Kind.{garage}
-use Rattle.sheet.specs.Read.{countCauses, readOf, outcome}
+use Rattle.sheet.specs.Read.{countCauses, readOf}
 use Rattle.sheet.specs.Accepted.{Legal, SheetFor, Accepted}
 use Rattle.sheet.proofs.SoundKinds.{garage-sound}
 use Rattle.sheet.proofs.Headers.{counts-numbered, counts-legal, legal-counts}
@@ -34,6 +33,8 @@ use Rattle.trial_spec.specs.Draw.{mostDraw, drawnTurns, drawnTable, Draw
 use Rattle.trial_spec.specs.Trial.{drawnSheet, seedCauses, drawCauses, drawOf}
 use Rattle.trial_spec.specs.Promises.{DrawPromised}
 use Rattle.trial_spec.proofs.Draws.{drawn-all, drawn-length, drawn-fields}
+use Rattle.refusal.specs.Outcome.{beside}
+use Rattle.refusal.proofs.Outcome.{enough-iff}
 
 module _ (seed : ℕ) (counts : Counts) (turns : ℕ) where
   -- ---- the drawn table
@@ -86,7 +87,7 @@ module _ (seed : ℕ) (counts : Counts) (turns : ℕ) where
       let table = drawnTable turns counts seed in
       let small = bufferTooSmall when ltb (length lent) (length (drawnSheet seed counts turns)) ∷ [] in
       let e = first-append (seedCauses seed counts turns) (tableCauses counts table) small seed-numbered (table-numbered counts table) (seed-clear d ∙ sym drawn-causes) in
-      rw drawn-written (same-first (seedCauses seed counts turns ++ small) (drawnSheet seed counts turns) lent (tableCauses counts table ++ small) e)
+      rw drawn-written (written-same (seedCauses seed counts turns ++ small) (drawnSheet seed counts turns) lent (tableCauses counts table ++ small) e)
 
   -- nothing is wrong with a seed and counts just if the seed can be drawn and a header may name the counts
   pub seed-iff : (firstOf (seedCauses seed counts turns) ≡ 0) ↔ (Drawable seed × Legal garage counts turns)
@@ -109,20 +110,19 @@ module _ (seed : ℕ) (counts : Counts) (turns : ℕ) where
   drawn-accepted l = record { counts = counts; turns = sortedTurns (drawnTurns turns counts seed); sheet = drawn-sheet l }
 
   -- the number given is that of the first cause
-  pub draw-number : (lent : List ℕ) → drawOf seed counts turns lent .refusal ≡ firstOf (drawCauses seed counts turns (length lent))
+  pub draw-number : (lent : List ℕ) → drawOf seed counts turns lent .answer .refusal ≡ firstOf (drawCauses seed counts turns (length lent))
   unfolding drawOf
-  draw-number lent = number-first (drawCauses seed counts turns (length lent)) (drawnSheet seed counts turns) lent
+  draw-number lent = written-number (drawCauses seed counts turns (length lent)) (drawnSheet seed counts turns) lent
 
   -- what was written where nothing was refused is that sheet, whatever the lent bytes were: equal seeds and counts give equal bytes
-  pub drawn-bytes : (lent : List ℕ) → drawOf seed counts turns lent .refusal ≡ 0 → take (drawOf seed counts turns lent .bytes) (drawOf seed counts turns lent .lent) ≡ drawnSheet seed counts turns
+  pub drawn-bytes : (lent : List ℕ) → drawOf seed counts turns lent .answer .refusal ≡ 0 → writtenPart (drawOf seed counts turns lent) ≡ drawnSheet seed counts turns
   unfolding drawOf
-  drawn-bytes lent e =
-      rw (wrote-all (drawCauses seed counts turns (length lent)) (drawnSheet seed counts turns) lent (sym (draw-number lent) ∙ e)) (take-append-seam _ _)
+  drawn-bytes lent = written-bytes (drawCauses seed counts turns (length lent)) (drawnSheet seed counts turns) lent
 
   -- and read into any lent table long enough it gives these counts, the drawn turns in the written order, and the rest as it was
-  pub draw-then-read : (lent table : List ℕ) → drawOf seed counts turns lent .refusal ≡ 0 → rowNumbers * turns ≤ length table
-      → readOf (take (drawOf seed counts turns lent .bytes) (drawOf seed counts turns lent .lent)) table
-      ≡ outcome (record { refusal = 0; groomers = counts .groomers; slopes = counts .slopes; turns = turns }) (atFront (rows (sortedTurns (drawnTurns turns counts seed))) table)
+  pub draw-then-read : (lent table : List ℕ) → drawOf seed counts turns lent .answer .refusal ≡ 0 → rowNumbers * turns ≤ length table
+      → readOf (writtenPart (drawOf seed counts turns lent)) table
+      ≡ beside (record { refusal = 0; groomers = counts .groomers; slopes = counts .slopes; turns = turns }) (atFront (rows (sortedTurns (drawnTurns turns counts seed))) table)
   unfolding drawCauses
   draw-then-read lent table e h =
       let z = sym (draw-number lent) ∙ e in
@@ -132,7 +132,7 @@ module _ (seed : ℕ) (counts : Counts) (turns : ℕ) where
 
   -- ---- what is promised where nothing is refused
 
-  pub draw-promised : (lent : List ℕ) → drawOf seed counts turns lent .refusal ≡ 0 → DrawPromised seed counts turns lent
+  pub draw-promised : (lent : List ℕ) → drawOf seed counts turns lent .answer .refusal ≡ 0 → DrawPromised seed counts turns lent
   unfolding drawCauses
   draw-promised lent e =
       let z = sym (draw-number lent) ∙ e in
@@ -143,5 +143,5 @@ module _ (seed : ℕ) (counts : Counts) (turns : ℕ) where
         many = drawn-length turns counts seed;
         fields = λ k t h. drawn-fields turns counts seed k t h;
         as-written = w;
-        promised = write-promised counts (drawnTable turns counts seed) lent (sym (ap (λ (x : Written). x .refusal) w) ∙ e);
+        promised = write-promised counts (drawnTable turns counts seed) lent (sym (ap (λ (x : Written). x .answer .refusal) w) ∙ e);
       }

@@ -13,7 +13,8 @@ use Rattle.write_spec.specs.Write.{mapFor, recordsOf, sheetOf}
 use Rattle.trial_spec.specs.Draw.{nextDraw, drawNumber, drawnLength, turnDrawn, turnAfter, drawnTurns}
 use Rattle.trial_spec.specs.Trial.{seedCauses, drawCauses, drawOf}
 use Rattle.trial_spec.specs.Cases.{DrawCases}
+use Rattle.refusal.specs.Outcome.{unless}
 
 pub worked-draws : DrawCases
-unfolding firstOf writtenUnless insertBy sortBy outsideRange garage firstCursor countCauses recordOf numbersAtMost turnAtMost sortedTurns mapFor recordsOf sheetOf nextDraw drawNumber drawnLength turnDrawn turnAfter drawnTurns seedCauses drawCauses drawOf
+unfolding firstOf writtenUnless insertBy sortBy outsideRange garage firstCursor countCauses recordOf numbersAtMost turnAtMost sortedTurns mapFor recordsOf sheetOf nextDraw drawNumber drawnLength turnDrawn turnAfter drawnTurns seedCauses drawCauses drawOf unless
 worked-draws = record { seed-two = refl }

@@ -4,6 +4,7 @@ use mathlib.Core.Path.{_≡_}
 use mathlib.Core.List.{List, [], _∷_, _++_}
 use lib.ListN.{replicate}
 use Rattle.trial_spec.specs.Trial.{drawOf}
+use Rattle.refusal.specs.Outcome.{beside}
 
 -- Seed 2 draws 33614, 564950498, 1097816499, 1969887316, 140734213, and then 940422544, 202055088, 768218109, 770072199, 1866991771.
 -- With two groomers and three slopes turn 0 has slope 3, groomer 1, start 329, place 16 of a hundred and so 30 minutes, worth 34214;
@@ -13,4 +14,4 @@ seedTwo = 0x47 ∷ 0x52 ∷ 0x4D ∷ 0x02 ∷ 0x03 ∷ 0x00 ∷ 0x02 ∷ 0x1F �
 
 -- with one lent byte more than is written; the lent bytes hold 9 before
 pub record DrawCases : Type 0 where
-  pub seed-two : drawOf 2 (record { groomers = 2; slopes = 3 }) 2 (replicate 25 9) ≡ record { refusal = 0; bytes = 24; lent = seedTwo ++ (9 ∷ []) }
+  pub seed-two : drawOf 2 (record { groomers = 2; slopes = 3 }) 2 (replicate 25 9) ≡ beside (record { refusal = 0; bytes = 24 }) (seedTwo ++ (9 ∷ []))

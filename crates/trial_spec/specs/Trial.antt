@@ -1,9 +1,8 @@
 -- A drawn sheet: the one that is written for the drawn turns (request R-11). Assumes nothing.
 use Prim.Native.Nat.{ℕ}
-use mathlib.Core.List.{List, [], _∷_, _++_}
+use mathlib.Core.List.{List, _∷_}
 use lib.ListN.{length}
-use lib.Dec.{ltb}
-use Rattle.refusal.specs.Number.{badSeed, bufferTooSmall}
+use Rattle.refusal.specs.Number.{badSeed}
 use Rattle.refusal.specs.Cause.{Cause, _when_}
 use Rattle.refusal.specs.Written.{Written, writtenUnless}
 use Rattle.turn.specs.declared.Counts.{Counts}
@@ -13,6 +12,7 @@ use Rattle.sheet.specs.Read.{countCauses}
 use Rattle.write_spec.specs.Order.{sortedTurns}
 use Rattle.write_spec.specs.Write.{sheetOf}
 use Rattle.trial_spec.specs.Draw.{mostDraw, drawnTurns}
+use Rattle.refusal.specs.Outcome.{thenRoom}
 
 -- the sheet of the drawn turns, in the written order
 abbrev pub drawnSheet : ℕ → Counts → ℕ → List ℕ
@@ -24,7 +24,7 @@ seedCauses seed counts turns = badSeed when outsideRange seed mostDraw ∷ count
 
 -- and last the lent bytes
 unfoldable pub drawCauses : ℕ → Counts → ℕ → ℕ → List Cause
-drawCauses seed counts turns places = seedCauses seed counts turns ++ bufferTooSmall when ltb places (length (drawnSheet seed counts turns)) ∷ []
+drawCauses seed counts turns places = thenRoom (seedCauses seed counts turns) (length (drawnSheet seed counts turns)) places
 
 -- on success the sheet, then what was there; on a refusal all as before
 unfoldable pub drawOf : ℕ → Counts → ℕ → List ℕ → Written

@@ -14,7 +14,7 @@ use Rattle.turn.specs.Turn.{rows, tableRows, tableTurns}
 use Rattle.turn.proofs.Rows.{rows-length, turns-rows}
 use Rattle.sheet.specs.Kind.{garage}
 use Rattle.sheet.specs.Record.{firstCursor}
-use Rattle.sheet.specs.Read.{tableOf, outcome, readOf}
+use Rattle.sheet.specs.Read.{tableOf, readOf}
 use Rattle.sheet.specs.Layout.{recordOf}
 use Rattle.sheet.proofs.SoundKinds.{garage-sound}
 use Rattle.sheet.proofs.Accepting.{sheet-reads}
@@ -25,13 +25,14 @@ use Rattle.write_spec.proofs.Orders.{sorted-iff, sorted-order}
 use Rattle.write_spec.proofs.Writable.{table-writable}
 use Rattle.write_spec.proofs.WriteMaps.{first-full-iff, first-least}
 use Rattle.write_spec.proofs.RoundTrip.{written-rows, written-sheet, written-accepted, written-bytes, writing, write-accepts, write-then-read, one-sheet, written-shortest, written-only, write-again}
+use Rattle.refusal.specs.Outcome.{beside}
 
 -- byte 7 of a sheet that has a turn is the first map
 map-there : (counts : Counts) (t : Turn) (ts : List Turn) → getD (sheetOf counts (t ∷ ts)) 7 0 ≡ mapFor true (firstCursor .prev) t
 unfolding sheetOf recordsOf recordOf
 map-there counts t ts = refl
 
-module _ (counts : Counts) (table out : List ℕ) (z : writeOf counts table out .refusal ≡ 0) where
+module _ (counts : Counts) (table out : List ℕ) (z : writeOf counts table out .answer .refusal ≡ 0) where
   fine : firstOf (tableCauses counts table) ≡ 0
   fine = write-accepts counts table out z .0
 
@@ -47,13 +48,13 @@ module _ (counts : Counts) (table out : List ℕ) (z : writeOf counts table out 
   numbers = let w = table-writable counts table fine .whole in omega (arith, rows-length (writtenTurns table), written-rows counts table fine)
 
   module _ (lent : List ℕ) (l : length table ≤ length lent) where
-    is-read : readOf (bytesWritten counts table out) lent ≡ outcome (record { refusal = 0; groomers = counts .groomers; slopes = counts .slopes; turns = tableRows table }) (atFront (rows (writtenTurns table)) lent)
+    is-read : readOf (bytesWritten counts table out) lent ≡ beside (record { refusal = 0; groomers = counts .groomers; slopes = counts .slopes; turns = tableRows table }) (atFront (rows (writtenTurns table)) lent)
     is-read = write-then-read counts table out lent z l
 
     is-table : tableBack counts table out lent ≡ rows (writtenTurns table)
     is-table = rw is-read (take-at (rows (writtenTurns table)) _ (length table) numbers)
 
-    is-behind : drop (length table) (readOf (bytesWritten counts table out) lent .table) ≡ drop (length table) lent
+    is-behind : drop (length table) (readOf (bytesWritten counts table out) lent .lent) ≡ drop (length table) lent
     is-behind = rw is-read (drop-at (rows (writtenTurns table)) _ (length table) numbers ∙ ap (λ (n : ℕ). drop n lent) numbers)
 
     is-counts : countsBack counts table out lent ≡ counts

@@ -7,14 +7,14 @@ use native.Mathlib.Omega.{arith}
 use lib.ListN.{length, take}
 use lib.Seq.{take-append-seam}
 use lib.Dec.{eqb, ltb}
-use borrow.Author.Tests.{le-ltb, ltb-false, eq-eqb}
+use borrow.Author.Tests.{le-ltb, eq-eqb}
 use Rattle.lists.specs.Sorting.{InOrder, AllOf}
 use Rattle.lists.proofs.Sorted.{sort-all}
 use Rattle.refusal.specs.Number.{bufferTooSmall}
 use Rattle.refusal.specs.Cause.{_when_, firstOf}
 use Rattle.refusal.specs.Written.{wrote, kept, atFront}
-use Rattle.refusal.proofs.Order.{first-goes, clear-append, clear-cons}
-use Rattle.refusal.proofs.Written.{number-first, kept-first, wrote-enough}
+use Rattle.refusal.proofs.Order.{first-goes}
+use Rattle.refusal.proofs.Written.{wrote-enough, written-number, written-not}
 use Rattle.wire.specs.Number.{bytesOf, Bytes, none, more}
 use Rattle.wire.specs.Mark.{sheetMark}
 use Rattle.wire.proofs.Numbers.{bytes-below}
@@ -24,7 +24,7 @@ use Rattle.turn.specs.Turn.{rowNumbers, rows, tableRows, tableTurns, InRange}
 use Rattle.turn.proofs.Rows.{rows-length, table-turns-length, turns-rows}
 use Rattle.sheet.specs.Kind.{garage}
 use Rattle.sheet.specs.Record.{firstCursor}
-use Rattle.sheet.specs.Read.{countsIn, turnCount, countCauses, causesFor, turnsOf, tableOf, readCausesFor, Outcome, outcome, readRefused, readFor, readOf}
+use Rattle.sheet.specs.Read.{countsIn, turnCount, countCauses, causesFor, turnsOf, tableOf, readCausesFor, readRefused, readFor, readOf, Reading}
 use Rattle.sheet.specs.Layout.{fieldBytes, recordOf}
 use Rattle.sheet.specs.Accepted.{Legal, Records, SheetFor, Accepted}
 use Rattle.sheet.specs.Accepted as accepted
@@ -38,6 +38,8 @@ use Rattle.write_spec.proofs.WriteMaps.{map-good, map-below, map-carrie
 use Rattle.write_spec.proofs.Orders.{sorted-length, sorted-iff, sorted-order, sorted-same, sorted-stay, sorted-twice, unsorted-all}
 use Rattle.write_spec.proofs.Writable.{Writable, table-writable, table-numbered, fine-all, all-fine, write-clear}
 use Rattle.write_spec.proofs.Shortest.{shortest, shortest-only}
+use Rattle.refusal.specs.Outcome.{beside, unless}
+use Rattle.refusal.proofs.Outcome.{enough-iff}
 
 -- ---- what is written is a sheet of these turns
 
@@ -106,15 +108,15 @@ module _ (counts : Counts) (table : List ℕ) (e : firstOf (tableCauses counts t
 -- ---- reading
 
 -- what the reader gives for a sheet of these counts and turns: it depends on nothing else
-abbrev pub readingOf : Counts → List Turn → List ℕ → Outcome
+abbrev pub readingOf : Counts → List Turn → List ℕ → Reading
 readingOf counts ts lent =
     cond
     (ltb (length lent) (rowNumbers * length ts))
-    (outcome (readRefused bufferTooSmall) lent)
-    (outcome (record { refusal = 0; groomers = counts .groomers; slopes = counts .slopes; turns = length ts }) (atFront (rows ts) lent))
+    (beside (readRefused bufferTooSmall) lent)
+    (beside (record { refusal = 0; groomers = counts .groomers; slopes = counts .slopes; turns = length ts }) (atFront (rows ts) lent))
 
 pub reading : {s : List ℕ} {counts : Counts} {ts : List Turn} → SheetFor garage s counts ts → (lent : List ℕ) → readOf s lent ≡ readingOf counts ts lent
-unfolding readOf readFor readCausesFor firstOf tableOf
+unfolding readOf readFor readCausesFor firstOf tableOf unless
 reading {s} {counts} {ts} f lent =
     let r = sheet-reads garage garage-sound s counts ts f in
     let n : firstOf (readCausesFor garage s (length lent)) ≡ cond (ltb (length lent) (rowNumbers * length ts)) bufferTooSmall 0 =
@@ -122,8 +124,8 @@ reading {s} {counts} {ts} f lent =
     rw (n, ap (λ (c : Counts). c .groomers) (r .1), ap (λ (c : Counts). c .slopes) (r .1), r .2, r .3) (go (ltb (length lent) (rowNumbers * length ts)))
   where
     go : (b : Bool)
-        → cond (eqb (cond b bufferTooSmall 0) 0) (outcome (record { refusal = 0; groomers = counts .groomers; slopes = counts .slopes; turns = length ts }) (atFront (rows ts) lent)) (outcome (readRefused (cond b bufferTooSmall 0)) lent)
-        ≡ cond b (outcome (readRefused bufferTooSmall) lent) (outcome (record { refusal = 0; groomers = counts .groomers; slopes = counts .slopes; turns = length ts }) (atFront (rows ts) lent))
+        → cond (eqb (cond b bufferTooSmall 0) 0) (beside (record { refusal = 0; groomers = counts .groomers; slopes = counts .slopes; turns = length ts }) (atFront (rows ts) lent)) (beside (readRefused (cond b bufferTooSmall 0)) lent)
+        ≡ cond b (beside (readRefused bufferTooSmall) lent) (beside (record { refusal = 0; groomers = counts .groomers; slopes = counts .slopes; turns = length ts }) (atFront (rows ts) lent))
     go true = refl
     go false = refl
 
@@ -136,33 +138,30 @@ module _ (counts : Counts) (table out : List ℕ) where
   writing e l = wrote-enough (tableCauses counts table) _ _ out (table-numbered counts table) e l
 
   -- the writer's number is that of the first cause
-  pub write-number : writeOf counts table out .refusal ≡ firstOf (writeCauses counts table (length out))
+  pub write-number : writeOf counts table out .answer .refusal ≡ firstOf (writeCauses counts table (length out))
   unfolding writeOf
-  write-number = number-first (writeCauses counts table (length out)) _ out
+  write-number = written-number (writeCauses counts table (length out)) _ out
 
   -- on a refusal nothing is written
-  pub write-keeps : (k : ℕ) → (k ≡ 0 → ⊥) → writeOf counts table out .refusal ≡ k → writeOf counts table out ≡ kept k out
+  pub write-keeps : (writeOf counts table out .answer .refusal ≡ 0 → ⊥) → writeOf counts table out ≡ kept (writeOf counts table out .answer .refusal) out
   unfolding writeOf
-  write-keeps k z e = kept-first (writeCauses counts table (length out)) _ out k (sym write-number ∙ e) z
+  write-keeps = written-not (writeCauses counts table (length out)) _ out
 
-  pub write-accepts : writeOf counts table out .refusal ≡ 0 → (firstOf (tableCauses counts table) ≡ 0) × (length (sheetOf counts (writtenTurns table)) ≤ length out)
+  pub write-accepts : writeOf counts table out .answer .refusal ≡ 0 → (firstOf (tableCauses counts table) ≡ 0) × (length (sheetOf counts (writtenTurns table)) ≤ length out)
   unfolding writeCauses
-  write-accepts e =
-      let both = clear-append (tableCauses counts table) (bufferTooSmall when ltb (length out) (length (sheetOf counts (writtenTurns table))) ∷ []) (table-numbered counts table) (sym write-number ∙ e) in
-      let last = clear-cons (bufferTooSmall when ltb (length out) (length (sheetOf counts (writtenTurns table)))) [] (omega arith) (both .1) in
-      (both .0, ltb-false (length out) (length (sheetOf counts (writtenTurns table))) (last .0))
+  write-accepts e = enough-iff (tableCauses counts table) (length out) (length (sheetOf counts (writtenTurns table))) (table-numbered counts table) .0 (sym write-number ∙ e)
 
 -- ---- there and back
 
 -- a table that the writer accepts, read from the sheet that it writes, into any lent table long enough: these counts, its turns in the written order, and the rest as it was
 pub sheet-back : (counts : Counts) (table lent : List ℕ) → firstOf (tableCauses counts table) ≡ 0 → length table ≤ length lent
-    → readOf (sheetOf counts (writtenTurns table)) lent ≡ outcome (record { refusal = 0; groomers = counts .groomers; slopes = counts .slopes; turns = tableRows table }) (atFront (rows (writtenTurns table)) lent)
+    → readOf (sheetOf counts (writtenTurns table)) lent ≡ beside (record { refusal = 0; groomers = counts .groomers; slopes = counts .slopes; turns = tableRows table }) (atFront (rows (writtenTurns table)) lent)
 sheet-back counts table lent e l =
     reading (written-sheet counts table e) lent ∙ rw (written-rows counts table e, le-ltb (length lent) (rowNumbers * tableRows table) (omega arith))
 
 -- the same of what the writer left in any lent bytes where it refused nothing
-pub write-then-read : (counts : Counts) (table out lent : List ℕ) → writeOf counts table out .refusal ≡ 0 → length table ≤ length lent
-    → readOf (take (writeOf counts table out .bytes) (writeOf counts table out .lent)) lent ≡ outcome (record { refusal = 0; groomers = counts .groomers; slopes = counts .slopes; turns = tableRows table }) (atFront (rows (writtenTurns table)) lent)
+pub write-then-read : (counts : Counts) (table out lent : List ℕ) → writeOf counts table out .answer .refusal ≡ 0 → length table ≤ length lent
+    → readOf (take (writeOf counts table out .answer .bytes) (writeOf counts table out .lent)) lent ≡ beside (record { refusal = 0; groomers = counts .groomers; slopes = counts .slopes; turns = tableRows table }) (atFront (rows (writtenTurns table)) lent)
 write-then-read counts table out lent e l =
     let a = write-accepts counts table out e in
     rw (writing counts table out (a .0) (a .1), take-append-seam) (sheet-back counts table lent (a .0) l)

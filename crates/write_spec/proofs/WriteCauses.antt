@@ -2,38 +2,39 @@
 use Prim.Native.Nat.{ℕ, zero, suc, _+_, _-_, _*_, _%_, _<_}
 use mathlib.Core.Path.{_≡_, refl, sym, _∙_, subst}
 use mathlib.Core.Bool.{true, not, true≢false}
-use mathlib.Core.List.{List, [], _∷_}
+use mathlib.Core.List.{List, _∷_}
 use mathlib.Core.Logic.{⊎-elim, _↔_, _≢_}
 use native.Mathlib.Omega.{arith}
 use native.Mathlib.Nat.{zero-add, add-zero}
-use lib.Dec.{ltb, eqb}
+use lib.Dec.{eqb}
 use lib.ListN.{length}
 use borrow.Author.Tests.{ltb-true, lt-ltb, eqb-false, ne-eqb, not-true}
-use Rattle.refusal.specs.Number.{partialTurn, bufferTooSmall}
+use Rattle.refusal.specs.Number.{partialTurn}
 use Rattle.refusal.specs.Cause.{Cause, _when_, There}
-use Rattle.refusal.proofs.Order.{none-iff, numbered-append, first-same}
 use Rattle.refusal.proofs.Places.{causeAt, there-at, at-there, there-left, there-right, there-split}
 use Rattle.turn.specs.declared.Counts.{Counts}
 use Rattle.turn.specs.Turn.{rowNumbers, turnIn, turnsOfTable, tableRows, tableTurns, mostWorth, mostDriver, turnCauses}
 use Rattle.turn.proofs.Ranges.{outside-iff, past-iff}
 use Rattle.sheet.specs.Kind.{mostGroomers, mostSlopes, mostTurns, garage}
 use Rattle.sheet.specs.Read.{countCauses}
-use Rattle.write_spec.specs.Write.{writtenTurns, sheetOf, turnsCauses, tableCauses, writeCauses, writeOf}
-use Rattle.write_spec.specs.WriteCause.{rowPlace, WriteCause, partial-turn, groomer-count, slope-count, turn-count, slope, groomer, time, worth, driver, small-buffer, FirstWriteCause}
+use Rattle.write_spec.specs.Write.{turnsCauses, tableCauses, writeCauses, writeOf}
+use Rattle.write_spec.specs.WriteCause.{rowPlace, WriteCause, partial-turn, groomer-count, slope-count, turn-count, slope, groomer, time, worth, driver, FirstWriteCause, TableCause}
 use Rattle.write_spec.proofs.Writable.{table-numbered}
 use Rattle.write_spec.proofs.RoundTrip.{write-number}
+use Rattle.refusal.proofs.Words.{Within, Tells, tells-none, says-tells, says-within, room-tells}
+use Rattle.refusal.proofs.Written.{written-iff}
 
 partial-iff : (n : ℕ) → (not (eqb n 0) ≡ true) ↔ (n ≢ 0)
 partial-iff n = (λ e. eqb-false n 0 (not-true (eqb n 0) e), λ h. rw (ne-eqb n 0 h))
 
-module _ (counts : Counts) (table : List ℕ) (places : ℕ) where
+module _ (counts : Counts) (table : List ℕ) where
   -- the length and the counts
   front : List Cause
   front = partialTurn when not (eqb (length table % rowNumbers) 0) ∷ countCauses garage counts (tableRows table)
 
   -- ---- from the list to the words
 
-  front-cause : (k r : ℕ) → causeAt front r .there ≡ true → k ≡ causeAt front r .number → WriteCause counts table places k r
+  front-cause : (k r : ℕ) → causeAt front r .there ≡ true → k ≡ causeAt front r .number → TableCause counts table k r
   unfolding front countCauses garage
   front-cause k zero e n = rw n (partial-turn (partial-iff (length table % rowNumbers) .0 e))
   front-cause k (suc zero) e n = rw n (groomer-count (outside-iff (counts .groomers) mostGroomers .0 e))
@@ -41,7 +42,7 @@ module _ (counts : Counts) (table : List ℕ) (places : ℕ) where
   front-cause k (suc (suc (suc zero))) e n = rw n (turn-count (ltb-true mostTurns (tableRows table) e))
   front-cause k (suc (suc (suc (suc r)))) e n = absurd (true≢false (sym e))
 
-  row-cause : (i : ℕ) → i < tableRows table → (k r : ℕ) → causeAt (turnCauses (garage .refusals) counts (turnIn table i)) r .there ≡ true → k ≡ causeAt (turnCauses (garage .refusals) counts (turnIn table i)) r .number → WriteCause counts table places k (rowPlace i r)
+  row-cause : (i : ℕ) → i < tableRows table → (k r : ℕ) → causeAt (turnCauses (garage .refusals) counts (turnIn table i)) r .there ≡ true → k ≡ causeAt (turnCauses (garage .refusals) counts (turnIn table i)) r .number → TableCause counts table k (rowPlace i r)
   unfolding turnCauses garage
   row-cause i h k zero e n = rw n (slope i h (outside-iff (turnIn table i .slope) (counts .slopes) .0 e))
   row-cause i h k (suc zero) e n = rw n (groomer i h (outside-iff (turnIn table i .groomer) (counts .groomers) .0 e))
@@ -51,26 +52,26 @@ module _ (counts : Counts) (table : List ℕ) (places : ℕ) where
   row-cause i h k (suc (suc (suc (suc (suc r))))) e n = absurd (true≢false (sym e))
 
   -- the turns from number i on
-  rows-cause : (n i : ℕ) → i + n ≡ tableRows table → (k r : ℕ) → There (turnsCauses (garage .refusals) counts (turnsOfTable n table i)) k r → WriteCause counts table places k (rowPlace i r)
+  rows-cause : (n i : ℕ) → i + n ≡ tableRows table → (k r : ℕ) → There (turnsCauses (garage .refusals) counts (turnsOfTable n table i)) k r → TableCause counts table k (rowPlace i r)
   unfolding turnsCauses turnsOfTable turnCauses
   rows-cause zero i l k r h = absurd (true≢false (sym (at-there h .0)))
   rows-cause (suc n) i l k r h = ⊎-elim left (right (rows-cause n (i + 1) (omega arith) k)) (there-split (turnCauses (garage .refusals) counts (turnIn table i)) h)
     where
-      left : There (turnCauses (garage .refusals) counts (turnIn table i)) k r → WriteCause counts table places k (rowPlace i r)
+      left : There (turnCauses (garage .refusals) counts (turnIn table i)) k r → TableCause counts table k (rowPlace i r)
       left t = row-cause i (omega arith) k r (at-there t .0) (at-there t .1)
 
-      right : ((q : ℕ) → There (turnsCauses (garage .refusals) counts (turnsOfTable n table (i + 1))) k q → WriteCause counts table places k (rowPlace (i + 1) q)) → (q : ℕ) × (r ≡ 5 + q) × There (turnsCauses (garage .refusals) counts (turnsOfTable n table (i + 1))) k q
-          → WriteCause counts table places k (rowPlace i r)
+      right : ((q : ℕ) → There (turnsCauses (garage .refusals) counts (turnsOfTable n table (i + 1))) k q → TableCause counts table k (rowPlace (i + 1) q)) → (q : ℕ) × (r ≡ 5 + q) × There (turnsCauses (garage .refusals) counts (turnsOfTable n table (i + 1))) k q
+          → TableCause counts table k (rowPlace i r)
       right ih x = let e : rowPlace i r ≡ rowPlace (i + 1) (x .0) = omega (arith, x .1) in rw e (ih (x .0) (x .2))
 
-  table-cause : {k r : ℕ} → There (tableCauses counts table) k r → WriteCause counts table places k r
+  table-cause : {k r : ℕ} → There (tableCauses counts table) k r → TableCause counts table k r
   unfolding tableCauses front countCauses
   table-cause {k} {r} h = ⊎-elim left right (there-split front h)
     where
-      left : There front k r → WriteCause counts table places k r
+      left : There front k r → TableCause counts table k r
       left t = front-cause k r (at-there t .0) (at-there t .1)
 
-      right : (q : ℕ) × (r ≡ 4 + q) × There (turnsCauses (garage .refusals) counts (tableTurns table)) k q → WriteCause counts table places k r
+      right : (q : ℕ) × (r ≡ 4 + q) × There (turnsCauses (garage .refusals) counts (tableTurns table)) k q → TableCause counts table k r
       right x = let e : r ≡ rowPlace 0 (x .0) = omega (arith, x .1) in rw e (rows-cause (tableRows table) 0 (omega arith) k (x .0) (x .2))
 
   -- the place behind the table's causes
@@ -83,25 +84,11 @@ module _ (counts : Counts) (table : List ℕ) (places : ℕ) where
   unfolding tableCauses countCauses
   table-places = omega (arith, rows-places (tableRows table) 0)
 
-  last : List Cause
-  last = bufferTooSmall when ltb places (length (sheetOf counts (writtenTurns table))) ∷ []
-
-  last-cause : (k q : ℕ) → There last k q → WriteCause counts table places k (length (tableCauses counts table) + q)
-  unfolding last
-  last-cause k zero t =
-      let e : length (tableCauses counts table) + 0 ≡ rowPlace (tableRows table) 0 = omega (arith, table-places) in
-      rw (e, at-there t .1) (small-buffer (ltb-true places (length (sheetOf counts (writtenTurns table))) (at-there t .0)))
-  last-cause k (suc q) t = absurd (true≢false (sym (at-there t .0)))
-
-  there-cause : {k r : ℕ} → There (writeCauses counts table places) k r → WriteCause counts table places k r
-  unfolding writeCauses last
-  there-cause {k} {r} h = ⊎-elim table-cause (λ x. rw (x .1) (last-cause k (x .0) (x .2))) (there-split (tableCauses counts table) h)
-
   -- ---- from the words to the list
 
-  front-there : (r : ℕ) → causeAt front r .there ≡ true → There (writeCauses counts table places) (causeAt front r .number) r
-  unfolding writeCauses tableCauses front
-  front-there r e = there-left _ (there-left {a = front} _ (there-at front r e))
+  front-there : (r : ℕ) → causeAt front r .there ≡ true → There (tableCauses counts table) (causeAt front r .number) r
+  unfolding tableCauses front
+  front-there r e = there-left {a = front} _ (there-at front r e)
 
   -- a cause of the turns from number i + d on is one of those from number i on
   skip : (d n i : ℕ) {k r : ℕ} → There (turnsCauses (garage .refusals) counts (turnsOfTable n table (i + d))) k r → There (turnsCauses (garage .refusals) counts (turnsOfTable (d + n) table i)) k (5 * d + r)
@@ -115,22 +102,16 @@ module _ (counts : Counts) (table : List ℕ) (places : ℕ) where
       rw (a, b) (there-right (turnCauses (garage .refusals) counts (turnIn table i)) t)
 
   row-there : (i : ℕ) → i < tableRows table → (r : ℕ) → causeAt (turnCauses (garage .refusals) counts (turnIn table i)) r .there ≡ true
-      → There (writeCauses counts table places) (causeAt (turnCauses (garage .refusals) counts (turnIn table i)) r .number) (rowPlace i r)
-  unfolding writeCauses tableCauses front countCauses turnsCauses turnsOfTable
+      → There (tableCauses counts table) (causeAt (turnCauses (garage .refusals) counts (turnIn table i)) r .number) (rowPlace i r)
+  unfolding tableCauses front countCauses turnsCauses turnsOfTable
   row-there i h r e =
       let k = causeAt (turnCauses (garage .refusals) counts (turnIn table i)) r .number in
       let t : There (turnsCauses (garage .refusals) counts (turnsOfTable (suc (tableRows table - suc i)) table i)) k r = there-left _ (there-at (turnCauses (garage .refusals) counts (turnIn table i)) r e) in
       let n : i + suc (tableRows table - suc i) ≡ tableRows table = omega arith in
       let s : There (turnsCauses (garage .refusals) counts (turnsOfTable (i + suc (tableRows table - suc i)) table 0)) k (5 * i + r) = skip i (suc (tableRows table - suc i)) 0 (rw (zero-add i) t) in
-      there-left _ (there-right front (subst (λ (m : ℕ). There (turnsCauses (garage .refusals) counts (turnsOfTable m table 0)) k (5 * i + r)) n s))
+      there-right front (subst (λ (m : ℕ). There (turnsCauses (garage .refusals) counts (turnsOfTable m table 0)) k (5 * i + r)) n s)
 
-  last-there : places < length (sheetOf counts (writtenTurns table)) → There (writeCauses counts table places) bufferTooSmall (rowPlace (tableRows table) 0)
-  unfolding writeCauses last
-  last-there h =
-      let e : rowPlace (tableRows table) 0 ≡ length (tableCauses counts table) + 0 = omega (arith, table-places) in
-      rw e (there-right (tableCauses counts table) (there-at last 0 (lt-ltb places (length (sheetOf counts (writtenTurns table))) h)))
-
-  cause-there : {k r : ℕ} → WriteCause counts table places k r → There (writeCauses counts table places) k r
+  cause-there : {k r : ℕ} → TableCause counts table k r → There (tableCauses counts table) k r
   unfolding front countCauses turnCauses garage
   cause-there (partial-turn h) = front-there 0 (partial-iff (length table % rowNumbers) .1 h)
   cause-there (groomer-count h) = front-there 1 (outside-iff (counts .groomers) mostGroomers .1 h)
@@ -141,22 +122,27 @@ module _ (counts : Counts) (table : List ℕ) (places : ℕ) where
   cause-there (time i l h) = row-there i l 2 (past-iff (turnIn table i .start) (turnIn table i .length) .1 h)
   cause-there (worth i l h) = row-there i l 3 (outside-iff (turnIn table i .worth) mostWorth .1 h)
   cause-there (driver i l h) = row-there i l 4 (lt-ltb mostDriver (turnIn table i .driver) h)
-  cause-there (small-buffer h) = last-there h
 
-  pub write-causes-iff : (k r : ℕ) → WriteCause counts table places k r ↔ There (writeCauses counts table places) k r
-  write-causes-iff k r = (cause-there, there-cause)
+  table-iff : (k r : ℕ) → TableCause counts table k r ↔ There (tableCauses counts table) k r
+  table-iff k r = (cause-there, table-cause)
+
+  table-within : Within (TableCause counts table) (rowPlace (tableRows table) 0)
+  table-within k r c = omega (arith, says-within (TableCause counts table) (tableCauses counts table) table-iff k r c, table-places)
+
+  -- the words tell what the list gives
+  write-tells : (places : ℕ) → Tells (WriteCause counts table places) (writeCauses counts table places)
+  unfolding writeCauses
+  write-tells places =
+      let numbers = table-numbered counts table in
+      room-tells (rowPlace (tableRows table) 0) table-within (tableCauses counts table) numbers (says-tells (TableCause counts table) (tableCauses counts table) table-iff numbers) _ places
 
 -- the writer gives k exactly where the first cause has number k
-pub write-refused-iff : (counts : Counts) (table out : List ℕ) (k : ℕ) → (k ≡ 0 → ⊥) → (writeOf counts table out .refusal ≡ k) ↔ FirstWriteCause counts table (length out) k
-write-refused-iff counts table out k z =
-    let same = first-same (writeCauses counts table (length out)) (WriteCause counts table (length out)) (write-causes-iff counts table (length out)) k z in
-    (λ e. same .0 (sym (write-number counts table out) ∙ e), λ f. write-number counts table out ∙ same .1 f)
+pub write-refused-iff : (counts : Counts) (table out : List ℕ) (k : ℕ) → (k ≡ 0 → ⊥) → (writeOf counts table out .answer .refusal ≡ k) ↔ FirstWriteCause counts table (length out) k
+unfolding writeOf
+write-refused-iff counts table out = written-iff (writeCauses counts table (length out)) _ out (write-tells counts table (length out))
 
 -- and 0 exactly where no cause is there
-pub write-accepted-iff : (counts : Counts) (table out : List ℕ) → (writeOf counts table out .refusal ≡ 0) ↔ ((k r : ℕ) → WriteCause counts table (length out) k r → ⊥)
-unfolding writeCauses
+pub write-accepted-iff : (counts : Counts) (table out : List ℕ) → (writeOf counts table out .answer .refusal ≡ 0) ↔ ((k r : ℕ) → WriteCause counts table (length out) k r → ⊥)
 write-accepted-iff counts table out =
-    let all = writeCauses counts table (length out) in
-    let same = none-iff all (numbered-append (tableCauses counts table) _ (table-numbered counts table) refl) in
-    let iff = write-causes-iff counts table (length out) in
-    (λ e k r h. same .0 (sym (write-number counts table out) ∙ e) k r (iff k r .0 h), λ n. write-number counts table out ∙ same .1 (λ k r h. n k r (iff k r .1 h)))
+    let none = tells-none (write-tells counts table (length out)) in
+    (λ e. none .0 (sym (write-number counts table out) ∙ e), λ n. write-number counts table out ∙ none .1 n)

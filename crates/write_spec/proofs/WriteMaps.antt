@@ -14,7 +14,7 @@ use Rattle.sheet.specs.Accepted.{GoodMap, Carried}
 
 -- ---- one bit
 
-differs-bit : (a b : ℕ) → differs a b ≤ 1
+pub differs-bit : (a b : ℕ) → differs a b ≤ 1
 differs-bit a b = go (eqb a b)
   where
     go : (t : Bool) → cond t 0 1 ≤ 1
@@ -52,13 +52,13 @@ map-sum m h =
     let e5 : m / 32 ≡ m / 32 % 2 = omega arith in
     digits (m % 2) (m / 2 % 2) (m / 4 % 2) (m / 8 % 2) (m / 16 % 2) (m / 32 % 2) e0 e1 e2 e3 e4 e5
 
-record Bits (m b0 b1 b2 b3 b4 b5 : ℕ) : Type 0 where
-  slope : m % 2 ≡ b0
-  groomer : m / 2 % 2 ≡ b1
-  start : m / 4 % 2 ≡ b2
-  length : m / 8 % 2 ≡ b3
-  worth : m / 16 % 2 ≡ b4
-  driver : m / 32 % 2 ≡ b5
+pub record Bits (m b0 b1 b2 b3 b4 b5 : ℕ) : Type 0 where
+  pub slope : m % 2 ≡ b0
+  pub groomer : m / 2 % 2 ≡ b1
+  pub start : m / 4 % 2 ≡ b2
+  pub length : m / 8 % 2 ≡ b3
+  pub worth : m / 16 % 2 ≡ b4
+  pub driver : m / 32 % 2 ≡ b5
 
 sum-bits : (b0 b1 b2 b3 b4 b5 : ℕ) → b0 ≤ 1 → b1 ≤ 1 → b2 ≤ 1 → b3 ≤ 1 → b4 ≤ 1 → b5 ≤ 1 → Bits (b0 + 2 * b1 + 4 * b2 + 8 * b3 + 16 * b4 + 32 * b5) b0 b1 b2 b3 b4 b5
 sum-bits b0 b1 b2 b3 b4 b5 h0 h1 h2 h3 h4 h5 = record { slope = omega arith; groomer = omega arith; start = omega arith; length = omega arith; worth = omega arith; driver = omega arith }
@@ -70,7 +70,7 @@ module _ (p t : Turn) where
   unfolding mapFor
   first-bits = sum-bits 1 1 1 1 1 _ (omega arith) (omega arith) (omega arith) (omega arith) (omega arith) (differs-bit (p .driver) (t .driver))
 
-  later-bits : Bits (mapFor false p t) (differs (p .slope) (t .slope)) (differs (p .groomer) (t .groomer)) (differs (p .start) (t .start)) (differs (p .length) (t .length)) (differs (p .worth) (t .worth)) (differs (p .driver) (t .driver))
+  pub later-bits : Bits (mapFor false p t) (differs (p .slope) (t .slope)) (differs (p .groomer) (t .groomer)) (differs (p .start) (t .start)) (differs (p .length) (t .length)) (differs (p .worth) (t .worth)) (differs (p .driver) (t .driver))
   unfolding mapFor
   later-bits =
       sum-bits _ _ _ _ _ _ (differs-bit (p .slope) (t .slope)) (differs-bit (p .groomer) (t .groomer)) (differs-bit (p .start) (t .start)) (differs-bit (p .length) (t .length)) (differs-bit (p .worth) (t .worth)) (differs-bit (p .driver) (t .driver))

@@ -4,7 +4,7 @@ use mathlib.Core.Path.{_≡_}
 use mathlib.Core.Logic.{_↔_, _≢_}
 use mathlib.Core.List.{List, _∷_}
 use lib.ListN.{length, getD, take, drop}
-use Rattle.refusal.specs.Written.{wrote}
+use Rattle.refusal.specs.Written.{wrote, writtenPart}
 use Rattle.wire.specs.Number.{Bytes}
 use Rattle.turn.specs.declared.Turn.{Turn}
 use Rattle.turn.specs.declared.Counts.{Counts}
@@ -17,11 +17,11 @@ use Rattle.write_spec.specs.Write.{writeOf}
 
 -- the bytes that the writer says it wrote
 abbrev pub bytesWritten : Counts → List ℕ → List ℕ → List ℕ
-bytesWritten counts table out = take (writeOf counts table out .bytes) (writeOf counts table out .lent)
+bytesWritten counts table out = writtenPart (writeOf counts table out)
 
 -- what reading them puts into a lent table: as many numbers as the table has that was written
 abbrev pub tableBack : Counts → List ℕ → List ℕ → List ℕ → List ℕ
-tableBack counts table out lent = take (length table) (readOf (bytesWritten counts table out) lent .table)
+tableBack counts table out lent = take (length table) (readOf (bytesWritten counts table out) lent .lent)
 
 -- the counts that reading them gives
 abbrev pub countsBack : Counts → List ℕ → List ℕ → List ℕ → Counts
@@ -32,7 +32,7 @@ countsBack counts table out lent = countsOf (readOf (bytesWritten counts table o
 -- of an answer that refuses nothing
 pub record WritePromised (counts : Counts) (table out : List ℕ) : Type 0 where
   -- there are as many bytes as the answer says
-  pub many : length (bytesWritten counts table out) ≡ writeOf counts table out .bytes
+  pub many : length (bytesWritten counts table out) ≡ writeOf counts table out .answer .bytes
   -- each is below 256
   pub below : Bytes (bytesWritten counts table out)
   -- they are an accepted sheet
@@ -44,7 +44,7 @@ pub record WritePromised (counts : Counts) (table out : List ℕ) : Type 0 where
   -- the lent table then begins with the table's turns, each as often, in the written order
   pub read-turns : (lent : List ℕ) → length table ≤ length lent → InWrittenOrder (tableTurns table) (tableTurns (tableBack counts table out lent))
   -- and goes on as it was
-  pub read-behind : (lent : List ℕ) → length table ≤ length lent → drop (length table) (readOf (bytesWritten counts table out) lent .table) ≡ drop (length table) lent
+  pub read-behind : (lent : List ℕ) → length table ≤ length lent → drop (length table) (readOf (bytesWritten counts table out) lent .lent) ≡ drop (length table) lent
   -- no sheet of these counts with the table's turns in the written order is shorter
   pub shortest : {s : List ℕ} {ts : List Turn} → SheetFor garage s counts ts → InWrittenOrder (tableTurns table) ts → length (bytesWritten counts table out) ≤ length s
   -- and one of the same length is these very bytes
@@ -59,4 +59,4 @@ pub record WritePromised (counts : Counts) (table out : List ℕ) : Type 0 where
   -- and 1F otherwise
   pub first-map-else : (t : Turn) (ts : List Turn) → InWrittenOrder (tableTurns table) (t ∷ ts) → t .driver ≡ 0 → getD (bytesWritten counts table out) 7 0 ≡ 0x1F
   -- behind the bytes the lent bytes are as they were
-  pub behind : drop (writeOf counts table out .bytes) (writeOf counts table out .lent) ≡ drop (writeOf counts table out .bytes) out
+  pub behind : drop (writeOf counts table out .answer .bytes) (writeOf counts table out .lent) ≡ drop (writeOf counts table out .answer .bytes) out

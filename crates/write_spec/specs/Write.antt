@@ -3,8 +3,8 @@ use Prim.Native.Nat.{ℕ, _+_, _*_, _%_}
 use mathlib.Core.List.{List, [], _∷_, _++_}
 use mathlib.Core.Bool.{Bool, true, false, not, cond}
 use lib.ListN.{length}
-use lib.Dec.{ltb, eqb}
-use Rattle.refusal.specs.Number.{bufferTooSmall, partialTurn}
+use lib.Dec.{eqb}
+use Rattle.refusal.specs.Number.{partialTurn}
 use Rattle.refusal.specs.Cause.{Cause, _when_}
 use Rattle.refusal.specs.Written.{Written, writtenUnless}
 use Rattle.turn.specs.declared.Turn.{Turn}
@@ -18,6 +18,7 @@ use Rattle.sheet.specs.Record.{firstCursor}
 use Rattle.sheet.specs.Read.{countCauses}
 use Rattle.sheet.specs.Layout.{recordOf, headerFor}
 use Rattle.write_spec.specs.Order.{sortedTurns}
+use Rattle.refusal.specs.Outcome.{thenRoom}
 
 -- ---- the bytes
 
@@ -68,7 +69,7 @@ tableCauses counts table =
 
 -- and last the lent bytes
 unfoldable pub writeCauses : Counts → List ℕ → ℕ → List Cause
-writeCauses counts table places = tableCauses counts table ++ bufferTooSmall when ltb places (length (sheetOf counts (writtenTurns table))) ∷ []
+writeCauses counts table places = thenRoom (tableCauses counts table) (length (sheetOf counts (writtenTurns table))) places
 
 -- on success the sheet, then what was there; on a refusal all as before
 unfoldable pub writeOf : Counts → List ℕ → List ℕ → Written
@@ -76,4 +77,4 @@ writeOf counts table lent = writtenUnless (writeCauses counts table (length lent
 
 -- the sheet of some turns, in this order, if the lent bytes are enough
 unfoldable pub sheetWritten : Counts → List Turn → List ℕ → Written
-sheetWritten counts ts lent = writtenUnless (bufferTooSmall when ltb (length lent) (length (sheetOf counts ts)) ∷ []) (sheetOf counts ts) lent
+sheetWritten counts ts lent = writtenUnless (thenRoom [] (length (sheetOf counts ts)) (length lent)) (sheetOf counts ts) lent

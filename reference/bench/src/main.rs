@@ -613,7 +613,8 @@ fn main() {
         "improve: at most {VISITS} visits; refine, charge r and q: at most {BOARD_ROUNDS} rounds;"
     );
     println!("plan f: the reference makes no list at each pick;");
-    println!("play o: the reference goes minute by minute; charge s: small draws, charge a: and all windows overlap;");
+    println!("play: the reference goes by the turns; play o: minute by minute as the library does, its peer;");
+    println!("charge s: small draws, charge a: and all windows overlap;");
     println!("charge l: the hall's limit, charge r: its rounds, charge q: with small draws; *: the slowest known");
     println!("                            library             reference");
     println!(

@@ -1,9 +1,10 @@
 //! Checking a board against a sheet.
 
-use slopeboard_reference::boards::{self, Draft, Order};
+use slopeboard_reference::boards::{self, planned, Draft, Order};
 use slopeboard_reference::gen::{self, Rng, Shift};
 use slopeboard_reference::naive::{self, Sums};
-use slopeboard_reference::shapes;
+use slopeboard_reference::worked::{board_with, SHEET, TURNS};
+use slopeboard_reference::{handmade, shapes};
 
 use crate::foreign::{self, CheckAnswer};
 use crate::placed::Placed;
@@ -20,6 +21,8 @@ pub fn run(seed: u64) -> bool {
     run.planned_boards();
     run.other_right_boards();
     run.example();
+    run.example_with_other_sums();
+    run.sheets_by_hand();
     run.faults();
     run.changed_bytes();
     run.orders_and_choices();
@@ -28,19 +31,35 @@ pub fn run(seed: u64) -> bool {
     run.report.finish((1..=10).chain(12..=17).chain([19]))
 }
 
+/// Steps for the worked example.
+const OTHER_STEPS: [&[(u16, u16)]; 20] = [
+    &[(0, 100), (3, 90), (1, 50)],
+    &[(2, 80), (0, 20), (1, 130), (3, 10)],
+    &[(2, 80), (0, 20), (1, 130), (3, 90)],
+    &[(2, 80), (0, 20), (3, 10), (1, 130)],
+    &[(2, 80), (3, 10), (0, 20), (1, 130)],
+    &[(2, 80), (0, 20), (3, 90), (1, 130)],
+    &[(2, 80), (3, 90), (0, 20), (1, 130)],
+    &[(3, 90), (0, 100), (1, 50)],
+    &[(1, 50), (0, 100), (3, 90)],
+    &[(1, 150), (2, 80), (3, 90)],
+    &[],
+    &[(0, 100)],
+    &[(0, 100), (1, 50)],
+    &[(0, 100), (1, 50), (3, 90), (3, 0)],
+    &[(0, 100), (1, 50), (1, 50), (3, 90)],
+    &[(0, 100), (2, 65_516), (1, 50), (3, 90)],
+    &[(0, 100), (1, 90), (3, 50)],
+    &[(0, 100), (2, 50), (2, 90)],
+    &[(0, 99), (1, 51), (3, 90)],
+    &[(0, 100), (1, 50), (4, 90)],
+];
+
 struct Run {
     rng: Rng,
     report: Report,
     sheet: Placed,
     board: Placed,
-}
-
-/// The judge's board of an accepted sheet.
-fn planned(sheet: &[u8]) -> Vec<u8> {
-    let mut board = vec![0; 1665];
-    let len = naive::plan(sheet, &mut board).expect("the sheet is accepted");
-    board.truncate(len);
-    board
 }
 
 impl Run {
@@ -102,32 +121,70 @@ impl Run {
     /// The worked example under every choice and every list of steps with
     /// right amounts that is short enough.
     fn example(&mut self) {
-        let turns = [
-            [1, 1, 0, 60, 100, 0],
-            [2, 1, 30, 60, 150, 0],
-            [1, 2, 0, 120, 80, 0],
-            [3, 2, 120, 60, 90, 0],
-        ];
-        let shift = Shift {
-            groomers: 2,
-            slopes: 3,
-            turns: turns.to_vec(),
-        };
-        let sheet = gen::encode(&mut self.rng, &shift, 0).bytes;
         let named = [(2, 80), (0, 20), (1, 130), (3, 10)];
         let chosen = vec![false, true, false, true];
-        let board = Draft::new(&turns, chosen, named.to_vec());
-        let passes = self.case(&sheet, &board.bytes()) == 0;
+        let board = Draft::new(&TURNS, chosen, named.to_vec());
+        let passes = self.case(&SHEET, &board.bytes()) == 0;
         if !passes || (board.tally, board.worth) != (240, 240) {
             let text = || "the example's other order must pass".to_string();
             self.report.differs(text);
         }
         for round in 0..640 {
             let order = [Order::Planned, Order::ByNumber, Order::Allowed, Order::Free][round % 4];
-            let steps = boards::steps(&mut self.rng, &turns, order);
+            let steps = boards::steps(&mut self.rng, &TURNS, order);
             let chosen = (0..4).map(|turn| round >> turn & 1 != 0).collect();
-            let board = Draft::new(&turns, chosen, steps);
-            self.case(&sheet, &board.bytes());
+            let board = Draft::new(&TURNS, chosen, steps);
+            self.case(&SHEET, &board.bytes());
+        }
+    }
+
+    /// The worked example under every choice, with the worth that it has and
+    /// others; then under other steps: right orders, wrong ones and made-up ones,
+    /// each with its own tally and with the right one.
+    fn example_with_other_sums(&mut self) {
+        let steps = [(0, 100), (1, 50), (3, 90)];
+        for map in 0..16 {
+            let chosen = (0..4).filter(|turn| map >> turn & 1 != 0);
+            let worth: u32 = chosen.map(|turn| u32::from(TURNS[turn][4])).sum();
+            for worth in [worth, worth + 1, 240, 320] {
+                self.case(&SHEET, &board_with(map, [240, worth], &steps));
+            }
+        }
+        for steps in OTHER_STEPS {
+            let tally = steps.iter().map(|step| u32::from(step.1)).sum();
+            for (map, worth) in [(0x0A, 240), (0x0E, 320), (0x09, 190)] {
+                for tally in [tally, 240] {
+                    self.case(&SHEET, &board_with(map, [tally, worth], steps));
+                }
+            }
+        }
+    }
+
+    /// Sheets made by hand, with steps in the planner's order, by number, in
+    /// orders that are allowed and in others; if they have two turns, also under
+    /// every choice and both amounts that the second step can have.
+    fn sheets_by_hand(&mut self) {
+        for shift in handmade::shifts() {
+            let turns = &shift.turns;
+            let sheet = gen::encode(&mut self.rng, &shift, 0).bytes;
+            for order in [Order::Planned, Order::ByNumber, Order::Allowed, Order::Free] {
+                let steps = boards::steps(&mut self.rng, turns, order);
+                let back = steps.iter().rev().map(|step| usize::from(step.0));
+                let chosen = boards::choose(turns, back.chain(0..turns.len()));
+                self.case(&sheet, &Draft::new(turns, chosen, steps).bytes());
+            }
+            let full = boards::full(&mut self.rng, turns).bytes();
+            self.case(&sheet, &full);
+            let &[a, b] = &turns[..] else { continue };
+            let first = u16::from(a[2] > b[2]);
+            let amount = [a, b][usize::from(first)][4];
+            let other = [b, a][usize::from(first)][4];
+            for (amounts, map) in (0..8).map(|round| (round / 4, round % 4)) {
+                let second = [other, other.saturating_sub(amount)][amounts];
+                let chosen = [0, 1].map(|turn| map >> turn & 1 == 1).to_vec();
+                let steps = vec![(first, amount), (1 - first, second)];
+                self.case(&sheet, &Draft::new(turns, chosen, steps).bytes());
+            }
         }
     }
 

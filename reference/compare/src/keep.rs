@@ -59,12 +59,7 @@ impl Run {
     /// Kept forms of every shape.
     fn shaped(&mut self, rng: &mut Rng) {
         for round in 0..33_000 {
-            let turns = match round % 100 {
-                0 => rng.between(100, 400),
-                1..=9 => rng.between(20, 100),
-                _ => rng.below(20),
-            };
-            let shift = shapes::shift(rng, round / 3 % shapes::SHAPES, turns as usize);
+            let shift = sheets::of_any_size(rng, round);
             let redundant = rng.pick(&[0, 10, 100]);
             let kept = kept::encode(rng, &shift, redundant);
             self.rooms(rng, &kept);

@@ -1,6 +1,7 @@
 //! Reading a sheet, and reading a short one.
 
 use slopeboard_reference::gen::{self, Encoded, Rng};
+use slopeboard_reference::handmade;
 use slopeboard_reference::limits::{MOST_SHORT_TURNS, MOST_TURNS, NUMBERS_PER_TURN};
 use slopeboard_reference::naive::{self, Counts};
 
@@ -57,6 +58,7 @@ fn compared(reader: Reader, seed: u64, name: &'static str) -> Report {
         bytes: Vec::new(),
     };
     run.typical_sheets();
+    run.sheets_by_hand();
     run.sheets_without_turns();
     run.sheets_at_the_limit();
     run.header_sweeps();
@@ -96,6 +98,12 @@ impl Run {
             self.case_with_tables(&sheet);
             let places = self.rng.below(gen::places_wanted(&sheet) as u32);
             self.case(&sheet, places as usize);
+        }
+    }
+
+    fn sheets_by_hand(&mut self) {
+        for sheet in handmade::sheets() {
+            self.case_with_tables(&sheet);
         }
     }
 

@@ -1,9 +1,9 @@
 //! The sheets on which planning and listing are compared, and what must occur
 //! in them.
 
-use slopeboard_reference::gen::{self, Rng};
+use slopeboard_reference::gen::{self, Rng, Shift};
 use slopeboard_reference::naive::turns::{same_driver, Turn};
-use slopeboard_reference::shapes;
+use slopeboard_reference::{handmade, shapes};
 
 use crate::report::Report;
 
@@ -41,15 +41,20 @@ pub fn note_minutes_apart(report: &mut Report, turns: &[Turn]) {
     }
 }
 
-/// Sheets of every shape: mostly few turns, at times many.
+/// A shift of any shape: mostly with few turns, at times with many.
+pub fn of_any_size(rng: &mut Rng, round: u32) -> Shift {
+    let turns = match round % 100 {
+        0 => rng.between(100, 400),
+        1..=9 => rng.between(20, 100),
+        _ => rng.below(20),
+    };
+    shapes::shift(rng, round / 3 % shapes::SHAPES, turns as usize)
+}
+
+/// Sheets of every shape.
 fn shaped(rng: &mut Rng, run: &mut impl FnMut(&mut Rng, &[u8])) {
     for round in 0..33_000 {
-        let turns = match round % 100 {
-            0 => rng.between(100, 400),
-            1..=9 => rng.between(20, 100),
-            _ => rng.below(20),
-        };
-        let shift = shapes::shift(rng, round / 3 % shapes::SHAPES, turns as usize);
+        let shift = of_any_size(rng, round);
         let sheet = gen::encode(rng, &shift, 10).bytes;
         run(rng, &sheet);
     }
@@ -77,9 +82,12 @@ pub fn refused(rng: &mut Rng, run: &mut impl FnMut(&mut Rng, &[u8])) {
     }
 }
 
-/// Sheets without turns, headers at their bounds, marks, tails, and every
-/// length of some sheets.
+/// Sheets made by hand, sheets without turns, headers at their bounds, marks,
+/// tails, and every length of some sheets.
 pub fn edges(rng: &mut Rng, run: &mut impl FnMut(&mut Rng, &[u8])) {
+    for sheet in handmade::sheets() {
+        run(rng, &sheet);
+    }
     for groomers in 0..=17 {
         for slopes in [0, 1, 2, 119, 120, 121, 255] {
             for turns in [0, 1] {

@@ -2,7 +2,7 @@
 
 use slopeboard_reference::gen::{self, Rng, Row, Shift};
 use slopeboard_reference::limits::NUMBERS_PER_TURN;
-use slopeboard_reference::{naive, shapes};
+use slopeboard_reference::{naive, shapes, worked};
 
 use crate::bytes::{answer, Lent};
 use crate::foreign;
@@ -52,6 +52,7 @@ pub fn run(seed: u64) -> bool {
     };
     run.typical_tables();
     run.orders();
+    run.every_order();
     run.faults_in_any_order();
     run.counts();
     run.lengths();
@@ -103,6 +104,17 @@ impl Run {
             self.order(&any);
             self.order(&shapes::falling(&shift));
             self.order(&shapes::sorted(&shift));
+        }
+    }
+
+    /// Every order of the worked shift's turns.
+    fn every_order(&mut self) {
+        for order in 0..256 {
+            let order = [0, 2, 4, 6].map(|by| order >> by & 3);
+            if (0..4).all(|turn| order.contains(&turn)) {
+                let turns = order.map(|turn| worked::TURNS[turn]);
+                self.case(2, 3, &turns.concat(), 38);
+            }
         }
     }
 

@@ -13,13 +13,7 @@ use std::{env, fs, io};
 use slopeboard_reference::gen::{self, Rng};
 use slopeboard_reference::naive::{listing, refused_line};
 use slopeboard_reference::shapes;
-
-/// The worked example: two groomers, three slopes, four turns.
-const EXAMPLE: [u8; 39] = [
-    0x47, 0x52, 0x4D, 0x02, 0x03, 0x00, 0x04, 0x1F, 0x01, 0x01, 0x00, 0x00, 0x00, 0x3C, 0x00, 0x64,
-    0x15, 0x02, 0x00, 0x1E, 0x00, 0x96, 0x1F, 0x01, 0x02, 0x00, 0x00, 0x00, 0x78, 0x00, 0x50, 0x1D,
-    0x03, 0x00, 0x78, 0x00, 0x3C, 0x00, 0x5A,
-];
+use slopeboard_reference::worked::{with, SHEET};
 
 /// Room for every listing.
 const MOST_TEXT: usize = 4096;
@@ -27,27 +21,20 @@ const MOST_TEXT: usize = 4096;
 /// The most that the program reads.
 const MOST_READ: usize = 4008;
 
-/// The example with other bytes from a place on.
-fn example_with(place: usize, bytes: &[u8]) -> Vec<u8> {
-    let mut sheet = EXAMPLE.to_vec();
-    sheet[place..place + bytes.len()].copy_from_slice(bytes);
-    sheet
-}
-
 /// One sheet for each refusal, with its number.
 fn refusals() -> [(u8, Vec<u8>); 11] {
-    let one_more = [&EXAMPLE[..6], &[5], &EXAMPLE[7..]].concat();
+    let one_more = [&SHEET[..6], &[5], &SHEET[7..]].concat();
     [
-        (1, EXAMPLE[..38].to_vec()),
-        (2, example_with(2, b"B")),
-        (3, example_with(3, &[17])),
-        (4, example_with(5, &[0x01, 0x91])),
-        (5, example_with(7, &[0x5F])),
-        (6, example_with(8, &[4])),
-        (7, example_with(9, &[3])),
-        (8, example_with(10, &[0x03, 0x84, 0x00, 0x3D])),
-        (9, example_with(14, &[0xEA, 0x61])),
-        (10, [&EXAMPLE[..], &[0]].concat()),
+        (1, SHEET[..38].to_vec()),
+        (2, with(&SHEET, 2, b"B")),
+        (3, with(&SHEET, 3, &[17])),
+        (4, with(&SHEET, 5, &[0x01, 0x91])),
+        (5, with(&SHEET, 7, &[0x5F])),
+        (6, with(&SHEET, 8, &[4])),
+        (7, with(&SHEET, 9, &[3])),
+        (8, with(&SHEET, 10, &[0x03, 0x84, 0x00, 0x3D])),
+        (9, with(&SHEET, 14, &[0xEA, 0x61])),
+        (10, [&SHEET[..], &[0]].concat()),
         (19, [&one_more[..], &[0x20, 41]].concat()),
     ]
 }
@@ -70,7 +57,7 @@ fn runs() -> Vec<(String, Vec<u8>)> {
         .map(|(number, sheet)| (format!("refused_{number:02}"), sheet))
         .collect();
     let mut more = |name: &str, sheet: Vec<u8>| runs.push((name.to_string(), sheet));
-    more("shift", EXAMPLE.to_vec());
+    more("shift", SHEET.to_vec());
     more("no_bytes", Vec::new());
     more("sixteen_groomers", b"GRM\x10\x78\x00\x00".to_vec());
     let shift = shapes::usual(&mut rng, 400);

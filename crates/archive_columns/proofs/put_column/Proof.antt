@@ -1,3 +1,4 @@
+-- Invariant: the rest of the column, put at the place reached, gives the whole column put; its bytes and those so far are all its bytes. Measure: the maps left.
 use Rattle.archive_spec.proofs.ColumnCases.{size-more, put-more}
 use borrow.Author.Needs.{needs}
 use Rattle.archive_spec.proofs.ColumnCases.{column-cases}

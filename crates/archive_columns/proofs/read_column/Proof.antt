@@ -1,3 +1,4 @@
+-- Invariant: the rest of the column, read into the rows from i on, gives the table with the whole column; its bytes and those so far are all its bytes. Measure: the maps left.
 use borrow.Author.Needs.{needs}
 use Rattle.archive_spec.proofs.ColumnCases.{column-cases}
 use mathlib.Core.Path.{_≡_}

@@ -1,4 +1,4 @@
-use Rattle.assign.proofs.Answers.{partition-cases}
+use Rattle.assign.proofs.Answers.{assign-cases}
 use borrow.Author.Needs.{needs}
 use Rattle.assign.proofs.assign.Statement.{statement}
 use Rattle.assign.proofs.assign.Tie as tie
@@ -9,14 +9,14 @@ assign-spec =
     (tie.spec
     (λ c κs. search needs)
     (λ c κs. search needs)
-    (λ c. search (needs, partition-cases))
+    (λ c. search (needs, assign-cases))
     (λ c. search needs)
     (λ c κs. search needs)
-    (λ c. search (needs, partition-cases))
+    (λ c. search (needs, assign-cases))
     (λ c κs. search needs)
     (λ c. search needs)
-    (λ c. search (needs, partition-cases))
-    (λ c κs. (search (needs, partition-cases), search (needs, partition-cases), search (needs, partition-cases)))
+    (λ c. search (needs, assign-cases))
+    (λ c κs. (search (needs, assign-cases), search (needs, assign-cases), search (needs, assign-cases)))
     (λ c. search needs)
     (λ c. search needs)
-    (λ c. search (needs, partition-cases)))
+    (λ c. search (needs, assign-cases)))

@@ -1,3 +1,4 @@
+-- Invariant: the first i bytes are 0. Measure: the bytes left.
 use borrow.Author.Needs.{needs}
 use Rattle.best.proofs.AnswerCases.{Cleared, zeroed-cases}
 use Prim.Native.Nat.{_-_}

@@ -1,3 +1,4 @@
+-- Invariant: the bits from n up to t are clear. Measure: the bits left.
 use Rattle.choice_map.proofs.Maps.{clear-more, clear-cases}
 use Rattle.choice_map.specs.Choice.{chosenIn}
 use Rattle.lists.specs.Lists.{every}

@@ -1,3 +1,4 @@
+-- Invariant: the sum is the ones of the first i bytes. Measure: the bytes left.
 use Rattle.choice_map.proofs.Maps.{ones-cases}
 use Rattle.choice_map.specs.Choice.{onesIn}
 use lib.ListN.{length, drop}

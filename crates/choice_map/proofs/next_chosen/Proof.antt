@@ -1,3 +1,4 @@
+-- Invariant: no turn from t up to u is chosen, so that the next one from u on is the next one from t on. Measure: the turns left.
 use Rattle.choice_map.proofs.Next.{next-cases}
 use Rattle.choice_map.specs.Choice.{nextChosen}
 use lib.ListN.{length}

@@ -1,3 +1,4 @@
+-- Invariant: the turns at the first i places of the order have these places. Measure: the places left.
 use borrow.Author.Needs.{needs}
 use Rattle.instance_by_end.proofs.Orders.{places-cases}
 use Rattle.instance_by_end.specs.Placing.{PlacesTo}

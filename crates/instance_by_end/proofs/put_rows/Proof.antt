@@ -1,3 +1,4 @@
+-- Invariant: at each of the first i places is the row of the turn that stands there. Measure: the places left.
 use borrow.Author.Needs.{needs}
 use Rattle.instance_by_end.proofs.Orders.{rows-cases}
 use Rattle.instance_by_end.specs.Placing.{RowsBy}

@@ -1,4 +1,4 @@
-use Rattle.listing.proofs.AnswerCases.{space-cases}
+use Rattle.plan.proofs.Space.{space-cases}
 use borrow.Author.Needs.{needs}
 use Rattle.listing.proofs.list_problem.Statement.{statement}
 use Rattle.listing.proofs.list_problem.Tie as tie

@@ -1,4 +1,5 @@
-use Rattle.play.proofs.Answers.{prepared-cases}
+use Rattle.play.proofs.Answers.{sheet-few, sheet-gap, sheet-known, prepared-cases}
+use Rattle.instance.proofs.Posed.{loaded-held}
 use borrow.Author.Needs.{needs}
 use Rattle.play.proofs.checked.Statement.{statement}
 use Rattle.play.proofs.checked.Tie as tie
@@ -11,5 +12,5 @@ checked-spec =
     (λ c κs. search needs)
     (λ c. search (needs, prepared-cases))
     (λ c κs. search needs)
-    (λ c κs. search (needs, prepared-cases))
+    (λ c κs. ((search (needs, loaded-held), search (needs, sheet-gap), search (needs, sheet-known), search (needs, sheet-few)), search needs))
     (λ c. search (needs, prepared-cases)))

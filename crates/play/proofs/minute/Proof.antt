@@ -1,4 +1,5 @@
 -- `play::minute` meets its contract: a walk of its MIR, by hand, with a loop. The borrow of the list is opened once, before the loop, and closed once, after it. A round takes element g out of the row, reads it, passes it to the covered `step`, of which only its contract is known, and stores what that returns in its place. Assumes nothing.
+-- Invariant: the first g groomers of the list are moved, the rest is as it was and ready for the minute. Measure: the groomers left.
 --     At           what the loop keeps: the whole row of the list l, the open borrow, the table's token and what the table's slice owns, and the locals. What is plain of it is `Moves.antt`'s `Mid`
 --     rounds       one round: it ends in `At` nearer to n, or leaves the loop and runs the rest of the body
 use mathlib.Core.Path.{_≡_, refl, sym, ap, subst}

@@ -1,4 +1,5 @@
 -- `play::minutes` meets its contract: a walk of its MIR, by hand, with a loop. A round lends the list again to `minute`, of which only its contract is known, for a lifetime that is made for the call, and has it back at the list that the contract says. Assumes nothing.
+-- Invariant: the list is as the first m minutes leave it, and ready for the next. Measure: the minutes left.
 --     At           what the loop keeps: the list, owned; the two tokens; what the table's slice owns; and the locals. What is plain of it is `Moves.antt`'s `Minutes`
 --     rounds       one round: it ends in `At` nearer to 960, or leaves the loop and runs the rest of the body
 use mathlib.Core.Path.{_≡_, refl, sym, subst}

@@ -5,4 +5,10 @@ use Rattle.play.proofs.prepare_board.Tie as tie
 
 pub prepare-board-spec : {M : Type 1} → statement M
 prepare-board-spec =
-    tie.close (tie.spec (λ c κs. search needs) (λ c κs. search needs) (λ c. search (needs, board-cases)) (λ c κs. search (needs, board-cases)) (λ c. search (needs, board-cases)))
+    tie.close
+    (tie.spec
+    (λ c κs. search needs)
+    (λ c κs. search needs)
+    (λ c. search (needs, board-cases))
+    (λ c κs. search (needs, board-cases))
+    (λ c. search (needs, board-cases)))

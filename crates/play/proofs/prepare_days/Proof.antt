@@ -8,10 +8,12 @@ prepare-days-spec =
     tie.close
     (tie.spec
     (λ c κs. search needs)
+    (λ c. search needs)
     (λ c κs. search needs)
     (λ c. search (needs, days-cases))
     (λ c κs. search needs)
     (λ c κs. search (needs, days-cases))
+    (λ c. search needs)
     (λ c. search (needs, days-cases))
     (λ c κs. search needs)
     (λ c. search (needs, days-cases)))

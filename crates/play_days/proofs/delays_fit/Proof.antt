@@ -1,3 +1,4 @@
+-- Invariant: the first i delays are within the limit. Measure: the delays left.
 use mathlib.Core.Path.{_≡_}
 use mathlib.Core.Bool.{true}
 use Prim.Native.Nat.{_-_, _≤_}

@@ -9,7 +9,6 @@ put-chosen-spec =
     (tie.spec
     (λ c κs. search needs)
     (λ c κs. search needs)
-    (λ c κs. search needs)
     (λ c. search (needs, chosen-cases))
     (λ c. search needs)
     (λ c. search needs)
@@ -17,6 +16,5 @@ put-chosen-spec =
     (λ c κs. search (needs, chosen-cases))
     (λ c. search needs)
     (λ c. search needs)
-    (λ c. (search (needs, chosen-cases), search (needs, chosen-cases)))
-    (λ c. (search (needs, chosen-cases), search (needs, chosen-cases)))
-    (λ c. (search (needs, chosen-cases), search (needs, chosen-cases))))
+    (λ c. search (needs, chosen-cases))
+    (λ c. search (needs, chosen-cases)))

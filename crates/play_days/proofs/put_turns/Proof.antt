@@ -1,3 +1,4 @@
+-- Invariant: the table and the progress are those of the first i turns of the order. Measure: the turns left.
 use Prim.Native.Nat.{_-_, _≤_}
 use lib.ListN.{take}
 use Rattle.choice_map.specs.Choice.{choiceIn}
@@ -10,13 +11,13 @@ use Rattle.play_days.proofs.put_turns.Statement.{statement}
 use Rattle.play_days.proofs.put_turns.Tie as tie
 
 abbrev Inv-loop : tie.InvT-loop
-Inv-loop p cols map delays order table₀ kept₀ i₀ table kept i = (i ≤ p .count) × RowsPut (turnsBy p cols) (choiceIn (p .count) map) (delayIn delays) (take i order) table kept
+Inv-loop p cols map delays order table₀ progress₀ i₀ table progress i = (i ≤ p .count) × RowsPut (turnsBy p cols) (choiceIn (p .count) map) (delayIn delays) (take i order) table progress
 
 abbrev μ-loop : tie.MeasureT-loop
-μ-loop p cols map delays order table₀ kept₀ i₀ table kept i = p .count - i
+μ-loop p cols map delays order table₀ progress₀ i₀ table progress i = p .count - i
 
 put-chosen-requires : tie.Need-put-chosen-requires Inv-loop μ-loop
-put-chosen-requires c κs = ((search (needs, loop-cases), search (needs, loop-cases), search (needs, loop-cases), search (needs, loop-cases)), ((search (needs, loop-cases), search (needs, loop-cases)), (search (needs, loop-cases), search (needs, loop-cases))))
+put-chosen-requires c κs = ((search (needs, loop-cases), search (needs, loop-cases), search (needs, loop-cases), search (needs, loop-cases)), ((search (needs, loop-cases), search (needs, loop-cases)), ((search (needs, loop-cases), search (needs, loop-cases)), (search (needs, loop-cases), search (needs, loop-cases)))))
 
 pub put-turns-spec : {M : Type 1} → statement M
 put-turns-spec =

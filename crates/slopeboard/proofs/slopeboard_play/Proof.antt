@@ -39,7 +39,8 @@ use denote.Triple.Walked.{says, Stays, gave-slice, stay-none-slice, walkOf, AllG
 use denote.Exit.{yes}
 use Rattle.play_spec.specs.declared.Standing.{Standing}
 use Rattle.play_spec.specs.declared.PlayAnswer.{PlayAnswer}
-use Rattle.play_spec.specs.Play.{played, playOf}
+use Rattle.play_spec.specs.Play.{playOf}
+use Rattle.refusal.specs.Outcome.{beside}
 use Rattle.play_spec.proofs.Standing as T
 use Rattle.play_spec.proofs.PlayAnswer as E
 use Rattle.play_spec.proofs.PlayAnswer.Laws as E′
@@ -121,7 +122,7 @@ module _ {M : Type 1} (𝓤 : URA M) (H : Heap 𝓤) (A : Atoms 𝓤) (W : Given
   Post = walkOf 𝓤 H A f.ended stayed (f.clauses 𝓤 H A mem run) .post (((κ′, (κ, tt)), (q′, (q, tt)), tt, a, vals), tt)
 
   -- the exit: what says the list's last value, zs
-  exits : (r : PlayAnswer) (v : Val) (zs : List Standing) → played r zs ≡ playOf (c .now) (d .now) (e .now) ys → length zs ≡ length ys
+  exits : (r : PlayAnswer) (v : Val) (zs : List Standing) → beside r zs ≡ playOf (c .now) (d .now) (e .now) ys → length zs ≡ length ys
       → ent 𝓤 (⋆ 𝓤 H A (‵ (E.the-row .own r (v ∷ [])) ∷ (‵ (flft κ′ q′) ⊛ ‵ (flft κ q) ⊛ ‵ ftrue) ∷ ‵ (finally T.the-row γ zs) ∷ ‵ Sheet ∷ ‵ Board ∷ ‵ Delays ∷ [])) (Post v)
   exits r v zs is as-long =
       qed W (‵ (E.the-row .own r (v ∷ [])) ∷ (‵ (flft κ′ q′) ⊛ ‵ (flft κ q) ⊛ ‵ ftrue) ∷ ‵ (finally T.the-row γ zs) ∷ ‵ Sheet ∷ ‵ Board ∷ ‵ Delays ∷ []) ∵
@@ -142,7 +143,7 @@ module _ {M : Type 1} (𝓤 : URA M) (H : Heap 𝓤) (A : Atoms 𝓤) (W : Given
       nothing ! $ move ! (2 ∷ 0 ∷ []) $ fjoin ! $ move ! (1 ∷ 0 ∷ []) $ fjoin ! $ move ! (1 ∷ 0 ∷ []) $ fjoin ! $ move ! (1 ∷ 0 ∷ []) $ fjoin ! $ move ! (1 ∷ 0 ∷ []) $ join ! $ frame ! $ done !
 
   abbrev Said : PlayAnswer → List Standing → Type 0
-  Said r zs = played r zs ≡ playOf (c .now) (d .now) (e .now) ys
+  Said r zs = beside r zs ≡ playOf (c .now) (d .now) (e .now) ys
 
   module _ (𝓣 : Tables 𝓤 H) (fm : FmC 𝓤 H (W .laws) (𝓣 .C)) (known : Triple 𝓤 (𝓣 .C #play·play) (Play 𝓤 H A mem run)) where
     walk : ent 𝓤 (onEntry 𝓤 H A f.signature (κ′, (κ, tt)) (q′, (q, tt)) a vals) (WpFn 𝓤 H (𝓣 .C) (𝓣 .Λ) code.function (ss ∷ bs ∷ ds ∷ sl ∷ []) Post)

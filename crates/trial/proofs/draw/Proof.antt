@@ -1,4 +1,4 @@
-use Rattle.trial.proofs.Drawings.{seed-narrow, groomer-count-fits, slope-count-fits, turn-count-fits, draw-cases}
+use Rattle.trial.proofs.Drawings.{seed-in-word, groomer-count-fits, slope-count-fits, turn-count-fits, draw-cases}
 use borrow.Author.Needs.{needs}
 use Rattle.trial.proofs.draw.Statement.{statement}
 use Rattle.trial.proofs.draw.Tie as tie
@@ -11,7 +11,7 @@ draw-spec =
     (λ c. search draw-cases)
     (λ c. search groomer-count-fits)
     (λ c. search slope-count-fits)
-    (λ c. search seed-narrow)
+    (λ c. search seed-in-word)
     (λ c. search turn-count-fits)
     (λ c. search needs)
     (λ c. search needs)

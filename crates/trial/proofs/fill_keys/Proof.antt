@@ -1,3 +1,4 @@
+-- Invariant: the keys of the turns drawn from x on, put from place i on, give the keys of all drawn turns; x can be drawn from. Measure: the places left.
 use mathlib.Core.Path.{_≡_}
 use Prim.Native.Nat.{_-_, _≤_}
 use lib.ListN.{length}

@@ -12,7 +12,7 @@ use std::process::ExitCode;
 use slopeboard::Standing;
 
 /// The entry's number in a case.
-const PLAY: u8 = 16;
+const PLAY: usize = 16;
 
 /// What each number that is lent holds before the call.
 const BEFORE: u16 = 0xA5A5;
@@ -27,29 +27,25 @@ impl<'a> Cases<'a> {
         Some(front)
     }
 
-    fn number(&mut self) -> Option<usize> {
-        let bytes = self.bytes(2)?;
-        Some(usize::from(u16::from_be_bytes([bytes[0], bytes[1]])))
+    /// A number of so many bytes.
+    fn number(&mut self, bytes: usize) -> Option<usize> {
+        let digits = self.bytes(bytes)?.iter();
+        Some(digits.fold(0, |number, &byte| 256 * number + usize::from(byte)))
     }
-}
-
-fn checksum(list: &[Standing]) -> u32 {
-    let numbers = list
-        .iter()
-        .flat_map(|place| [place.working, place.driving, place.standing, place.turn]);
-    numbers.fold(1, |sum, number| (sum * 31 + u32::from(number)) % 65_521)
 }
 
 /// Runs the next case; `None` if it is not whole or of another entry.
 fn run(cases: &mut Cases) -> Option<String> {
-    let entry = cases.bytes(1)?[0];
-    let places = cases.number()?;
-    let sheet_len = cases.number()?;
-    let board_len = cases.number()?;
-    let sheet = cases.bytes(sheet_len)?;
-    let board = cases.bytes(board_len)?;
-    let count = cases.number()?;
-    let delays: Option<Vec<u16>> = (0..count).map(|_| Some(cases.number()? as u16)).collect();
+    let [entry, name] = [cases.number(1)?, cases.number(1)?];
+    let [numbers, _, front, rest] = [(); 4].map(|()| cases.number(2));
+    let name = cases.bytes(name)?;
+    let sheet = cases.bytes(front?)?;
+    let mut rest = Cases(cases.bytes(rest?)?);
+    let board = rest.number(2)?;
+    let board = rest.bytes(board)?;
+    let delays: Vec<u16> = std::iter::from_fn(|| rest.number(2))
+        .map(|delay| delay as u16)
+        .collect();
     if entry != PLAY {
         return None;
     }
@@ -59,11 +55,16 @@ fn run(cases: &mut Cases) -> Option<String> {
         standing: BEFORE,
         turn: BEFORE,
     };
-    let mut list = vec![before; places];
-    let result = slopeboard::play(sheet, board, &delays?, &mut list);
+    let mut list = vec![before; numbers? / 4];
+    let result = slopeboard::play(sheet, board, &delays, &mut list);
     let (refusal, groomers) =
         result.map_or_else(|refusal| (refusal.number(), 0), |count| (0, count));
-    Some(format!("play {refusal} {groomers} {}", checksum(&list)))
+    let numbers = list
+        .iter()
+        .flat_map(|place| [place.working, place.driving, place.standing, place.turn]);
+    let numbers: String = numbers.map(|number| format!(" {number}")).collect();
+    let name = String::from_utf8_lossy(name);
+    Some(format!("{name} {refusal} {groomers} |{numbers} |"))
 }
 
 fn main() -> ExitCode {

@@ -1,15 +1,12 @@
 //! Cases for playing a board with delays.
 
-use slopeboard_reference::boards;
-use slopeboard_reference::gen::{self, Rng, Row, Shift};
+use slopeboard_reference::boards::{self, planned};
+use slopeboard_reference::gen::{self, Rng, Row};
 use slopeboard_reference::naive::{play, Standing};
 use slopeboard_reference::shapes;
+use slopeboard_reference::worked::{sheet_of, with, BOARD, SHEET};
 
-use crate::{number_sum, planned, Corpus, EXAMPLE, EXAMPLE_BOARD, NUMBER_FILL};
-
-const ENTRY: u8 = 16;
-const MOST_PLACES: usize = 20;
-const MOST_DELAYS: usize = 408;
+use crate::{Corpus, Entry, Input};
 
 /// Adds all cases of this entry.
 pub fn add(corpus: &mut Corpus) {
@@ -19,67 +16,78 @@ pub fn add(corpus: &mut Corpus) {
     seeded_cases(corpus);
 }
 
-fn case(corpus: &mut Corpus, sheet: &[u8], board: &[u8], delays: &[u16], lent: usize) {
-    assert!(lent <= MOST_PLACES && delays.len() <= MOST_DELAYS);
-    let filled = Standing {
-        working: NUMBER_FILL,
-        driving: NUMBER_FILL,
-        standing: NUMBER_FILL,
-        turn: NUMBER_FILL,
+fn case(corpus: &mut Corpus, name: &str, pair: [&[u8]; 2], delays: &[u16], places: usize) {
+    let [sheet, board] = pair;
+    let mut rest = (board.len() as u16).to_be_bytes().to_vec();
+    rest.extend(board);
+    rest.extend(delays.iter().flat_map(|delay| delay.to_be_bytes()));
+    let input = Input {
+        lent: [4 * places, 0],
+        front: sheet,
+        rest: &rest,
     };
-    let mut list = vec![filled; lent];
-    let result = play(sheet, board, delays, &mut list);
-    let (refusal, groomers) = result.map_or_else(|number| (number, 0), |count| (0, count));
-    let numbers: Vec<u16> = list
-        .iter()
-        .flat_map(|place| [place.working, place.driving, place.standing, place.turn])
-        .collect();
-    let line = format!("play {refusal} {groomers} {}", number_sum(&numbers));
-    let mut input = (board.len() as u16).to_be_bytes().to_vec();
-    input.extend(sheet);
-    input.extend(board);
-    input.extend((delays.len() as u16).to_be_bytes());
-    input.extend(delays.iter().flat_map(|delay| delay.to_be_bytes()));
-    corpus.push_with(ENTRY, lent, sheet.len(), &input, &line);
+    corpus.add(Entry(16, "play", 1), name, input, |numbers, _| {
+        let standing = |four: &[u16]| Standing {
+            working: four[0],
+            driving: four[1],
+            standing: four[2],
+            turn: four[3],
+        };
+        let mut list: Vec<Standing> = numbers.chunks(4).map(standing).collect();
+        let groomers = play(sheet, board, delays, &mut list)?;
+        let four = |one: &Standing| [one.working, one.driving, one.standing, one.turn];
+        let after: Vec<u16> = list.iter().flat_map(four).collect();
+        numbers.copy_from_slice(&after);
+        Ok(vec![groomers.into()])
+    });
 }
 
-/// The example with delays at their bound and with all numbers of places.
+/// The worked shift with delays at their bound and with all numbers of places.
 fn example_cases(corpus: &mut Corpus) {
-    for places in [0, 1, 2, 3, MOST_PLACES] {
-        case(corpus, &EXAMPLE, &EXAMPLE_BOARD, &[0; 4], places);
+    for places in [0, 1, 2, 3, 20] {
+        let name = format!("without delays, {places} places");
+        case(corpus, &name, [&SHEET, &BOARD], &[0; 4], places);
     }
     for turn in 0..4 {
         for delay in [120, 121] {
             let mut delays = [7; 4];
             delays[turn] = delay;
-            case(corpus, &EXAMPLE, &EXAMPLE_BOARD, &delays, 2);
+            let name = format!("delay {delay} of turn {turn}");
+            case(corpus, &name, [&SHEET, &BOARD], &delays, 2);
         }
     }
     for count in [0, 3, 5] {
-        case(corpus, &EXAMPLE, &EXAMPLE_BOARD, &vec![0; count], 2);
+        let name = format!("{count} delays");
+        case(corpus, &name, [&SHEET, &BOARD], &vec![0; count], 2);
     }
-    case(corpus, &EXAMPLE, &EXAMPLE_BOARD, &[65_535; 4], 0);
+    case(
+        corpus,
+        "delays far too long",
+        [&SHEET, &BOARD],
+        &[65_535; 4],
+        0,
+    );
 }
 
 /// The refusals of the check, with wrong delays and no places besides.
 fn refused_cases(corpus: &mut Corpus) {
-    case(corpus, &EXAMPLE[..38], &EXAMPLE_BOARD, &[], 0);
-    case(corpus, &EXAMPLE, &EXAMPLE_BOARD[..27], &[], 0);
+    case(corpus, "a sheet cut short", [&SHEET[..38], &BOARD], &[], 0);
+    case(corpus, "a board cut short", [&SHEET, &BOARD[..27]], &[], 0);
     for (place, value) in [(15, 0x03), (15, 0x08), (21, 0x05), (14, 0xF1)] {
-        let mut board = EXAMPLE_BOARD;
-        board[place] = value;
-        case(corpus, &EXAMPLE, &board, &[121], 0);
-        case(corpus, &EXAMPLE, &board, &[0; 4], 2);
+        let board = with(&BOARD, place, &[value]);
+        let name = format!("board with {value} at {place}");
+        case(corpus, &name, [&SHEET, &board], &[121], 0);
+        case(corpus, &name, [&SHEET, &board], &[0; 4], 2);
     }
-    let mut board = EXAMPLE_BOARD[..24].to_vec();
-    board[6] = 2;
-    case(corpus, &EXAMPLE, &board, &[0; 4], 2);
-    case(corpus, b"GRM\x10\x78\0\0", &[0; 15], &[], 16);
-    let none = planned(b"GRM\x10\x78\0\0");
+    let board = with(&BOARD[..24], 6, &[2]);
+    case(corpus, "a step too few", [&SHEET, &board], &[0; 4], 2);
+    let sheet = b"GRM\x10\x78\0\0";
+    case(corpus, "no board", [sheet, &[0; 15]], &[], 16);
+    let none = planned(sheet);
     for places in [15, 16] {
-        case(corpus, b"GRM\x10\x78\0\0", &none, &[], places);
+        case(corpus, "no turns", [sheet, &none], &[], places);
     }
-    case(corpus, b"GRM\x10\x78\0\0", &none, &[0], 16);
+    case(corpus, "no turns, a delay", [sheet, &none], &[0], 16);
 }
 
 /// One groomer: turns that hold up the next, and the end of the day.
@@ -101,13 +109,9 @@ fn time_cases(corpus: &mut Corpus) {
     for (times, delays) in lists {
         let turn = |(&(start, end), slope)| [slope, 1, start, end - start, 9, 0];
         let turns: Vec<Row> = times.iter().zip(1..).map(turn).collect();
-        let shift = Shift {
-            groomers: 1,
-            slopes: 9,
-            turns,
-        };
-        let sheet = gen::encode(&mut Rng::new(0), &shift, 0).bytes;
-        case(corpus, &sheet, &planned(&sheet), delays, 2);
+        let sheet = sheet_of(1, 9, &turns);
+        let name = format!("from and to {times:?}, delays {delays:?}");
+        case(corpus, &name, [&sheet, &planned(&sheet)], delays, 2);
     }
 }
 
@@ -123,11 +127,12 @@ fn seeded_cases(corpus: &mut Corpus) {
         let board = boards::right(&mut rng, &shift.turns);
         let most = rng.pick(&[5, 40, 120]);
         let delays: Vec<u16> = (0..turns).map(|_| rng.between(0, most) as u16).collect();
-        case(corpus, &sheet, &board.bytes(), &delays, 16);
+        let name = format!("drawn {round}");
+        case(corpus, &name, [&sheet, &board.bytes()], &delays, 16);
         if round % 4 == 1 {
             let kind = rng.below(boards::FAULTS);
             let faulty = boards::with_fault(&mut rng, &shift.turns, &board, kind);
-            case(corpus, &sheet, &faulty, &delays, 16);
+            case(corpus, &name, [&sheet, &faulty], &delays, 16);
         }
     }
 }

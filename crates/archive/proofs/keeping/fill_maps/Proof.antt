@@ -1,3 +1,4 @@
+-- Invariant: the maps of the first i records are copied, and the sheet holds the records left. Measure: the records left.
 use Rattle.archive.proofs.KeepCases.{fill-cases}
 use Rattle.archive_spec.specs.Kept.{mapsFrom}
 use Rattle.archive_spec.specs.Column.{widths}

@@ -1,3 +1,4 @@
+-- Invariant: the sum is the width of the first i maps' fields. Measure: the maps left.
 use Rattle.archive.proofs.RestoreCases.{width-cases}
 use Rattle.archive_spec.specs.Column.{widths}
 use Rattle.sheet.specs.Record.{recordBytes}

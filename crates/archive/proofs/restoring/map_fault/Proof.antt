@@ -1,3 +1,4 @@
+-- Invariant: the maps from i on have the first cause of all. Measure: the maps left.
 use Rattle.archive.proofs.RestoreCases.{map-fault-cases}
 use Rattle.archive_spec.specs.Archive.{mapsCauses}
 use Rattle.refusal.specs.Cause.{firstOf}

@@ -1,3 +1,4 @@
+-- Invariant: the first t numbers are 0. Measure: the numbers left.
 use mathlib.Core.Path.{_≡_}
 use Prim.Native.Nat.{_-_, _≤_}
 use lib.ListN.{length}

@@ -1,3 +1,4 @@
+-- Invariant: the first k groomers are busy at the start. Measure: the groomers left.
 use Prim.Native.Nat.{ℕ, _-_, _≤_, _<_}
 use lib.ListN.{getD}
 use Rattle.assign.proofs.Serving.{free-cases}

@@ -1,3 +1,5 @@
+-- Invariant: the first i turns of the order have their numbers, each groomer used is busy until its last turn and the gap are over, and none is free before the earliest minute.
+-- Measure: the turns left in the order.
 use mathlib.Core.Path.{_≡_}
 use Prim.Native.Nat.{_-_, _≤_}
 use lib.ListN.{length}

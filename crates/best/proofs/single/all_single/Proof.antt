@@ -1,3 +1,5 @@
+-- Invariant: the flags are those of the slopes of the turns below x, and `all` says whether each of these turns has no driver and a slope that none before it has.
+-- Measure: the turns left.
 use Rattle.best.proofs.SingleCases.{flags-cases, single-cases}
 use Rattle.instance.specs.Flags.{Flagged}
 use Rattle.best_spec.specs.Single.{singleTurn}

@@ -1,3 +1,4 @@
+-- Invariant: the sum is the amounts of the first i steps. Measure: the steps left.
 use Prim.Native.Nat.{_-_, _*_, _≤_}
 use mathlib.Core.Path.{_≡_}
 use Rattle.model.specs.Steps.{tally}

@@ -3,7 +3,8 @@ use Rattle.model.specs.Choice.{chooseEach}
 use Rattle.choice_map.specs.Choice.{choiceIn, Clean}
 use Rattle.selection.proofs.Fitting.{turn-inside}
 use Rattle.hall_spec.specs.Plan.{fitsAmong}
-use Rattle.hall_steps.specs.Among.{hallBy, ofKind}
+use Rattle.hall_steps.specs.Among.{hallAmong}
+use Rattle.hall.specs.OneKind.{meant}
 use Rattle.hall.specs.Supply.{Supplied}
 use lib.ListN.{length, drop, replicate}
 use mathlib.Core.Bool.{false}
@@ -16,11 +17,11 @@ use Rattle.hall.proofs.choosing.choose_each.Statement.{statement}
 use Rattle.hall.proofs.choosing.choose_each.Tie as tie
 
 abbrev Inv-loop : tie.InvT-loop
-Inv-loop a cols list map₀ used₀ left₀ map used left =
-    (left ≤ length list) × Clean (a .size .count) map × Supplied (hallBy a cols) (choiceIn (a .size .count) map) used × (choiceIn (a .size .count) map ≡ chooseEach (fitsAmong (hallBy a cols) (ofKind a cols)) (drop left list) (replicate (a .size .count) false))
+Inv-loop a any cols list map₀ used₀ left₀ map used left =
+    (left ≤ length list) × Clean (a .size .count) map × Supplied (hallAmong a cols) (choiceIn (a .size .count) map) used × (choiceIn (a .size .count) map ≡ chooseEach (fitsAmong (hallAmong a cols) (meant a any cols)) (drop left list) (replicate (a .size .count) false))
 
 abbrev μ-loop : tie.MeasureT-loop
-μ-loop a cols list map₀ used₀ left₀ map used left = left
+μ-loop a any cols list map₀ used₀ left₀ map used left = left
 
 cast-j : tie.Need-cast-j Inv-loop μ-loop
 cast-j c = omega (arith, c .shared-slice-known2 .given (c .before .before .loop .left - 1))

@@ -1,3 +1,4 @@
+-- Invariant: the draw is added at the minutes from the start to m, and nothing else is changed. Measure: the minutes left.
 use Rattle.hall.specs.Supply.{Drawn}
 use Rattle.turn.specs.Turn.{shiftMinutes}
 use Prim.Native.Nat.{_-_, _≤_}

@@ -1,3 +1,4 @@
+-- Invariant: the answer so far is whether the supply lasts at the minutes from the start to m. Measure: the minutes left.
 use Rattle.turn.specs.Turn.{shiftMinutes}
 use mathlib.Core.Path.{_≡_}
 use Prim.Native.Nat.{_-_, _≤_}

@@ -17,7 +17,7 @@ charge-refine-spec =
     (λ c κs. search needs)
     (λ c. search (needs, refine-cases))
     (λ c. search needs)
-    (λ c κs. (search (needs, refine-cases), search needs, search needs))
+    (λ c κs. ((search (needs, refine-cases), search needs, search needs), search needs))
     (λ c. search needs)
     (λ c. search needs)
     (λ c. search (needs, refine-cases)))

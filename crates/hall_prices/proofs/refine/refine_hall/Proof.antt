@@ -16,10 +16,10 @@ refine-hall-spec =
     (λ c. search needs)
     (λ c κs. search needs)
     (λ c. search needs)
-    slice-aggregate-plan-rounds
-    (λ c. search needs)
     (λ c. search (needs, written-cases))
-    (λ c κs. search (needs, written-cases))
+    (λ c. search needs)
+    slice-aggregate-plan-rounds
+    (λ c κs. ((search needs, search (needs, written-cases), search (needs, written-cases)), search needs))
     (λ c. search needs)
     (λ c. search needs)
     (λ c. search (needs, written-cases)))

@@ -1,3 +1,4 @@
+-- Invariant: the rows below t stand as the engine gets them. Measure: the rows left.
 use Rattle.instance.specs.Columns.{columnPlaces}
 use lib.ListN.{length}
 use mathlib.Core.Path.{_≡_}

@@ -3,8 +3,5 @@ use borrow.Author.Needs.{needs}
 use Rattle.instance.proofs.posing.load_with.Statement.{statement}
 use Rattle.instance.proofs.posing.load_with.Tie as tie
 
-returns : tie.Need-returns
-returns c = ((search (needs, garage-load-cases), search (needs, garage-load-cases)), search needs)
-
 pub load-with-spec : {M : Type 1} → statement M
-load-with-spec = tie.close (tie.spec (λ c κs. search needs) (λ c κs. search (needs, garage-load-cases)) returns)
+load-with-spec = tie.close (tie.spec (λ c κs. search needs) (λ c κs. search (needs, garage-load-cases)) (λ c. (search (needs, garage-load-cases), search needs)))

@@ -1,3 +1,4 @@
+-- Invariant: the first t turns of the table stand in the columns. Measure: the turns left.
 use borrow.Author.Needs.{needs}
 use Rattle.instance.proofs.Posed.{rows-cases}
 use Rattle.instance.specs.Columns.{columnPlaces}

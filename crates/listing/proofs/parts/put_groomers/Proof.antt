@@ -1,3 +1,4 @@
+-- Invariant: what is put down, followed by the parts of the groomers left, is the part of all. Measure: the groomers left.
 use borrow.Author.Needs.{needs}
 use Rattle.listing.proofs.PartCases.{parts-cases}
 use Prim.Native.Nat.{_+_, _-_, _≤_}

@@ -1,4 +1,4 @@
-use Rattle.prices.proofs.SumCases.{both-cases}
+use Rattle.prices.proofs.UndrivenCases.{none-named, undriven-prices}
 use borrow.Author.Needs.{needs}
 use Rattle.prices.proofs.counts.put_counts.Statement.{statement}
 use Rattle.prices.proofs.counts.put_counts.Tie as tie
@@ -9,8 +9,7 @@ put-counts-spec =
     (tie.spec
     (λ c κs. search needs)
     (λ c κs. search needs)
+    (λ c. search needs)
+    (λ c κs. (search needs, search none-named, search needs))
     (λ c κs. search needs)
-    (λ c. search needs)
-    (λ c. search needs)
-    (λ c. search (needs, both-cases))
-    (λ c. (search needs, (search both-cases, search (needs, both-cases)))))
+    (λ c. (search needs, (search undriven-prices, search needs))))

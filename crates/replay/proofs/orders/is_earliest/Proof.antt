@@ -1,3 +1,4 @@
+-- Invariant: the flag says whether no open turn below t, of j's groomer or driver, ends before j. Measure: the turns before j that are left.
 use borrow.Author.Needs.{needs}
 use Rattle.replay.proofs.Order.{earliest-cases}
 use Rattle.local_ratio.specs.Below.{earliestBelow}

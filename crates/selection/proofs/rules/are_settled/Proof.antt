@@ -1,3 +1,4 @@
+-- Invariant: each turn below t is chosen or conflicts with a chosen one. Measure: the turns left.
 use borrow.Author.Needs.{needs}
 use Rattle.selection.proofs.Chosen.{lent-cases, all-cases, next-cases}
 use Rattle.selection.specs.Below.{maximalBelow}
@@ -10,10 +11,10 @@ use Rattle.selection.proofs.rules.are_settled.Statement.{statement}
 use Rattle.selection.proofs.rules.are_settled.Tie as tie
 
 abbrev Inv-loop : tie.InvT-loop
-Inv-loop p cols map taken flags c n t₀ t = (t ≤ p .count) × (maximalBelow (turnsBy p cols) (choiceIn (p .count) map) t ≡ true)
+Inv-loop p cols map rows flags c n t₀ t = (t ≤ p .count) × (maximalBelow (turnsBy p cols) (choiceIn (p .count) map) t ≡ true)
 
 abbrev μ-loop : tie.MeasureT-loop
-μ-loop p cols map taken flags c n t₀ t = p .count - t
+μ-loop p cols map rows flags c n t₀ t = p .count - t
 
 pub are-settled-spec : {M : Type 1} → statement M
 are-settled-spec =

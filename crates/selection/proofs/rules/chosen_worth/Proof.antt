@@ -1,3 +1,4 @@
+-- Invariant: the sum is the worth of the chosen turns below t. Measure: the turns left.
 use borrow.Author.Needs.{needs}
 use Rattle.selection.proofs.Chosen.{all-cases}
 use Rattle.selection.specs.Below.{chosenBelow}

@@ -1,6 +1,7 @@
+-- Invariant: no two chosen turns below x conflict, and the rows and flags gathered are theirs. Measure: the turns left.
 use borrow.Author.Tests.{not-true, not-false}
 use borrow.Author.Needs.{needs}
-use Rattle.selection.proofs.Chosen.{take-room, independent-next, independent-ends, taken-places, lent-cases, one-cases, all-cases, next-cases}
+use Rattle.selection.proofs.Chosen.{take-fit, independent-next, independent-ends, taken-places, lent-cases, one-cases, all-cases, next-cases}
 use Rattle.selection.specs.Gathered.{Gathered}
 use Rattle.selection.specs.Below.{independentBelow}
 use Rattle.choice_map.specs.Choice.{choiceIn}
@@ -12,11 +13,11 @@ use Rattle.selection.proofs.rules.is_independent.Statement.{statement}
 use Rattle.selection.proofs.rules.is_independent.Tie as tie
 
 abbrev Inv-loop : tie.InvT-loop
-Inv-loop p cols map taken₀ n flags₀ c₀ x₀ taken flags c x =
-    (x ≤ p .count) × Gathered (turnsBy p cols) (choiceIn (p .count) map) x c taken flags × (independentBelow (turnsBy p cols) (choiceIn (p .count) map) x ≡ true)
+Inv-loop p cols map rows₀ n flags₀ c₀ x₀ rows flags c x =
+    (x ≤ p .count) × Gathered (turnsBy p cols) (choiceIn (p .count) map) x c rows flags × (independentBelow (turnsBy p cols) (choiceIn (p .count) map) x ≡ true)
 
 abbrev μ-loop : tie.MeasureT-loop
-μ-loop p cols map taken₀ n flags₀ c₀ x₀ taken flags c x = p .count - x
+μ-loop p cols map rows₀ n flags₀ c₀ x₀ rows flags c x = p .count - x
 
 returns : tie.Need-returns Inv-loop μ-loop
 returns c =
@@ -24,9 +25,9 @@ returns c =
     let chosen = call .before .before .before .before in
     let test = chosen .before .before in
     let head = test .before in (
-      independent-ends _ _ _ _ (test .loop-test .taken) (chosen .before .is-chosen .ensures) (call .before .row-at .ensures) _ _ _ (head .before .before .pre .0) (call .take-if-room .ensures .0) (chosen .if1 .taken) (head .loop .inv .1)
-          (not-true (call .take-if-room .result) (c .if2 .taken)),
-      taken-places (head .loop .taken) (head .loop .c) (call .before .row-at .result) (call .take-if-room .result) (call .take-if-room .ensures .1 .0) (head .loop .inv .1 .places),
+      independent-ends _ _ _ _ (test .loop-test .taken) (chosen .before .is-chosen .ensures) (call .before .row-at .ensures) _ _ _ (head .before .before .pre .0) (call .gather-if-fits .ensures .0) (chosen .if1 .taken) (head .loop .inv .1)
+          (not-true (call .gather-if-fits .result) (c .if2 .taken)),
+      taken-places (head .loop .rows) (head .loop .c) (call .before .row-at .result) (call .gather-if-fits .result) (call .gather-if-fits .ensures .1 .0) (head .loop .inv .1 .places),
     )
 
 loop-again : tie.Need-loop-again Inv-loop μ-loop
@@ -36,11 +37,11 @@ loop-again c =
     let test = chosen .before .before in
     let head = test .before in (
       search needs,
-      take-room _ _ _ _ (test .loop-test .taken) (chosen .before .is-chosen .ensures) (call .before .row-at .ensures) _ _ _ (head .before .before .pre .0) {r = call .take-if-room .result} (not-false (call .take-if-room .result) (c .if2 .left)) (chosen .if1 .taken) (head .loop .inv .1)
-          (call .take-if-room .ensures .1 .0)
-          (call .take-if-room .ensures .1 .1),
-      independent-next _ _ _ _ (test .loop-test .taken) (chosen .before .is-chosen .ensures) (call .before .row-at .ensures) _ _ _ (head .before .before .pre .0) (call .take-if-room .ensures .0) (chosen .if1 .taken) (head .loop .inv .1)
-          (not-false (call .take-if-room .result) (c .if2 .left))
+      take-fit _ _ _ _ (test .loop-test .taken) (chosen .before .is-chosen .ensures) (call .before .row-at .ensures) _ _ _ (head .before .before .pre .0) {r = call .gather-if-fits .result} (not-false (call .gather-if-fits .result) (c .if2 .left)) (chosen .if1 .taken) (head .loop .inv .1)
+          (call .gather-if-fits .ensures .1 .0)
+          (call .gather-if-fits .ensures .1 .1),
+      independent-next _ _ _ _ (test .loop-test .taken) (chosen .before .is-chosen .ensures) (call .before .row-at .ensures) _ _ _ (head .before .before .pre .0) (call .gather-if-fits .ensures .0) (chosen .if1 .taken) (head .loop .inv .1)
+          (not-false (call .gather-if-fits .result) (c .if2 .left))
           (head .loop .inv .2),
     )
 

@@ -1,3 +1,4 @@
+-- Invariant: the first i numbers are copied. Measure: the numbers left.
 use borrow.Author.Needs.{needs}
 use Prim.Native.Nat.{_-_, _≤_}
 use mathlib.Core.Path.{_≡_}

@@ -1,0 +1,7 @@
+use borrow.Author.Needs.{needs}
+use Rattle.check_board.proofs.Judgements.{wrong-cases}
+use Rattle.check_board.proofs.judge.sums_differ.Statement.{statement}
+use Rattle.check_board.proofs.judge.sums_differ.Tie as tie
+
+pub sums-differ-spec : {M : Type 1} → statement M
+sums-differ-spec = tie.close (tie.spec (λ c. search (needs, wrong-cases)) (λ c. search (needs, wrong-cases)) (λ c. search (needs, wrong-cases)))

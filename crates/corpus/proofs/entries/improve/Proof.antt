@@ -1,7 +1,0 @@
-use Rattle.corpus.proofs.LineCases.{improved-cases}
-use borrow.Author.Needs.{needs}
-use Rattle.corpus.proofs.entries.improve.Statement.{statement}
-use Rattle.corpus.proofs.entries.improve.Tie as tie
-
-pub improve-spec : {M : Type 1} → statement M
-improve-spec = tie.close (tie.spec (λ c κs. search needs) (λ c κs. search needs) (λ c κs. search needs) (λ c. search needs) (λ c. (search improved-cases, search improved-cases)))

@@ -1,0 +1,3 @@
+pub mod SumCases
+pub mod LookCases
+pub mod RelaxedCases

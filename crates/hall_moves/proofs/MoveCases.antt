@@ -1,0 +1,389 @@
+-- Moved prices of minutes by their cases, each premise in the form in which the code's calls and tests leave it. Assumes nothing.
+use Prim.Native.Nat.{ℕ, zero, suc, _+_, _-_, _*_, _/_, _≤_, _<_, min}
+use mathlib.Core.Path.{_≡_, refl, sym, ap, _∙_}
+use mathlib.Core.Bool.{Bool, true, false, cond}
+use mathlib.Core.List.{List}
+use native.Mathlib.Omega.{arith}
+use native.Mathlib.Nat.{mul-le-mul, div-le-self, suc-mul}
+use native.Mathlib.Numerals.{add-one}
+use native.Mathlib.Decide.{decLt, ℕ-discrete}
+use mir.Syntax.{w16, w32}
+use mir.Val.{Fits}
+use lib.Dec.{ltb}
+use lib.ListN.{length, getD, set, replicate, length-set, length-replicate, getD-replicate}
+use lib.Seq.{getD-set-same, getD-set-other, ext-getD}
+use borrow.Author.Tests.{lt-ltb, le-ltb}
+use Rattle.lists.specs.Lists.{sum, below, tab}
+use Rattle.lists.proofs.Bools.{fails}
+use Rattle.lists.proofs.Sums.{sum-zero, sum-same, sum-split, all-below, tab-length, tab-at, tab-same}
+use Rattle.turn.specs.Turn.{shiftMinutes, mostWorth}
+use Rattle.model.specs.Choice.{has, chosen}
+use Rattle.choice_map.specs.Choice.{chosenIn, choiceIn, nextChosen, Clean}
+use Rattle.choice_map.proofs.Clean.{choice-has, clean-bits, clear-bits}
+use Rattle.choice_map.proofs.NextChosen.{next-from, next-clear, next-chosen}
+use Rattle.instance.specs.declared.ways.Row.{Row}
+use Rattle.instance.specs.Columns.{rowIn}
+use Rattle.instance.proofs.Rows.{count-is, groomer-at, start-at, end-at}
+use Rattle.hall_spec.specs.Hall.{mostUnits, Hall, chargesAt, drawAt, drawnAt}
+use Rattle.hall_spec.specs.Plan.{roundedUp}
+use Rattle.hall_spec.proofs.Windows.{charges-in, in-charges, drawAt-charging, drawAt-not}
+use Rattle.hall.specs.Supply.{Drawn}
+use Rattle.hall.proofs.Supplies.{draw-start, draw-done}
+use Rattle.hall_price_spec.specs.Prices.{minutePrice}
+use Rattle.hall_price_spec.specs.Hall.{highestMinutePrice, movedMinute, movedMinutes}
+use Rattle.hall_look.specs.declared.HallSize.{HallSize}
+use Rattle.hall_look.specs.Look.{mostPrice, hallFor, HallPosed, WindowRow}
+use Rattle.hall_moves.specs.Moves.{mostDrawn, mostMove, movePlaces, moveBy, movedWith, MovesTo, FewDrawn, RoomForMore, DrawnBy}
+use Rattle.hall_look.proofs.LookCases.{few-windows, window-inside, window-row}
+
+-- ---- by how much a price moves
+
+module _ (units change drawn : ℕ) {u d : ℕ} (e : u ≡ units) (f : d ≡ drawn) (l : change ≤ mostWorth) where
+  module _ (h : units < drawn) (few : drawn ≤ mostDrawn) (m : units ≤ mostUnits) where
+    rise-most : change * (d - u) ≤ mostWorth * mostDrawn
+    rise-most = mul-le-mul {n₁ = change} {m₁ = d - u} {n₂ = mostWorth} {m₂ = mostDrawn} l (omega arith)
+
+    pub rise-fits : Fits w32 (change * (d - u))
+    rise-fits = omega (arith, rise-most)
+
+    pub rise-up-fits : Fits w32 (change * (d - u) + (u - 1))
+    rise-up-fits = omega (arith, rise-most)
+
+    pub rise-is : (change * (d - u) + (u - 1)) / u ≡ moveBy change units drawn
+    unfolding moveBy roundedUp
+    rise-is = rw (lt-ltb units drawn h, e, f)
+
+    pub rise-small : (change * (d - u) + (u - 1)) / u ≤ mostMove
+    rise-small = omega (arith, rise-most, div-le-self (change * (d - u) + (u - 1)) u)
+
+  module _ (h : drawn ≤ units) (m : units ≤ mostUnits) where
+    fall-most : change * (u - d) ≤ mostWorth * mostUnits
+    fall-most = mul-le-mul {n₁ = change} {m₁ = u - d} {n₂ = mostWorth} {m₂ = mostUnits} l (omega arith)
+
+    pub fall-fits : Fits w32 (change * (u - d))
+    fall-fits = omega (arith, fall-most)
+
+    pub fall-is : change * (u - d) / u ≡ moveBy change units drawn
+    unfolding moveBy
+    fall-is = rw (le-ltb units drawn h, e, f)
+
+    pub fall-small : change * (u - d) / u ≤ mostMove
+    fall-small = omega (arith, fall-most, div-le-self (change * (u - d)) u)
+
+pub ruleset move-by-cases = (rise-fits, rise-up-fits, rise-is, rise-small, fall-fits, fall-is, fall-small)
+
+-- ---- the same for each draw in a list
+
+module _ (units change : ℕ) (moves : List ℕ) where
+  pub moves-start : length moves ≡ movePlaces → MovesTo units change moves 0
+  moves-start l = record { places = l; values = λ d h. absurd (omega arith) }
+
+  module _ {k : ℕ} (s : MovesTo units change moves k) where
+    pub moves-more : {x : ℕ} → k < movePlaces → x ≡ moveBy change units k → MovesTo units change (set moves k x) (k + 1)
+    moves-more {x} h e = record { places = length-set moves k x ∙ s .places; values = λ d l. at d l (ℕ-discrete d k) }
+      where
+        at : (d : ℕ) → d < k + 1 → Dec (d ≡ k) → getD (set moves k x) d 0 ≡ moveBy change units d
+        at d l (yes q) = rw q (getD-set-same moves k x 0 (omega (arith, s .places)) ∙ e)
+        at d l (no q) = getD-set-other moves k d x 0 q ∙ s .values d (omega arith)
+
+    pub moves-done : movePlaces ≤ k → MovesTo units change moves movePlaces
+    moves-done h = record { places = s .places; values = λ d l. s .values d (omega arith) }
+
+    pub moves-long : length moves ≡ movePlaces
+    moves-long = s .places
+
+pub move-small : (units change drawn : ℕ) → units ≤ mostUnits → drawn ≤ mostDrawn → change ≤ mostWorth → moveBy change units drawn ≤ mostMove
+move-small units change drawn u d c = go (decLt units drawn)
+  where
+    go : Dec (units < drawn) → moveBy change units drawn ≤ mostMove
+    go (yes h) = omega (arith, rise-is units change drawn refl refl c h d u, rise-small units change drawn refl refl c h d u)
+    go (no h) = let k : drawn ≤ units = omega arith in omega (arith, fall-is units change drawn refl refl c k u, fall-small units change drawn refl refl c k u)
+
+module _ (units change : ℕ) (moves : List ℕ) (s : MovesTo units change moves movePlaces) (drawn : ℕ) (h : drawn ≤ 4 * mostUnits) where
+  pub listed-place : drawn < length moves
+  listed-place = omega (arith, s .places)
+
+  pub listed-is : getD moves drawn 0 ≡ moveBy change units drawn
+  listed-is = s .values drawn (omega arith)
+
+  pub listed-small : units ≤ mostUnits → change ≤ mostWorth → drawn ≤ mostDrawn → getD moves drawn 0 ≤ mostMove
+  listed-small u c d = omega (arith, listed-is, move-small units change drawn u d c)
+
+pub ruleset moves-cases = (moves-start, moves-more, moves-done, moves-long)
+
+pub ruleset listed-cases = (listed-place, listed-is, listed-small)
+
+-- ---- one price
+
+module _ (units drawn : ℕ) (price by : ℕ) {p : ℕ} (e : p ≡ price) where
+  pub up-is : {r : ℕ} → units < drawn → r ≡ min (p + by) highestMinutePrice → r ≡ cond (ltb units drawn) (min highestMinutePrice (price + by)) (price - by)
+  up-is h k = rw (lt-ltb units drawn h) (omega (arith, e))
+
+  pub down-is : {r : ℕ} → drawn ≤ units → r ≡ p - by → r ≡ cond (ltb units drawn) (min highestMinutePrice (price + by)) (price - by)
+  down-is h k = rw (le-ltb units drawn h) (omega (arith, e))
+
+  pub up-fits : {r : ℕ} → r ≡ min (p + by) highestMinutePrice → Fits w16 r
+  up-fits k = omega arith
+
+  pub down-fits : {r : ℕ} → p ≤ mostPrice → r ≡ p - by → Fits w16 r
+  down-fits l k = omega arith
+
+  pub sum-fits : p ≤ mostPrice → by ≤ mostMove → Fits w32 (p + by)
+  sum-fits l k = omega arith
+
+pub ruleset price-cases = (up-is, down-is, up-fits, down-fits, sum-fits)
+
+moved-is : (change units drawn price : ℕ) {by : ℕ} → by ≡ moveBy change units drawn → cond (ltb units drawn) (min highestMinutePrice (price + by)) (price - by) ≡ movedMinute change units drawn price
+unfolding moveBy movedMinute
+moved-is change units drawn price e = rw e (go (ltb units drawn))
+  where
+    go : (b : Bool) → cond b (min highestMinutePrice (price + cond b (roundedUp (change * (drawn - units)) units) (change * (units - drawn) / units))) (price - cond b (roundedUp (change * (drawn - units)) units) (change * (units - drawn) / units))
+        ≡ cond b (min highestMinutePrice (price + roundedUp (change * (drawn - units)) units)) (price - change * (units - drawn) / units)
+    go true = refl
+    go false = refl
+
+-- ---- all prices
+
+module _ (units change : ℕ) (drawn old : List ℕ) where
+  -- those of the first m minutes are moved
+  pub record MovedTo (new : List ℕ) (m : ℕ) : Type 0 where
+    pub within : m ≤ shiftMinutes
+    pub size : length new ≡ length old
+    pub done : (i : ℕ) → i < m → getD new i 0 ≡ movedMinute change units (getD drawn i 0) (getD old i 0)
+    pub others : (i : ℕ) → m ≤ i → getD new i 0 ≡ getD old i 0
+
+  pub moved-start : MovedTo old 0
+  moved-start = record { within = omega arith; size = refl; done = λ i l. absurd (omega arith); others = λ i l. refl }
+
+  module _ (l : length old ≡ shiftMinutes) {new : List ℕ} {m : ℕ} (s : MovedTo new m) where
+    pub moved-long : length new ≡ shiftMinutes
+    moved-long = s .size ∙ l
+
+    pub moved-inside : m < shiftMinutes → m < length new
+    moved-inside h = omega (arith, moved-long)
+
+    pub moved-few : m < shiftMinutes → FewDrawn drawn → getD drawn m 0 ≤ mostDrawn
+    unfolding FewDrawn
+    moved-few h f = f m h
+
+    pub moved-more : {by x : ℕ} → m < shiftMinutes → by ≡ moveBy change units (getD drawn m 0) → x ≡ cond (ltb units (getD drawn m 0)) (min highestMinutePrice (getD new m 0 + by)) (getD new m 0 - by) → MovedTo (set new m x) (m + 1)
+    moved-more h g f =
+        let x = movedMinute change units (getD drawn m 0) (getD new m 0) in
+        let e = f ∙ moved-is change units (getD drawn m 0) (getD new m 0) g in
+        rw e (record {
+          within = omega arith;
+          size = length-set new m x ∙ s .size;
+          done = λ i k. at i k (ℕ-discrete i m);
+          others = λ i k. getD-set-other new m i x 0 (omega arith) ∙ s .others i (omega arith);
+        })
+      where
+        at : (i : ℕ) → i < m + 1 → Dec (i ≡ m) → getD (set new m (movedMinute change units (getD drawn m 0) (getD new m 0))) i 0 ≡ movedMinute change units (getD drawn i 0) (getD old i 0)
+        at i k (yes q) = rw q (getD-set-same new m (movedMinute change units (getD drawn m 0) (getD new m 0)) 0 (moved-inside h) ∙ ap (movedMinute change units (getD drawn m 0)) (s .others m (omega arith)))
+        at i k (no q) = getD-set-other new m i (movedMinute change units (getD drawn m 0) (getD new m 0)) 0 q ∙ s .done i (omega arith)
+
+    pub moved-done : shiftMinutes ≤ m → new ≡ movedWith units change drawn old
+    unfolding movedWith minutePrice
+    moved-done h =
+        let f : ℕ → ℕ = λ i. movedMinute change units (getD drawn i 0) (getD old i 0) in
+        ext-getD 0 new (tab shiftMinutes f) (moved-long ∙ sym (tab-length shiftMinutes f))
+        (λ i k. s .done i (omega (arith, moved-long)) ∙ sym (tab-at shiftMinutes f 0 i (omega (arith, moved-long))))
+
+pub ruleset moved-minutes-cases = (moved-start, moved-long, moved-inside, moved-few, moved-more, moved-done)
+
+-- ---- a window draws
+
+-- from its start up to minute m
+pub record WindowDrawnTo (start draw end : ℕ) (old new : List ℕ) (m : ℕ) : Type 0 where
+  pub from : start ≤ m
+  pub to : m ≤ end
+  pub ends : end ≤ shiftMinutes
+  pub drawn : Drawn start draw m old new
+
+module _ (old : List ℕ) where
+  pub window-start : {r : Row} → WindowRow r → WindowDrawnTo (r .start) (r .groomer) (r .end) old old (r .start)
+  window-start {r} w = record { from = omega arith; to = omega (arith, w .starts); ends = w .ends; drawn = draw-start (r .start) (r .groomer) old }
+
+  module _ {start draw end : ℕ} {new : List ℕ} {m : ℕ} (s : WindowDrawnTo start draw end old new m) where
+    pub window-done : end ≤ m → Drawn start draw end old new
+    window-done h = draw-done start draw old m (s .drawn) end h (s .to)
+
+    module _ (h : m < end) where
+      pub window-place : m < shiftMinutes
+      window-place = omega (arith, s .ends)
+
+      pub window-more : length old ≡ shiftMinutes → WindowDrawnTo start draw end old (set new m (getD new m 0 + draw)) (m + 1)
+      window-more k =
+          record {
+            from = omega (arith, s .from);
+            to = omega arith;
+            ends = s .ends;
+            drawn =
+                record {
+                  places = length-set new m (getD new m 0 + draw) ∙ s .drawn .places;
+                  drawing = λ i a b. at i (ℕ-discrete i m) a b;
+                  earlier = λ i a. other i (omega (arith, s .from)) ∙ s .drawn .earlier i a;
+                  later = λ i a. other i (omega arith) ∙ s .drawn .later i (omega arith);
+                };
+          }
+        where
+          other : (i : ℕ) → (i ≡ m → ⊥) → getD (set new m (getD new m 0 + draw)) i 0 ≡ getD new i 0
+          other i q = getD-set-other new m i (getD new m 0 + draw) 0 q
+
+          at : (i : ℕ) → Dec (i ≡ m) → start ≤ i → i < m + 1 → getD (set new m (getD new m 0 + draw)) i 0 ≡ getD old i 0 + draw
+          at i (yes q) a b = rw q (getD-set-same new m (getD new m 0 + draw) 0 (omega (arith, s .drawn .places, window-place)) ∙ ap (λ (x : ℕ). x + draw) (s .drawn .later m (omega arith)))
+          at i (no q) a b = other i q ∙ s .drawn .drawing i a (omega arith)
+
+pub window-fits : (old : List ℕ) {r : Row} {new : List ℕ} {m : ℕ} → WindowRow r → RoomForMore old → WindowDrawnTo (r .start) (r .groomer) (r .end) old new m → m < r .end → Fits w16 (getD new m 0 + r .groomer)
+unfolding RoomForMore
+window-fits old {m = m} w room s h = omega (arith, w .draw, s .drawn .later m (omega arith), room m (omega (arith, s .ends)))
+
+pub ruleset draw-window-cases = (window-start, window-place, window-fits, window-more, window-done)
+
+-- ---- the windows of a set draw
+
+-- what the windows before t that a map has chosen draw at a minute
+unfoldable pub drawnBefore : Hall → List ℕ → ℕ → ℕ → ℕ
+drawnBefore H map t m = sum (λ u. cond (chosenIn map u) (drawAt H m u) 0) (below t)
+
+-- they are drawn, and t is the next of the set
+pub record SetDrawnTo (H : Hall) (n : ℕ) (map drawn : List ℕ) (t : ℕ) : Type 0 where
+  pub within : t ≤ 8 * length map
+  pub here : t < n → chosenIn map t ≡ true
+  pub places : length drawn ≡ shiftMinutes
+  pub values : (m : ℕ) → m < shiftMinutes → getD drawn m 0 ≡ drawnBefore H map t m
+
+module _ (H : Hall) (map : List ℕ) (m : ℕ) where
+  -- windows that are not chosen may be passed over
+  drawn-skip : (a b : ℕ) → a ≤ b → ((u : ℕ) → a ≤ u → u < b → chosenIn map u ≡ false) → drawnBefore H map b m ≡ drawnBefore H map a m
+  unfolding drawnBefore
+  drawn-skip a b l h =
+      let e : b ≡ a + (b - a) = omega arith in
+      let p : drawnBefore H map b m ≡ drawnBefore H map (a + (b - a)) m = ap (λ (k : ℕ). drawnBefore H map k m) e in
+      let rest : sum (λ u. cond (chosenIn map (a + u)) (drawAt H m (a + u)) 0) (below (b - a)) ≡ 0 =
+      sum-zero (λ u. cond (chosenIn map (a + u)) (drawAt H m (a + u)) 0) (all-below (b - a) (λ u k. rw (h (a + u) (omega arith) (omega arith)))) in
+      omega (arith, p, rest, sum-split (λ u. cond (chosenIn map u) (drawAt H m u) 0) a (b - a))
+
+  drawn-one : (t : ℕ) → chosenIn map t ≡ true → drawnBefore H map (t + 1) m ≡ drawAt H m t + drawnBefore H map t m
+  unfolding drawnBefore
+  drawn-one t e = rw (add-one t, e)
+
+  drawn-most : (most n : ℕ) → ((u : ℕ) → u < n → drawAt H m u ≤ most) → drawnBefore H map n m ≤ n * most
+  unfolding drawnBefore
+  drawn-most most zero h = omega arith
+  drawn-most most (suc n) h = omega (arith, suc-mul n most, drawn-most most n (λ u l. h u (omega arith)), one (chosenIn map n) (h n (omega arith)))
+    where
+      one : (b : Bool) {x : ℕ} → x ≤ most → cond b x 0 ≤ most
+      one true l = l
+      one false l = omega arith
+
+module _ (h : HallSize) (cols relaxed : List ℕ) (q : HallPosed h cols) (c : Clean (h .size .count) relaxed) where
+  abbrev H : Hall
+  H = hallFor h cols
+
+  abbrev n : ℕ
+  n = h .size .count
+
+  next-here : (t : ℕ) {u : ℕ} → u ≡ nextChosen relaxed t → u < n → chosenIn relaxed u ≡ true
+  next-here t e l = let k : nextChosen relaxed t < 8 * length relaxed = omega (arith, e, clean-bits c) in rw e (next-chosen relaxed t k)
+
+  draw-most : (m u : ℕ) → u < n → drawAt H m u ≤ mostUnits
+  unfolding drawAt
+  draw-most m u l = one (chargesAt H m u) (omega (arith, q .held .draws u l, q .held .units-to))
+    where
+      one : (b : Bool) {x : ℕ} → x ≤ mostUnits → cond b x 0 ≤ mostUnits
+      one true l = l
+      one false l = omega arith
+
+  before-most : (t m : ℕ) → t ≤ n → drawnBefore H relaxed t m ≤ t * mostUnits
+  before-most t m l = drawn-most H relaxed m mostUnits t (λ u k. draw-most m u (omega arith))
+
+  pub set-few : length relaxed ≤ 65536
+  set-few = omega (arith, c .size, few-windows h cols q)
+
+  pub set-start : {t : ℕ} {drawn : List ℕ} → t ≡ nextChosen relaxed 0 → t ≤ 8 * length relaxed → drawn ≡ replicate shiftMinutes 0 → SetDrawnTo H n relaxed drawn t
+  unfolding drawnBefore
+  set-start {t} e l z =
+      record {
+        within = l;
+        here = next-here 0 e;
+        places = rw z (length-replicate {A = ℕ} shiftMinutes 0);
+        values = λ m k. rw z (getD-replicate {A = ℕ} shiftMinutes m 0 0 k ∙ sym (drawn-skip H relaxed m 0 t (omega arith) (λ u a b. next-clear relaxed 0 u a (omega (arith, e)))));
+      }
+
+  module _ {t : ℕ} (l : t < n) where
+    pub set-next : t + 1 ≤ 8 * length relaxed
+    set-next = omega (arith, clean-bits c)
+
+    pub set-less : {u : ℕ} → u ≡ nextChosen relaxed (t + 1) → 8 * length relaxed - u < 8 * length relaxed - t
+    set-less e = omega (arith, e, next-from relaxed (t + 1), clean-bits c)
+
+    module _ {drawn : List ℕ} (s : SetDrawnTo H n relaxed drawn t) where
+      pub set-long : length drawn ≡ shiftMinutes
+      set-long = s .places
+
+      pub set-room : RoomForMore drawn
+      unfolding RoomForMore
+      set-room m k = omega (arith, s .values m k, before-most t m (omega arith), few-windows h cols q)
+
+      module _ {a : Row} (e : a ≡ rowIn cols t) {drawn′ : List ℕ} (d : Drawn (a .start) (a .groomer) (a .end) drawn drawn′) where
+        start-is : a .start ≡ H .windows .start t
+        start-is = start-at (h .size) cols t l e
+
+        end-is : a .end ≡ H .windows .end t
+        end-is = end-at (h .size) cols t l e
+
+        drawn-besides : (m : ℕ) → getD drawn′ m 0 ≡ getD drawn m 0 + drawAt H m t
+        drawn-besides m = go (decLt m (a .start)) (decLt m (a .end))
+          where
+            free : (chargesAt H m t ≡ true → ⊥) → drawAt H m t ≡ 0
+            free k = drawAt-not H m t (fails (chargesAt H m t) k)
+
+            go : Dec (m < a .start) → Dec (m < a .end) → getD drawn′ m 0 ≡ getD drawn m 0 + drawAt H m t
+            go (yes x) y = omega (arith, d .earlier m x, free (λ k. omega (arith, charges-in H m t k, start-is)))
+            go (no x) (yes y) = omega (arith, d .drawing m (omega arith) y, groomer-at (h .size) cols t l e, drawAt-charging H m t (in-charges H m t (omega (arith, start-is)) (omega (arith, end-is))))
+            go (no x) (no y) = omega (arith, d .later m (omega arith), free (λ k. omega (arith, charges-in H m t k, end-is)))
+
+        pub set-more : {u : ℕ} → u ≡ nextChosen relaxed (t + 1) → u ≤ 8 * length relaxed → SetDrawnTo H n relaxed drawn′ u
+        set-more {u} f k =
+            record {
+              within = k;
+              here = next-here (t + 1) f;
+              places = d .places ∙ s .places;
+              values = λ m i. at m i ∙ sym (drawn-skip H relaxed m (t + 1) u (omega (arith, f, next-from relaxed (t + 1))) (λ v x y. next-clear relaxed (t + 1) v x (omega (arith, f))));
+            }
+          where
+            at : (m : ℕ) → m < shiftMinutes → getD drawn′ m 0 ≡ drawnBefore H relaxed (t + 1) m
+            at m i = omega (arith, drawn-besides m, s .values m i, drawn-one H relaxed m t (s .here l))
+
+  module _ {drawn : List ℕ} {t : ℕ} (l : n ≤ t) (s : SetDrawnTo H n relaxed drawn t) where
+    drawn-before : (m : ℕ) → m < shiftMinutes → getD drawn m 0 ≡ drawnBefore H relaxed n m
+    drawn-before m k = s .values m k ∙ drawn-skip H relaxed m n t l (λ u a b. clear-bits n relaxed (c .clear) u a (omega (arith, s .within, c .size)))
+
+    drawn-all : (m : ℕ) → drawnBefore H relaxed n m ≡ drawnAt H (choiceIn n relaxed) m
+    unfolding drawnBefore drawnAt chosen
+    drawn-all m =
+        sum-same (λ u. cond (chosenIn relaxed u) (drawAt H m u) 0) (λ u. cond (has (choiceIn n relaxed) u) (drawAt H m u) 0) n (λ u k. ap (λ (b : Bool). cond b (drawAt H m u) 0) (sym (choice-has n relaxed u k)))
+        ∙ ap (λ (k : ℕ). sum (λ u. cond (has (choiceIn n relaxed) u) (drawAt H m u) 0) (below k)) (sym (count-is (h .size) cols))
+
+    pub set-done : DrawnBy H (choiceIn n relaxed) drawn
+    unfolding FewDrawn
+    set-done =
+        record {
+          places = s .places;
+          values = λ m k. drawn-before m k ∙ drawn-all m;
+          few = λ m k. omega (arith, drawn-before m k, before-most n m (omega arith), few-windows h cols q);
+        }
+
+pub ruleset set-drawn-cases = (window-inside, window-row, set-few, set-start, set-next, set-less, set-long, set-room, set-more, set-done)
+
+-- ---- the whole
+
+module _ (h : HallSize) (cols : List ℕ) (S : List Bool) (drawn : List ℕ) (d : DrawnBy (hallFor h cols) S drawn) where
+  pub minutes-moved : (change : ℕ) (prices : List ℕ) {new : List ℕ} → new ≡ movedWith (h .units) change drawn prices → new ≡ movedMinutes (hallFor h cols) S change prices
+  unfolding movedWith movedMinutes
+  minutes-moved change prices e =
+      e
+      ∙ tab-same shiftMinutes (λ m. movedMinute change (h .units) (getD drawn m 0) (minutePrice prices m)) (λ m. movedMinute change (h .units) (drawnAt (hallFor h cols) S m) (minutePrice prices m))
+      (λ m l. ap (λ (x : ℕ). movedMinute change (h .units) x (minutePrice prices m)) (d .values m l))
+
+pub ruleset minutes-cases = (minutes-moved)

@@ -1,0 +1,8 @@
+use Rattle.hall_moves.proofs.MoveCases.{listed-cases}
+use borrow.Author.Needs.{needs}
+use Rattle.hall_moves.proofs.listed_move.Statement.{statement}
+use Rattle.hall_moves.proofs.listed_move.Tie as tie
+
+pub listed-move-spec : {M : Type 1} → statement M
+listed-move-spec =
+    tie.close (tie.spec (λ c. search needs) (λ c. search needs) (λ c. search (needs, listed-cases)) (λ c κs. search needs) (λ c. search needs))

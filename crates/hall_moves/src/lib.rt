@@ -1,0 +1,162 @@
+// How a round moves the price of each minute, by what the relaxed set draws then.
+ghost use mathlib.Core.Path.{_≡_};
+ghost use mathlib.Core.Bool.{cond};
+ghost use Prim.Native.Nat.{_+_, _-_, _≤_, _<_, min};
+ghost use lib.Dec.{ltb};
+ghost use lib.ListN.{length, replicate};
+ghost use Rattle.turn.specs.Turn.{shiftMinutes, mostWorth};
+ghost use Rattle.choice_map.specs.Choice.{choiceIn, Clean};
+ghost use Rattle.hall_spec.specs.Hall.{mostUnits};
+ghost use Rattle.hall.specs.Supply.{Drawn};
+ghost use Rattle.hall_price_spec.specs.Hall.{highestMinutePrice, movedMinutes};
+ghost use Rattle.hall_look.specs.Look.{mostPrice, hallFor, HallPosed, WindowRow};
+ghost use Rattle.hall_moves.specs.Moves.{mostDrawn, mostMove, movePlaces, moveBy, movedWith, MovesTo, FewDrawn, RoomForMore, DrawnBy};
+use hall_look::HallSize;
+use hall_look::MINUTES;
+use instance::PLACES;
+use instance::Row;
+use instance::row_at;
+
+const HIGHEST_MINUTE_PRICE: u32 = 65535;
+
+fn wide(x: u16) -> u32
+    ensures { λ r. ⌜ (r ≡ x) × (r ≤ mostPrice) ⌝ }
+{
+    x as u32
+}
+
+// By how much a price moves is computed once a round for each draw up to four times the units of any hall.
+const MOST_LISTED: usize = 192;
+
+const MOVES: usize = MOST_LISTED + 1;
+
+fn smaller(x: u32, y: u32) -> u32
+    ensures { λ r. ⌜ r ≡ min x y ⌝ }
+{
+    if x < y { x } else { y }
+}
+
+// What is left of x, not below 0.
+fn left_after(x: u32, y: u32) -> u32
+    ensures { λ r. ⌜ r ≡ x - y ⌝ }
+{
+    if x < y { 0 } else { x - y }
+}
+
+// By how much the price of a minute moves at which so much is drawn.
+fn move_by(units: u16, change: u32, drawn: u16) -> u32
+    requires { ⌜ (1 ≤ units) × (units ≤ mostUnits) × (drawn ≤ mostDrawn) × (change ≤ mostWorth) ⌝ }
+    ensures { λ r. ⌜ (r ≡ moveBy change units drawn) × (r ≤ mostMove) ⌝ }
+{
+    let all = wide(units);
+    if drawn > units {
+        return (change * (wide(drawn) - all) + (all - 1)) / all;
+    }
+    change * (all - wide(drawn)) / all
+}
+
+// Puts that move for each draw of the list.
+fn put_moves(units: u16, change: u32, moves: &mut [u32; MOVES])
+    requires { ⌜ (1 ≤ units) × (units ≤ mostUnits) × (change ≤ mostWorth) × (length (now moves) ≡ movePlaces) ⌝ }
+    ensures { λ _. ⌜ MovesTo units change (now (moves .exit)) movePlaces ⌝ }
+{
+    let mut d = 0;
+    while d < MOVES {
+        moves[d] = move_by(units, change, d as u16);
+        d += 1;
+    }
+}
+
+// The move for a draw: from the list if it is there, else worked out.
+fn listed_move(units: u16, change: u32, moves: &[u32; MOVES], drawn: u16) -> u32
+    requires { ⌜ (1 ≤ units) × (units ≤ mostUnits) × (drawn ≤ mostDrawn) × (change ≤ mostWorth) × MovesTo units change (now moves) movePlaces ⌝ }
+    ensures { λ r. ⌜ (r ≡ moveBy change units drawn) × (r ≤ mostMove) ⌝ }
+{
+    let d = drawn as usize;
+    if d <= MOST_LISTED {
+        return moves[d];
+    }
+    move_by(units, change, drawn)
+}
+
+// A price that moves by so much: up where more than the units is drawn, else down.
+fn moved_minute(units: u16, drawn: u16, by: u32, price: u16) -> u16
+    requires { ⌜ by ≤ mostMove ⌝ }
+    ensures { λ r. ⌜ r ≡ cond (ltb units drawn) (min highestMinutePrice (price + by)) (price - by) ⌝ }
+{
+    let before = wide(price);
+    let raised = smaller(before + by, HIGHEST_MINUTE_PRICE);
+    let lowered = left_after(before, by);
+    if drawn > units {
+        return raised as u16;
+    }
+    lowered as u16
+}
+
+// Moves all prices, where it is known what is drawn at each minute.
+fn move_each(
+    units: u16,
+    change: u32,
+    moves: &[u32; MOVES],
+    drawn: &[u16; MINUTES],
+    prices: &mut [u16],
+)
+    requires { ⌜ (1 ≤ units) × (units ≤ mostUnits) × (change ≤ mostWorth) × FewDrawn (now drawn) × (length (now prices) ≡ shiftMinutes) ⌝ }
+    requires { ⌜ MovesTo units change (now moves) movePlaces ⌝ }
+    ensures { λ _. ⌜ now (prices .exit) ≡ movedWith units change (now (drawn .entry)) (now (prices .entry)) ⌝ }
+{
+    let mut m = 0;
+    while m < MINUTES {
+        let price = prices[m];
+        let by = listed_move(units, change, moves, drawn[m]);
+        prices[m] = moved_minute(units, drawn[m], by, price);
+        m += 1;
+    }
+}
+
+// A window draws at its minutes.
+fn draw_window(drawn: &mut [u16; MINUTES], r: Row)
+    requires { ⌜ WindowRow r × RoomForMore (now drawn) × (length (now drawn) ≡ shiftMinutes) ⌝ }
+    ensures { λ _. ⌜ Drawn (r .start) (r .groomer) (r .end) (now (drawn .entry)) (now (drawn .exit)) ⌝ }
+{
+    let draw = r.groomer;
+    let start = r.start as usize;
+    let end = r.end as usize;
+    let mut m = start;
+    while m < end {
+        let before = drawn[m];
+        drawn[m] = before + draw;
+        m += 1;
+    }
+}
+
+// What the windows of a set draw at each minute, where nothing is drawn before.
+fn put_drawn(h: HallSize, cols: &[u16; PLACES], relaxed: &[u8], drawn: &mut [u16; MINUTES])
+    requires { ⌜ HallPosed h (now cols) × Clean (h .size .count) (now relaxed) × (now drawn ≡ replicate shiftMinutes 0) ⌝ }
+    ensures { λ _. ⌜ DrawnBy (hallFor h (now (cols .entry))) (choiceIn (h .size .count) (now (relaxed .entry))) (now (drawn .exit)) ⌝ }
+{
+    let mut t = choice_map::next_chosen(relaxed, 0);
+    while t < h.size.count {
+        draw_window(&mut *drawn, row_at(cols, t));
+        t = choice_map::next_chosen(relaxed, t + 1);
+    }
+}
+
+// Moves the prices of all minutes by what the relaxed set draws then.
+pub fn move_minutes(
+    h: HallSize,
+    cols: &[u16; PLACES],
+    relaxed: &[u8],
+    change: u32,
+    prices: &mut [u16],
+)
+    requires { ⌜ HallPosed h (now cols) × Clean (h .size .count) (now relaxed) × (change ≤ mostWorth) × (length (now prices) ≡ shiftMinutes) ⌝ }
+    ensures { λ _. ⌜ now (prices .exit) ≡ movedMinutes (hallFor h (now (cols .entry))) (choiceIn (h .size .count) (now (relaxed .entry))) change
+        (now (prices .entry)) ⌝ }
+{
+    let mut drawn = [0u16; MINUTES];
+    put_drawn(h, cols, relaxed, &mut drawn);
+    let mut moves = [0u32; MOVES];
+    put_moves(h.units, change, &mut moves);
+    move_each(h.units, change, &moves, &drawn, &mut *prices);
+}

@@ -1,7 +1,0 @@
-use Rattle.hall_prices.proofs.MoveCases.{minutes-cases}
-use borrow.Author.Needs.{needs}
-use Rattle.hall_prices.proofs.moving.move_minutes.Statement.{statement}
-use Rattle.hall_prices.proofs.moving.move_minutes.Tie as tie
-
-pub move-minutes-spec : {M : Type 1} → statement M
-move-minutes-spec = tie.close (tie.spec (λ c κs. search needs) (λ c κs. search needs) (λ c. search needs) (λ c. search (needs, minutes-cases)))

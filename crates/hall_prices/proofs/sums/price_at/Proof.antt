@@ -1,7 +1,0 @@
-use Rattle.hall_prices.proofs.SumCases.{sums-cases}
-use borrow.Author.Needs.{needs}
-use Rattle.hall_prices.proofs.sums.price_at.Statement.{statement}
-use Rattle.hall_prices.proofs.sums.price_at.Tie as tie
-
-pub price-at-spec : {M : Type 1} → statement M
-price-at-spec = tie.close (tie.spec (λ c. search needs) (λ c. search needs) (λ c κs. search needs) (λ c. search (needs, sums-cases)))

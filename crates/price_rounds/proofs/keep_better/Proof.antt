@@ -1,0 +1,20 @@
+use Rattle.selection.proofs.Unchosen.{zeros-cases}
+use Rattle.price_rounds.proofs.RoundCases.{better-cases}
+use borrow.Author.Needs.{needs}
+use Rattle.price_rounds.proofs.keep_better.Statement.{statement}
+use Rattle.price_rounds.proofs.keep_better.Tie as tie
+
+choose-from-requires : tie.Need-choose-from-requires
+choose-from-requires c κs = ((search needs, search needs, search needs), ((search (needs, zeros-cases, better-cases), search (needs, zeros-cases, better-cases)), search needs))
+
+pub keep-better-spec : {M : Type 1} → statement M
+keep-better-spec =
+    tie.close
+    (tie.spec
+    (λ c. search (needs, zeros-cases, better-cases))
+    (λ c. search (needs, zeros-cases, better-cases))
+    choose-from-requires
+    (λ c. search (needs, zeros-cases, better-cases))
+    (λ c κs. search needs)
+    (λ c. search needs)
+    (λ c. search (needs, zeros-cases, better-cases)))

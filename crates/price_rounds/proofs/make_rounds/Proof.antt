@@ -1,0 +1,142 @@
+-- Invariant: what is left to do from the stage that is held is what was to do at the start; what no round changes is there; lent places keep their lengths. Measure: the rounds left.
+use Prim.Native.Nat.{_-_, _<_}
+use mathlib.Core.Path.{_∙_, sym}
+use native.Mathlib.Omega.{arith}
+use borrow.Author.Needs.{needs}
+use Rattle.selection.proofs.Unchosen.{zeros-size, zeros-map, zeros-none-chosen}
+use Rattle.price_rounds.specs.Rounds.{Underway}
+use Rattle.price_rounds.proofs.RoundCases.{start-cases, start-size, rule-few, map-fits, round-stops, round-left, round-goes}
+use Rattle.price_rounds.proofs.make_rounds.Statement.{statement}
+use Rattle.price_rounds.proofs.make_rounds.Tie as tie
+
+abbrev Inv-loop : tie.InvT-loop
+Inv-loop t cols list₀ best₀ room₀ rule tables ranks prices₀ change₀ limit₀ worth₀ made₀ list best room prices change limit worth made =
+    Underway t cols list₀ best₀ tables ranks list best room prices change limit worth made
+
+abbrev μ-loop : tie.MeasureT-loop
+μ-loop t cols list₀ best₀ room₀ rule tables ranks prices₀ change₀ limit₀ worth₀ made₀ list best room prices change limit worth made = t .rounds - made
+
+slice-aggregate-prices : tie.Need-slice-aggregate-prices Inv-loop μ-loop
+slice-aggregate-prices c = start-size _ _ _ _ _ (c .before .before .before .before .before .before .before .before .before .before .before .before .pre)
+
+loop-holds : tie.Need-loop-holds Inv-loop μ-loop
+loop-holds c =
+    let tabled = c .before .before .before .before .before .before .before in
+    let start = tabled .before .before .before .before .before .before in
+    record {
+      posed = start .pre .posed;
+      tabled = tabled .put-tables .ensures .0;
+      ranked = search start-cases;
+      stage = search start-cases;
+      list-size = search needs;
+      map-size = search needs;
+      runs = tabled .put-tables .ensures .1;
+    }
+
+array-borrow-prefix-map : tie.Need-array-borrow-prefix-map Inv-loop μ-loop
+array-borrow-prefix-map c = map-fits (rule-few _ _ (c .loop .inv .posed)) (c .loop .inv .stage .clean)
+
+slice-aggregate-relaxed : tie.Need-slice-aggregate-relaxed Inv-loop μ-loop
+slice-aggregate-relaxed c =
+    let i = c .before .loop .inv in
+    zeros-size _ (rule-few _ _ (i .posed)) (i .stage .clean .size)
+
+look-at-requires : tie.Need-look-at-requires Inv-loop μ-loop
+look-at-requires c κs =
+    let i = c .before .before .before .before .loop .inv in
+    let few = rule-few _ _ (i .posed) in
+    ((i .posed, i .tabled, i .stage .prices-are), (zeros-map _ few (i .stage .clean .size), zeros-none-chosen _ few (i .stage .clean .size)))
+
+keep-lower-requires : tie.Need-keep-lower-requires Inv-loop μ-loop
+keep-lower-requires c κs =
+    let i = c .before .before .before .before .before .before .before .before .before .loop .inv in
+    i .stage .prices-are ∙ sym (i .stage .list-is)
+
+keep-better-requires : tie.Need-keep-better-requires Inv-loop μ-loop
+keep-better-requires c κs =
+    let seen = c .before .before .before .before .before .before .before .before .before .before .before in
+    let i = seen .before .before .before .before .before .loop .inv in
+    ((i .posed, i .ranked, i .runs), (seen .look-at .ensures .1 .0, i .stage .clean))
+
+returns : tie.Need-returns Inv-loop μ-loop
+returns c =
+    let over = c .before .before .before .before .before in
+    let better = over .before .before .before in
+    let lower = better .before .before .before .before .before .before .before in
+    let seen = lower .before .before .before .before .before in
+    let head = seen .before .before .before .before .before in
+    round-stops _ _ _ _ _ _ _ _ _ _ _ (head .loop .inv .stage) _ _ (seen .look-at .ensures .0) (seen .look-at .ensures .1 .1) (lower .keep-lower .ensures .0) (lower .keep-lower .ensures .1) (better .keep-better .ensures .0) (over .is-over .ensures) (c .before .before .before .before .if1 .taken) (better .keep-better .ensures .1 .0) (c .come-to .ensures)
+
+move-prices-requires : tie.Need-move-prices-requires Inv-loop μ-loop
+move-prices-requires c κs =
+    let seen = c .before .before .before .before .before .before .before .before .before .before .before .before .before .before .before .before .before .before .before in
+    let i = seen .before .before .before .before .before .loop .inv in
+    ((i .posed, i .tabled, i .stage .prices-are), (seen .look-at .ensures .1 .0, i .stage .small))
+
+next-change-requires : tie.Need-next-change-requires Inv-loop μ-loop
+next-change-requires c κs = c .before .before .before .before .before .before .before .before .before .before .before .before .before .before .before .before .before .before .before .before .before .before .before .before .before .before .before .before .loop .inv .stage .small
+
+-- a round is left
+left : (c : tie.After-next-change Inv-loop μ-loop) → c .before .before .before .before .before .before .before .before .before .before .before .before .before .before .before .before .before .before .before .before .before .before .before .before .before .before .before .before .before .loop .made < c .before .before .before .before .before .before .before .before .before .before .before .before .before .before .before .before .before .before .before .before .before .before .before .before .before .before .before .before .before .before .before .before .before .before .before .before .before .before .before .before .before .before .before .args .t .rounds
+left c =
+    let over = c .before .before .before .before .before .before .before .before .before in
+    let better = over .before .before .before in
+    let lower = better .before .before .before .before .before .before .before in
+    let seen = lower .before .before .before .before .before in
+    let head = seen .before .before .before .before .before in
+    round-left _ _ _ _ _ _ _ _ _ _ _ (head .loop .inv .stage) _ _ (seen .look-at .ensures .0) (seen .look-at .ensures .1 .1) (lower .keep-lower .ensures .0) (lower .keep-lower .ensures .1) (better .keep-better .ensures .0) (over .is-over .ensures) (c .before .before .before .before .before .before .before .before .if1 .left)
+
+add-made : tie.Need-add-made Inv-loop μ-loop
+add-made c = omega (arith, left c, c .before .before .before .before .before .before .before .before .before .before .before .before .before .before .before .before .before .before .before .before .before .before .before .before .before .before .before .before .before .before .before .before .before .before .before .before .before .before .before .before .before .before .before)
+
+loop-less : tie.Need-loop-less Inv-loop μ-loop
+loop-less c = omega (arith, left c)
+
+loop-again : tie.Need-loop-again Inv-loop μ-loop
+loop-again c =
+    let over = c .before .before .before .before .before .before .before .before .before in
+    let better = over .before .before .before in
+    let lower = better .before .before .before .before .before .before .before in
+    let seen = lower .before .before .before .before .before in
+    let head = seen .before .before .before .before .before in
+    let i = head .loop .inv in
+    record {
+      posed = i .posed;
+      tabled = i .tabled;
+      ranked = i .ranked;
+      stage = round-goes _ _ _ _ _ _ _ _ _ _ _ (head .loop .inv .stage) _ _ (seen .look-at .ensures .0) (seen .look-at .ensures .1 .1) (lower .keep-lower .ensures .0) (lower .keep-lower .ensures .1) (better .keep-better .ensures .0) (over .is-over .ensures) (c .before .before .before .before .before .before .before .before .if1 .left) (better .keep-better .ensures .1 .0) (c .before .before .before .before .move-prices .ensures) (c .next-change .ensures);
+      list-size = search (needs, i .list-size);
+      map-size = search (needs, i .map-size);
+      runs = better .keep-better .ensures .1 .1;
+    }
+
+pub make-rounds-spec : {M : Type 1} → statement M
+make-rounds-spec =
+    tie.close
+    (tie.spec
+    Inv-loop
+    μ-loop
+    (λ c κs. search needs)
+    (λ c κs. search needs)
+    (λ c. search (needs, start-cases))
+    (λ c. search (needs, start-cases))
+    (λ c κs. search (needs, start-cases))
+    (λ c. search (needs, start-cases))
+    slice-aggregate-prices
+    (λ c κs. search needs)
+    loop-holds
+    array-borrow-prefix-map
+    slice-aggregate-relaxed
+    look-at-requires
+    keep-lower-requires
+    keep-better-requires
+    (λ c κs. search needs)
+    (λ c κs. search needs)
+    (λ c. search (needs, c .before .before .before .before .before .before .before .before .before .before .before .before .before .before .before .before .before .before .before .before .before .before .before .before .before .loop .inv .list-size))
+    (λ c. search (needs, c .before .before .before .before .before .before .before .before .before .before .before .before .before .before .before .before .before .before .before .before .before .before .before .before .before .loop .inv .map-size))
+    returns
+    move-prices-requires
+    next-change-requires
+    add-made
+    loop-less
+    loop-again)

@@ -1,0 +1,237 @@
+-- The rule by its cases, each premise in the form in which the code's match and calls leave it. Assumes nothing.
+use Prim.Native.Nat.{ℕ, _+_, _/_, _≤_}
+use mathlib.Core.Path.{_≡_, sym, ap, _∙_}
+use mathlib.Core.Bool.{Bool, false}
+use mathlib.Core.List.{List}
+use native.Mathlib.Omega.{arith}
+use lib.ListN.{length, take, replicate}
+use Rattle.turn.specs.Turn.{shiftMinutes, mostWorth}
+use Rattle.model.specs.Choice.{chosen, fits, chooseEach}
+use Rattle.choice_map.specs.Choice.{choiceIn, Clean}
+use Rattle.best_spec.specs.Table.{bestWorth, bestChoice}
+use Rattle.instance.specs.declared.columns.Size.{Size}
+use Rattle.instance.specs.Columns.{columnPlaces, turnsBy, Held}
+use Rattle.instance.proofs.Rows.{count-is}
+use Rattle.selection.specs.Below.{chosenBelow}
+use Rattle.selection.specs.Asked.{NumbersOf}
+use Rattle.best_table.specs.Held.{Ranged}
+use Rattle.price_spec.specs.Prices.{priceSum}
+use Rattle.prices.specs.declared.Extent.{Extent}
+use Rattle.prices.specs.Held.{countedTurns, turnsIn, orderPlaces, Driven, Ordered, Priced}
+use Rattle.selection_by_runs.specs.Runs.{RunsOf}
+use Rattle.refine_spec.specs.Rounds.{firstChange}
+use Rattle.refine_spec.specs.Selection.{byWorth}
+use Rattle.refine_spec.specs.Shift.{greatestWorth, movedPrices}
+use Rattle.round_parts.specs.Ranks.{withChosen}
+use Rattle.round_parts.proofs.RankCases.{ranks-numbers, ranks-bits, ranks-fit, list-fits, list-numbers, list-made, list-size}
+use Rattle.hall_spec.specs.Hall.{staysAllowed}
+use Rattle.hall_price_spec.specs.Prices.{hallLimit, hallRelaxed}
+use Rattle.hall_price_spec.specs.Hall.{movedMinutes}
+use Rattle.hall_look.specs.declared.HallSize.{HallSize}
+use Rattle.hall_look.specs.Look.{hallFor, HallPosed}
+use Rattle.price_rule.specs.declared.RuleFor.{RuleFor}
+use Rattle.price_rule.specs.declared.RuleFor.the-variants.{Shift, Hall}
+use Rattle.price_rule.specs.Rules.{sizeOf, pricesOf, changeOf, limitOf, relaxedOf, fitsOf, movedOf, choiceOf, worthOf, ShiftPosed, RulePosed, Tabled, RunsFor}
+
+-- ---- for a shift
+
+module _ (r : RuleFor) (e : Extent) (g : r ≡ Shift e) where
+  pub shift-size : e .size ≡ sizeOf r
+  unfolding sizeOf
+  shift-size = rw g
+
+  shift-count : sizeOf r .count ≡ e .size .count
+  shift-count = ap (λ (p : Size). p .count) (sym shift-size)
+
+  module _ (cols : List ℕ) where
+    module _ (w : RulePosed r cols) where
+      shift-posed : ShiftPosed e cols
+      unfolding RulePosed
+      shift-posed = rw g at w
+
+      pub shift-held : Held (e .size) cols
+      shift-held = shift-posed .held
+
+      pub shift-ranged : Ranged (e .size) cols
+      shift-ranged = shift-posed .ranged
+
+      pub shift-driven : Driven (e .size) cols
+      shift-driven = record { drivers = shift-posed .drivers }
+
+      pub shift-priced : (prices : List ℕ) → length prices ≡ pricesOf r → Priced e cols prices
+      unfolding pricesOf
+      shift-priced prices l =
+          let h = shift-posed in
+          record {
+            places = h .held .places;
+            few = h .held .few;
+            few-slopes = h .few-slopes;
+            numbers = h .numbers;
+            drivers = h .drivers;
+            list = rw g at l;
+          }
+
+    pub shift-tabled : (tables : List ℕ) → Ordered (turnsIn e cols) tables → Tabled r cols tables
+    unfolding Tabled
+    shift-tabled tables h = rw g h
+
+    pub shift-runs : (runs : List ℕ) → RunsOf (turnsIn e cols) runs → RunsFor r cols runs
+    unfolding RunsFor
+    shift-runs runs h = rw g h
+
+    pub shift-by-runs : (runs : List ℕ) → RunsFor r cols runs → RunsOf (turnsIn e cols) runs
+    unfolding RunsFor
+    shift-by-runs runs h = rw g at h
+
+    pub shift-worth : (map : List ℕ) {x : ℕ} → x ≡ chosenBelow (turnsBy (e .size) cols) (choiceIn (e .size .count) map) (e .size .count) → x ≡ chosenBelow (turnsBy (sizeOf r) cols) (choiceIn (sizeOf r .count) map) (sizeOf r .count)
+    unfolding sizeOf
+    shift-worth map q = rw g q
+
+    pub shift-ordered : (tables : List ℕ) → Tabled r cols tables → Ordered (turnsIn e cols) tables
+    unfolding Tabled
+    shift-ordered tables h = rw g at h
+
+    pub shift-change : {x : ℕ} → x ≡ greatestWorth (turnsBy (e .size) cols) → (x + 3) / 4 ≡ changeOf r cols
+    unfolding changeOf firstChange
+    shift-change q = rw (g, q)
+
+    pub shift-limit : {x : ℕ} (prices : List ℕ) → x ≡ priceSum (turnsIn e cols) (e .slopes) prices + bestWorth (countedTurns (turnsIn e cols) (e .slopes) prices) → x ≡ limitOf r cols prices
+    unfolding limitOf
+    shift-limit prices q = rw g q
+
+    pub shift-relaxed : (prices map : List ℕ) → choiceIn (e .size .count) map ≡ bestChoice (countedTurns (turnsIn e cols) (e .slopes) prices) → choiceIn (sizeOf r .count) map ≡ relaxedOf r cols prices
+    unfolding relaxedOf sizeOf
+    shift-relaxed prices map q = rw g q
+
+    pub shift-chosen : (list map : List ℕ) → choiceIn (e .size .count) map ≡ chooseEach (fits (turnsBy (e .size) cols)) list (replicate (e .size .count) false)
+        → choiceIn (sizeOf r .count) map ≡ chooseEach (fitsOf r cols) list (replicate (sizeOf r .count) false)
+    unfolding fitsOf sizeOf
+    shift-chosen list map q = rw g q
+
+    pub shift-moved : (prices map : List ℕ) (change : ℕ) {prices′ : List ℕ} → prices′ ≡ movedPrices (turnsIn e cols) (e .slopes) (choiceIn (e .size .count) map) change prices
+        → prices′ ≡ movedOf r cols (choiceIn (sizeOf r .count) map) change prices
+    unfolding movedOf sizeOf
+    shift-moved prices map change q = rw g q
+
+  pub shift-clean : (map : List ℕ) → Clean (sizeOf r .count) map → Clean (e .size .count) map
+  shift-clean map c = rw shift-count at c
+
+  pub shift-clean-too : (map : List ℕ) → Clean (e .size .count) map → Clean (sizeOf r .count) map
+  shift-clean-too map c = rw shift-count c
+
+  pub shift-none : (map : List ℕ) → choiceIn (sizeOf r .count) map ≡ replicate (sizeOf r .count) false → choiceIn (e .size .count) map ≡ replicate (e .size .count) false
+  shift-none map q = rw shift-count at q
+
+  pub shift-numbers : (list : List ℕ) → NumbersOf (sizeOf r .count) list → NumbersOf (e .size .count) list
+  shift-numbers list q = rw shift-count at q
+
+-- ---- for a hall
+
+module _ (r : RuleFor) (h : HallSize) (g : r ≡ Hall h) where
+  pub hall-size : h .size ≡ sizeOf r
+  unfolding sizeOf
+  hall-size = rw g
+
+  hall-count : sizeOf r .count ≡ h .size .count
+  hall-count = ap (λ (p : Size). p .count) (sym hall-size)
+
+  module _ (cols : List ℕ) where
+    module _ (w : RulePosed r cols) where
+      pub hall-posed : HallPosed h cols
+      unfolding RulePosed
+      hall-posed = rw g at w
+
+      pub hall-held : Held (h .size) cols
+      hall-held = hall-posed .held .held
+
+    pub hall-tabled : (tables : List ℕ) → length tables ≡ orderPlaces → Tabled r cols tables
+    unfolding Tabled
+    hall-tabled tables q = rw g q
+
+    pub hall-runs : (runs : List ℕ) → length runs ≡ columnPlaces → RunsFor r cols runs
+    unfolding RunsFor
+    hall-runs runs q = rw g q
+
+    pub hall-worth : (map : List ℕ) {x : ℕ} → x ≡ chosenBelow (turnsBy (h .size) cols) (choiceIn (h .size .count) map) (h .size .count) → x ≡ chosenBelow (turnsBy (sizeOf r) cols) (choiceIn (sizeOf r .count) map) (sizeOf r .count)
+    unfolding sizeOf
+    hall-worth map q = rw g q
+
+    pub hall-change : {x : ℕ} → x ≡ greatestWorth (turnsBy (h .size) cols) → (x + 7) / 8 ≡ changeOf r cols
+    unfolding changeOf firstChange
+    hall-change q = rw (g, q)
+
+    pub hall-limit : {x : ℕ} (prices : List ℕ) → x ≡ hallLimit (hallFor h cols) (h .vehicles) prices → x ≡ limitOf r cols prices
+    unfolding limitOf
+    hall-limit prices q = rw g q
+
+    pub hall-relaxed : (prices map : List ℕ) → choiceIn (h .size .count) map ≡ hallRelaxed (hallFor h cols) prices → choiceIn (sizeOf r .count) map ≡ relaxedOf r cols prices
+    unfolding relaxedOf sizeOf
+    hall-relaxed prices map q = rw g q
+
+    pub hall-chosen : (list map : List ℕ) → choiceIn (h .size .count) map ≡ chooseEach (staysAllowed (hallFor h cols)) list (replicate (h .size .count) false)
+        → choiceIn (sizeOf r .count) map ≡ chooseEach (fitsOf r cols) list (replicate (sizeOf r .count) false)
+    unfolding fitsOf sizeOf
+    hall-chosen list map q = rw g q
+
+    pub hall-moved : (prices map : List ℕ) (change : ℕ) {prices′ : List ℕ} → prices′ ≡ movedMinutes (hallFor h cols) (choiceIn (h .size .count) map) change prices
+        → prices′ ≡ movedOf r cols (choiceIn (sizeOf r .count) map) change prices
+    unfolding movedOf sizeOf
+    hall-moved prices map change q = rw g q
+
+  pub hall-prices : (prices : List ℕ) → length prices ≡ pricesOf r → length prices ≡ shiftMinutes
+  unfolding pricesOf
+  hall-prices prices l = rw g at l
+
+  pub hall-clean : (map : List ℕ) → Clean (sizeOf r .count) map → Clean (h .size .count) map
+  hall-clean map c = rw hall-count at c
+
+  pub hall-clean-too : (map : List ℕ) → Clean (h .size .count) map → Clean (sizeOf r .count) map
+  hall-clean-too map c = rw hall-count c
+
+  pub hall-none : (map : List ℕ) → choiceIn (sizeOf r .count) map ≡ replicate (sizeOf r .count) false → choiceIn (h .size .count) map ≡ replicate (h .size .count) false
+  hall-none map q = rw hall-count at q
+
+  pub hall-numbers : (list : List ℕ) → NumbersOf (sizeOf r .count) list → NumbersOf (h .size .count) list
+  hall-numbers list q = rw hall-count at q
+
+pub change-most-4 : {x : ℕ} → x ≤ mostWorth → (x + 3) / 4 ≤ mostWorth
+change-most-4 l = omega arith
+
+pub change-most-8 : {x : ℕ} → x ≤ mostWorth → (x + 7) / 8 ≤ mostWorth
+change-most-8 l = omega arith
+
+pub ruleset size-cases = (shift-size, hall-size)
+
+pub ruleset table-cases = (shift-held, shift-ranged, shift-driven, shift-tabled, shift-runs, hall-tabled, hall-runs)
+
+pub ruleset change-cases = (shift-held, shift-change, change-most-4, hall-held, hall-change, change-most-8)
+
+pub ruleset look-cases = (shift-priced, shift-ordered, shift-clean, shift-none, shift-clean-too, shift-limit, shift-relaxed, hall-posed, hall-prices, hall-clean, hall-none, hall-clean-too, hall-limit, hall-relaxed)
+
+pub ruleset chosen-cases = (shift-held, shift-by-runs, shift-numbers, shift-clean, shift-none, shift-clean-too, shift-chosen, shift-worth, hall-posed, hall-numbers, hall-clean, hall-none, hall-clean-too, hall-chosen, hall-worth)
+
+pub ruleset move-cases = (shift-priced, shift-ordered, shift-clean, shift-moved, hall-posed, hall-prices, hall-clean, hall-moved)
+
+-- ---- the choice made from a relaxed set, whatever the rule
+
+module _ (r : RuleFor) (cols : List ℕ) where
+  -- the turns or windows are held
+  pub rule-held : RulePosed r cols → Held (sizeOf r) cols
+  unfolding RulePosed sizeOf
+  rule-held = go r
+    where
+      go : (x : RuleFor) → RulePosed x cols → Held (sizeOf x) cols
+      go (Shift e) w = w .held
+      go (Hall h) w = w .held .held
+
+  module _ (ranks relaxed list : List ℕ) (count : ℕ) (e : ranks ≡ byWorth (turnsBy (sizeOf r) cols)) (q : take count list ≡ withChosen (choiceIn (length ranks) relaxed) ranks) where
+    pub choice-made : {S : List Bool} → S ≡ chooseEach (fitsOf r cols) (take count list) (replicate (sizeOf r .count) false) → S ≡ choiceOf r cols (choiceIn (sizeOf r .count) relaxed)
+    unfolding choiceOf
+    choice-made f = list-made (sizeOf r) cols ranks e relaxed list count q (fitsOf r cols) f
+
+    pub choice-worth : (map : List ℕ) {x : ℕ} → choiceIn (sizeOf r .count) map ≡ chooseEach (fitsOf r cols) (take count list) (replicate (sizeOf r .count) false)
+        → x ≡ chosenBelow (turnsBy (sizeOf r) cols) (choiceIn (sizeOf r .count) map) (sizeOf r .count) → x ≡ worthOf r cols (choiceOf r cols (choiceIn (sizeOf r .count) relaxed))
+    unfolding chosenBelow worthOf chosen
+    choice-worth map f h = h ∙ rw (choice-made f, count-is (sizeOf r) cols)
+
+pub ruleset from-cases = (rule-held, ranks-numbers, ranks-bits, ranks-fit, list-fits, list-numbers, list-size, choice-made, choice-worth)

@@ -1,0 +1,174 @@
+// The rule of rounds as a value, for a shift or for a hall: what does not depend on prices, a look at the prices, the
+// choice made from a relaxed set, how a round moves the prices, and the first change.
+ghost use mathlib.Core.Path.{_≡_};
+ghost use mathlib.Core.Bool.{false};
+ghost use Prim.Native.Nat.{_≤_};
+ghost use lib.ListN.{length, replicate};
+ghost use Rattle.turn.specs.Turn.{mostWorth};
+ghost use Rattle.model.specs.Choice.{chooseEach};
+ghost use Rattle.choice_map.specs.Choice.{choiceIn, Clean};
+ghost use Rattle.instance.specs.Columns.{columnPlaces, turnsBy};
+ghost use Rattle.selection.specs.Asked.{NumbersOf};
+ghost use Rattle.selection.specs.Below.{chosenBelow};
+ghost use Rattle.hall_spec.specs.Hall.{staysAllowed};
+ghost use Rattle.hall_look.specs.Look.{hallFor, HallPosed};
+ghost use Rattle.prices.specs.Held.{orderPlaces};
+ghost use Rattle.refine_spec.specs.Selection.{byWorth};
+ghost use Rattle.price_rule.specs.Rules.{sizeOf, pricesOf, changeOf, limitOf, relaxedOf, fitsOf, choiceOf, worthOf, movedOf, RulePosed, Tabled, RunsFor};
+use hall_look::HallSize;
+use hall_steps::Among;
+use instance::PLACES;
+use instance::Size;
+use prices::Extent;
+use prices::ORDERS;
+use prices::look;
+use round_parts::greatest_worth;
+use selection::ASKED;
+
+pub enum RuleFor {
+    Shift(Extent),
+    Hall(HallSize),
+}
+
+// How many turns or windows there are, and the gap between them.
+pub fn size_of(r: RuleFor) -> Size
+    ensures { λ p. ⌜ p ≡ sizeOf r ⌝ }
+{
+    match r {
+        RuleFor::Shift(e) => e.size,
+        RuleFor::Hall(h) => h.size,
+    }
+}
+
+// What does not depend on prices: the orders of a shift's turns, and into the room the runs of these orders, by which a
+// choice is made. For a hall there is nothing to put down.
+pub fn put_tables(
+    r: RuleFor,
+    cols: &[u16; PLACES],
+    tables: &mut [u16; ORDERS],
+    room: &mut [u16; PLACES],
+)
+    requires { ⌜ RulePosed r (now cols) × (length (now tables) ≡ orderPlaces) × (length (now room) ≡ columnPlaces) ⌝ }
+    ensures { λ _. ⌜ Tabled r (now (cols .entry)) (now (tables .exit)) × RunsFor r (now (cols .entry)) (now (room .exit)) ⌝ }
+{
+    if let RuleFor::Shift(e) = r {
+        prices::put_orders(e, cols, &mut *tables, &mut *room);
+        selection_by_runs::put_runs(e.size, cols, &*tables, &mut *room);
+    }
+}
+
+// The change of the first round.
+pub fn first_change(r: RuleFor, cols: &[u16; PLACES]) -> u32
+    requires { ⌜ RulePosed r (now cols) ⌝ }
+    ensures { λ c. ⌜ (c ≡ changeOf r (now (cols .entry))) × (c ≤ mostWorth) ⌝ }
+{
+    match r {
+        RuleFor::Shift(e) => (greatest_worth(e.size, cols) + 3) / 4,
+        RuleFor::Hall(h) => (greatest_worth(h.size, cols) + 7) / 8,
+    }
+}
+
+// The limit at some prices, and their relaxed set into a map that has none chosen.
+pub fn look_at(
+    r: RuleFor,
+    cols: &[u16; PLACES],
+    tables: &[u16; ORDERS],
+    prices: &[u16],
+    relaxed: &mut [u8],
+) -> u32
+    requires { ⌜ RulePosed r (now cols) × Tabled r (now cols) (now tables) × (length (now prices) ≡ pricesOf r) ⌝ }
+    requires { ⌜ Clean (sizeOf r .count) (now relaxed) × (choiceIn (sizeOf r .count) (now relaxed) ≡ replicate (sizeOf r .count) false) ⌝ }
+    ensures { λ x. ⌜ x ≡ limitOf r (now (cols .entry)) (now (prices .entry)) ⌝ }
+    ensures { λ _. ⌜ Clean (sizeOf r .count) (now (relaxed .exit))
+        × (choiceIn (sizeOf r .count) (now (relaxed .exit)) ≡ relaxedOf r (now (cols .entry)) (now (prices .entry))) ⌝ }
+{
+    match r {
+        RuleFor::Shift(e) => look(e, cols, tables, prices, &mut *relaxed),
+        RuleFor::Hall(h) => hall_look::look_at(h, cols, prices, &mut *relaxed),
+    }
+}
+
+// Goes through a list of windows from its last to its first and chooses each that fits, into an empty map;
+// returns their worth.
+fn choose_windows(h: HallSize, cols: &[u16; PLACES], list: &[u16], map: &mut [u8]) -> u32
+    requires { ⌜ HallPosed h (now cols) × NumbersOf (h .size .count) (now list) ⌝ }
+    requires { ⌜ Clean (h .size .count) (now map) × (choiceIn (h .size .count) (now map) ≡ replicate (h .size .count) false) ⌝ }
+    ensures { λ _. ⌜ choiceIn (h .size .count) (now (map .exit))
+        ≡ chooseEach (staysAllowed (hallFor h (now (cols .entry)))) (now (list .entry)) (replicate (h .size .count) false) ⌝ }
+    ensures { λ x. ⌜ Clean (h .size .count) (now (map .exit))
+        × (x ≡ chosenBelow (turnsBy (h .size) (now (cols .entry))) (choiceIn (h .size .count) (now (map .exit))) (h .size .count)) ⌝ }
+{
+    let p = h.size;
+    // wide plays no part: choose_listed takes windows of both kinds.
+    let all = Among {
+        units: h.units,
+        size: p,
+        wide: false,
+    };
+    hall::choose_listed(all, cols, list, &mut *map);
+    round_parts::worth_chosen(p, cols, &*map)
+}
+
+// The same by either rule; a shift's turns are tested by the runs of its orders.
+fn choose_listed(
+    r: RuleFor,
+    cols: &[u16; PLACES],
+    runs: &[u16; PLACES],
+    list: &[u16],
+    map: &mut [u8],
+) -> u32
+    requires { ⌜ RulePosed r (now cols) × RunsFor r (now cols) (now runs) × NumbersOf (sizeOf r .count) (now list) ⌝ }
+    requires { ⌜ Clean (sizeOf r .count) (now map) × (choiceIn (sizeOf r .count) (now map) ≡ replicate (sizeOf r .count) false) ⌝ }
+    ensures { λ _. ⌜ choiceIn (sizeOf r .count) (now (map .exit))
+        ≡ chooseEach (fitsOf r (now (cols .entry))) (now (list .entry)) (replicate (sizeOf r .count) false) ⌝ }
+    ensures { λ x. ⌜ Clean (sizeOf r .count) (now (map .exit))
+        × (x ≡ chosenBelow (turnsBy (sizeOf r) (now (cols .entry))) (choiceIn (sizeOf r .count) (now (map .exit))) (sizeOf r .count)) ⌝ }
+{
+    match r {
+        RuleFor::Shift(e) => selection_by_runs::choose_listed(e.size, cols, runs, list, &mut *map),
+        RuleFor::Hall(h) => choose_windows(h, cols, list, &mut *map),
+    }
+}
+
+// The choice made from a relaxed set, into a map that has none chosen; returns what it is worth.
+pub fn choose_from(
+    r: RuleFor,
+    cols: &[u16; PLACES],
+    runs: &[u16; PLACES],
+    ranks: &[u16],
+    relaxed: &[u8],
+    map: &mut [u8],
+) -> u32
+    requires { ⌜ RulePosed r (now cols) × (now ranks ≡ byWorth (turnsBy (sizeOf r) (now cols))) × Clean (sizeOf r .count) (now relaxed) ⌝ }
+    requires { ⌜ Clean (sizeOf r .count) (now map) × (choiceIn (sizeOf r .count) (now map) ≡ replicate (sizeOf r .count) false) ⌝ }
+    requires { ⌜ RunsFor r (now cols) (now runs) ⌝ }
+    ensures { λ x. ⌜ x ≡ worthOf r (now (cols .entry)) (choiceOf r (now (cols .entry)) (choiceIn (sizeOf r .count) (now (relaxed .entry)))) ⌝ }
+    ensures { λ _. ⌜ choiceIn (sizeOf r .count) (now (map .exit)) ≡ choiceOf r (now (cols .entry)) (choiceIn (sizeOf r .count) (now (relaxed .entry))) ⌝ }
+    ensures { λ _. ⌜ Clean (sizeOf r .count) (now (map .exit)) ⌝ }
+{
+    let mut numbers = [0u16; ASKED];
+    let count = round_parts::put_list(ranks, relaxed, &mut numbers);
+    choose_listed(r, cols, runs, &numbers[..count], &mut *map)
+}
+
+// Moves the prices by a relaxed set.
+pub fn move_prices(
+    r: RuleFor,
+    cols: &[u16; PLACES],
+    tables: &[u16; ORDERS],
+    relaxed: &[u8],
+    change: u32,
+    prices: &mut [u16],
+)
+    requires { ⌜ RulePosed r (now cols) × Tabled r (now cols) (now tables) × (length (now prices) ≡ pricesOf r) ⌝ }
+    requires { ⌜ Clean (sizeOf r .count) (now relaxed) × (change ≤ mostWorth) ⌝ }
+    ensures { λ _. ⌜ now (prices .exit)
+        ≡ movedOf r (now (cols .entry)) (choiceIn (sizeOf r .count) (now (relaxed .entry))) change (now (prices .entry)) ⌝ }
+{
+    match r {
+        RuleFor::Shift(e) => {
+            shift_moves::move_prices(e, cols, tables, relaxed, change, &mut *prices);
+        }
+        RuleFor::Hall(h) => hall_moves::move_minutes(h, cols, relaxed, change, &mut *prices),
+    }
+}

@@ -1,7 +1,0 @@
-use borrow.Author.Needs.{needs}
-use Rattle.refine.proofs.MoveCases.{most-cases}
-use Rattle.refine.proofs.moving.most_price.Statement.{statement}
-use Rattle.refine.proofs.moving.most_price.Tie as tie
-
-pub most-price-spec : {M : Type 1} → statement M
-most-price-spec = tie.close (tie.spec (λ c. search (needs, most-cases)) (λ c. search (needs, most-cases)))

@@ -1,9 +1,0 @@
-use Rattle.refine.proofs.MoveCases.{prices-cases}
-use Rattle.refine.proofs.DriversOrder.{order-once, order-runs}
-use borrow.Author.Needs.{needs}
-use Rattle.refine.proofs.moving.move_prices.Statement.{statement}
-use Rattle.refine.proofs.moving.move_prices.Tie as tie
-
-pub move-prices-spec : {M : Type 1} → statement M
-move-prices-spec =
-    tie.close (tie.spec (λ c κs. search needs) (λ c κs. search (needs, prices-cases, order-once, order-runs)) (λ c. search needs) (λ c. search (needs, prices-cases)))

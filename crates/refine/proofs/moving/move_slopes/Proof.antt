@@ -1,8 +1,0 @@
-use Rattle.refine.proofs.MoveCases.{slope-cases}
-use borrow.Author.Needs.{needs}
-use Rattle.refine.proofs.moving.move_slopes.Statement.{statement}
-use Rattle.refine.proofs.moving.move_slopes.Tie as tie
-
-pub move-slopes-spec : {M : Type 1} → statement M
-move-slopes-spec =
-    tie.close (tie.spec (λ c κs. search (needs, slope-cases)) (λ c κs. search (needs, slope-cases)) (λ c. search needs) (λ c. search (needs, slope-cases)))

@@ -1,7 +1,0 @@
-use Rattle.refine.proofs.MoveCases.{change-cases}
-use borrow.Author.Needs.{needs}
-use Rattle.refine.proofs.moving.turn_change.Statement.{statement}
-use Rattle.refine.proofs.moving.turn_change.Tie as tie
-
-pub turn-change-spec : {M : Type 1} → statement M
-turn-change-spec = tie.close (tie.spec (λ c κs. search needs) (λ c. search (needs, change-cases)))

@@ -1,0 +1,4 @@
+pub mod RankCases
+pub mod LowerCases
+pub mod ChangeCases
+pub mod WorthCases

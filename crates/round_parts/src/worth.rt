@@ -1,0 +1,29 @@
+// What a choice is worth.
+ghost use mathlib.Core.Path.{_≡_};
+ghost use Rattle.choice_map.specs.Choice.{choiceIn, Clean};
+ghost use Rattle.instance.specs.Columns.{turnsBy, Held};
+ghost use Rattle.selection.specs.Below.{chosenBelow};
+use instance::PLACES;
+use instance::Size;
+use instance::row_at;
+
+fn wide(x: u16) -> u32
+    ensures { λ r. ⌜ r ≡ x ⌝ }
+{
+    x as u32
+}
+
+// The worths of the turns that a map has chosen, together; only these are gone through.
+pub fn worth_chosen(p: Size, cols: &[u16; PLACES], map: &[u8]) -> u32
+    requires { ⌜ Held p (now cols) × Clean (p .count) (now map) ⌝ }
+    ensures { λ r. ⌜ r ≡ chosenBelow (turnsBy p (now (cols .entry))) (choiceIn (p .count) (now (map .entry))) (p .count) ⌝ }
+{
+    let mut sum = 0;
+    let mut t = choice_map::next_chosen(map, 0);
+    while t < p.count {
+        let row = row_at(cols, t);
+        sum += wide(row.worth);
+        t = choice_map::next_chosen(map, t + 1);
+    }
+    sum
+}

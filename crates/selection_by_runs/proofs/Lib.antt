@@ -1,0 +1,4 @@
+pub mod Near
+pub mod RunCases
+pub mod FlagCases
+pub mod ChoiceCases

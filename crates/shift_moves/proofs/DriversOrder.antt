@@ -1,0 +1,108 @@
+-- The drivers' order has each turn at just one place, and what a turn pays for stands there side by side. Assumes nothing.
+use Prim.Native.Nat.{ℕ, zero, suc, _+_, _≤_, _<_}
+use mathlib.Core.Path.{_≡_, refl, sym, ap, _∙_}
+use mathlib.Core.Logic.{_≢_}
+use mathlib.Core.Bool.{Bool, true, false, cond, _&&_}
+use mathlib.Core.List.{List, [], _∷_}
+use native.Mathlib.Omega.{arith}
+use native.Mathlib.Decide.{ℕ-discrete}
+use lib.Dec.{ltb, leb, eqb}
+use lib.ListN.{length, getD}
+use borrow.Author.Tests.{ltb-true, lt-ltb, leb-true, le-leb, eq-eqb, ne-eqb}
+use Rattle.lists.specs.Lists.{sum, All, none, more}
+use Rattle.lists.proofs.Bools.{and-1, and-2, fails, not-both}
+use Rattle.lists.proofs.Sums.{sum-same, sum-point}
+use Rattle.sheet.specs.Kind.{mostTurns}
+use Rattle.model.specs.Turns.{Turns}
+use Rattle.model.specs.Choice.{has, chosen}
+use Rattle.instance.specs.Columns.{turnsBy}
+use Rattle.best_spec.specs.Table.{turnOrder}
+use Rattle.best_spec.proofs.Ordering as ordering
+use Rattle.best_table.proofs.OrderCases.{order-length, order-within}
+use Rattle.price_spec.specs.Prices.{paysTurn}
+use Rattle.prices.specs.declared.Extent.{Extent}
+use Rattle.prices.specs.Held.{byDrivers, turnsIn, driverPlace, paidFrom, paidTo, Ordered, Priced}
+use Rattle.refine_spec.specs.Shift.{turnPayers}
+use Rattle.shift_moves.specs.Moves.{payersBefore, PaidRuns, EachOnce}
+
+-- ---- an order of all turns
+
+module _ (T : Turns) where
+  before-apart : {x : ℕ} {ts : List ℕ} → All (ordering.Before T x) ts → (j : ℕ) → j < length ts → x ≢ getD ts j 0
+  before-apart none j h = absurd (omega arith)
+  before-apart (more b bs) zero h = b .apart
+  before-apart (more b bs) (suc j) h = before-apart bs j (omega arith)
+
+  ordered-apart : {ts : List ℕ} → ordering.Ordered T ts → (i j : ℕ) → i < j → j < length ts → getD ts i 0 ≢ getD ts j 0
+  ordered-apart ordering.empty i j l h = absurd (omega arith)
+  ordered-apart (ordering.first b o) i zero l h = absurd (omega arith)
+  ordered-apart (ordering.first b o) zero (suc j) l h = before-apart b j (omega arith)
+  ordered-apart (ordering.first b o) (suc i) (suc j) l h = ordered-apart o i j (omega arith) (omega arith)
+
+  -- two places have two turns
+  order-apart : (i j : ℕ) → i < j → j < T .count → getD (turnOrder T) i 0 ≢ getD (turnOrder T) j 0
+  order-apart i j l h = ordered-apart (ordering.order-ordered T) i j l (omega (arith, order-length T))
+
+place-of : (u : ℕ) (ts : List ℕ) → 1 ≤ sum (λ x. cond (eqb x u) 1 0) ts → (j : ℕ) × (j < length ts) × (getD ts j 0 ≡ u)
+place-of u [] h = absurd (omega arith)
+place-of u (x ∷ ts) h = go (ℕ-discrete x u) h (place-of u ts)
+  where
+    go : Dec (x ≡ u) → 1 ≤ cond (eqb x u) 1 0 + sum (λ x. cond (eqb x u) 1 0) ts → (1 ≤ sum (λ x. cond (eqb x u) 1 0) ts → (j : ℕ) × (j < length ts) × (getD ts j 0 ≡ u)) →
+        (j : ℕ) × (j < suc (length ts)) × (getD (x ∷ ts) j 0 ≡ u)
+    go (yes e) k ih = (0, omega arith, e)
+    go (no d) k ih = let z = rw (ne-eqb x u d) at k in let (j, l, q) = ih (omega arith) in (suc j, omega arith, q)
+
+-- every turn has a place
+order-place : (T : Turns) (u : ℕ) → u < T .count → (j : ℕ) × (j < T .count) × (getD (turnOrder T) j 0 ≡ u)
+order-place T u h =
+    let f : ℕ → ℕ = λ x. cond (eqb x u) 1 0 in
+    let one : f u ≡ 1 = rw (eq-eqb u u refl) in
+    let (j, l, q) = place-of u (turnOrder T) (omega (arith, one, ordering.order-sum T f, sum-point f (T .count) u h)) in
+    (j, omega (arith, order-length T), q)
+
+-- ---- the drivers' order
+
+module _ (T : Turns) (orders : List ℕ) (o : Ordered T orders) where
+  drivers-count : byDrivers T .count ≡ T .count
+  unfolding byDrivers
+  drivers-count = refl
+
+  each-once : EachOnce (T .count) orders
+  each-once =
+      record {
+        inside = λ j h. omega (arith, o .drivers j h, order-within (byDrivers T) j (omega (arith, drivers-count)), drivers-count);
+        apart = λ i j l h e. order-apart (byDrivers T) i j l (omega (arith, drivers-count)) (sym (o .drivers i (omega arith)) ∙ e ∙ o .drivers j h);
+      }
+
+  pub turn-place : (u : ℕ) → u < T .count → (j : ℕ) × (j < T .count) × (driverPlace orders j ≡ u)
+  turn-place u h = let (j, l, q) = order-place (byDrivers T) u (omega (arith, drivers-count)) in let k : j < T .count = omega (arith, drivers-count) in (j, k, o .drivers j k ∙ q)
+
+  runs-of : T .count ≤ mostTurns → PaidRuns (T .count) orders
+  runs-of l = record { places = o .places; few = l; rising = λ t h. o .runs t h .rising; within = λ t h. o .runs t h .within }
+
+  -- a place is in the run of just those turns that pay for the turn there
+  in-run : (j t : ℕ) → j < T .count → t < T .count → (ltb (paidFrom orders t) (j + 1) && leb (j + 1) (paidTo orders t)) ≡ paysTurn T (driverPlace orders j) t
+  in-run j t h l = rw (o .drivers j h) (go (paysTurn T (getD (turnOrder (byDrivers T)) j 0) t) refl)
+    where
+      go : (b : Bool) → paysTurn T (getD (turnOrder (byDrivers T)) j 0) t ≡ b → (ltb (paidFrom orders t) (j + 1) && leb (j + 1) (paidTo orders t)) ≡ b
+      go true e = let (a, b) = o .runs t l .pays j h .0 e in rw (lt-ltb (paidFrom orders t) (j + 1) (omega arith), le-leb (j + 1) (paidTo orders t) (omega arith))
+      go false e = fails (ltb (paidFrom orders t) (j + 1) && leb (j + 1) (paidTo orders t)) (λ q. not-both (o .runs t l .pays j h .1 (
+        omega (arith, ltb-true (paidFrom orders t) (j + 1) (and-1 (ltb (paidFrom orders t) (j + 1)) (leb (j + 1) (paidTo orders t)) q)),
+        omega (arith, leb-true (j + 1) (paidTo orders t) (and-2 (ltb (paidFrom orders t) (j + 1)) (leb (j + 1) (paidTo orders t)) q)),
+      )) e)
+
+  pub payers-are : (S : List Bool) (j : ℕ) → j < T .count → payersBefore (T .count) S orders (j + 1) ≡ turnPayers T S (driverPlace orders j)
+  unfolding payersBefore turnPayers chosen
+  payers-are S j h = sum-same (λ t. cond (has S t) (cond (ltb (paidFrom orders t) (j + 1) && leb (j + 1) (paidTo orders t)) 1 0) 0) (λ t. cond (has S t) (cond (paysTurn T (driverPlace orders j) t) 1 0) 0) (T .count)
+      (λ t l. ap (λ (b : Bool). cond (has S t) (cond b 1 0) 0) (in-run j t h l))
+
+-- ---- as the code leaves it
+
+module _ (e : Extent) (cols orders : List ℕ) (o : Ordered (turnsIn e cols) orders) where
+  pub order-once : EachOnce (e .size .count) orders
+  unfolding turnsBy
+  order-once = each-once (turnsBy (e .size) cols) orders o
+
+  pub order-runs : (prices : List ℕ) → Priced e cols prices → PaidRuns (e .size .count) orders
+  unfolding turnsBy
+  order-runs prices w = runs-of (turnsBy (e .size) cols) orders o (w .few)

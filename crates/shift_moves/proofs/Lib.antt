@@ -1,0 +1,3 @@
+pub mod DriversOrder
+pub mod PayerCases
+pub mod MoveCases

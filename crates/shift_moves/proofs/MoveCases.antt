@@ -1,0 +1,309 @@
+-- Moved prices and changes, by cases in the form in which the code leaves them. Assumes nothing.
+use Prim.Native.Nat.{ℕ, suc, _+_, _-_, _*_, _/_, _≤_, _<_, max, min}
+use mathlib.Core.Path.{_≡_, refl, sym, ap, ap₂, _∙_}
+use mathlib.Core.Logic.{_≢_}
+use mathlib.Core.Bool.{Bool, cond}
+use mathlib.Core.List.{List, _++_}
+use native.Mathlib.Omega.{arith}
+use native.Mathlib.Nat.{suc-mul, mul-le-mul}
+use native.Mathlib.Decide.{decLt, ℕ-discrete}
+use mir.Syntax.{w32, w64}
+use mir.Val.{Fits}
+use lib.Dec.{ltb, eqb}
+use lib.ListN.{length, getD, set, length-set, length-append, List·getD-append}
+use lib.Seq.{getD-set-same, getD-set-other, getD-append-add, ext-getD}
+use borrow.Author.Tests.{lt-ltb, le-ltb, eq-eqb, ne-eqb}
+use Rattle.lists.specs.Lists.{tab}
+use Rattle.lists.proofs.Sums.{sum-same, tab-length, tab-at}
+use Rattle.turn.specs.Turn.{mostWorth}
+use Rattle.sheet.specs.Kind.{mostTurns, mostSlopes}
+use Rattle.model.specs.Turns.{Turns}
+use Rattle.model.specs.Choice.{has, chosen}
+use Rattle.choice_map.specs.Choice.{choiceIn}
+use Rattle.instance.specs.Columns.{rowIn, turnsBy}
+use Rattle.instance.proofs.Rows.{count-is, slope-at}
+use Rattle.price_spec.specs.Prices.{slopePrice, turnPrice}
+use Rattle.prices.specs.declared.Extent.{Extent}
+use Rattle.prices.specs.Held.{mostPrice, turnsIn, orderPlaces, driverPlace, Ordered, Priced}
+use Rattle.refine_spec.specs.Shift.{highestPrice, slopePayers, turnPayers, movedPrice, turnChange, movedPrices}
+use Rattle.shift_moves.specs.Moves.{payerPlaces, numberBehind, timesChosen, payersBefore, payersAt, payersAfter, slopePayersIn, turnPayersIn, ownPlace, turnPlace, SmallNumbers, Times, PaidRuns, Payers, FewPayers, EachOnce, MovedBy}
+use Rattle.shift_moves.proofs.DriversOrder.{turn-place, payers-are}
+use Rattle.shift_moves.proofs.PayerCases.{times-most, payers-most}
+
+-- ---- the change
+
+pub half-is : (c : ℕ) {r : ℕ} → r ≡ max 1 (c / 2) → r ≡ turnChange c
+unfolding turnChange
+half-is c e = e
+
+pub half-most : (c : ℕ) {r : ℕ} → c ≤ mostWorth → r ≡ max 1 (c / 2) → r ≤ mostWorth
+half-most c l e = omega arith
+
+pub ruleset change-cases = (half-is, half-most)
+
+-- ---- one price
+
+pub most-low : (payers : ℕ) → payers < 2 → mostPrice ≡ cond (ltb payers 2) mostPrice highestPrice
+most-low payers h = rw (lt-ltb payers 2 h)
+
+pub most-high : (payers : ℕ) → 2 ≤ payers → highestPrice ≡ cond (ltb payers 2) mostPrice highestPrice
+most-high payers h = rw (le-ltb payers 2 h)
+
+pub ruleset most-cases = (most-low, most-high)
+
+module _ (change payers price : ℕ) {a b : ℕ} (e : a ≡ price) (f : b ≡ payers) where
+  rise-most : change ≤ mostWorth → payers ≤ mostTurns → b * change ≤ 24000000
+  rise-most l m = mul-le-mul {n₁ = b} {m₁ = change} {n₂ = mostTurns} {m₂ = mostWorth} (omega arith) l
+
+  pub rise-fits : change ≤ mostWorth → payers ≤ mostTurns → Fits w32 (b * change)
+  rise-fits l m = omega (arith, rise-most l m)
+
+  pub raised-fits : change ≤ mostWorth → payers ≤ mostTurns → a ≤ mostPrice → Fits w32 (a + b * change)
+  raised-fits l m n = omega (arith, rise-most l m)
+
+  pub moved-is : {l m r : ℕ} → a ≤ mostPrice → l ≡ a + b * change - change → m ≡ cond (ltb payers 2) mostPrice highestPrice → r ≡ min l m → r ≡ movedPrice change payers price
+  unfolding movedPrice
+  moved-is {l} {m} {r} n g h k = go (ℕ-discrete payers 0) (ℕ-discrete payers 1)
+    where
+      go : Dec (payers ≡ 0) → Dec (payers ≡ 1) → r ≡ cond (eqb payers 0) (price - change) (cond (eqb payers 1) price (min highestPrice (price + (payers - 1) * change)))
+      go (yes z) d =
+          let none : b * change ≡ 0 * change = ap (λ (x : ℕ). x * change) (f ∙ z) in
+          let top = rw (lt-ltb payers 2 (omega arith)) at h in
+          rw (eq-eqb payers 0 z) (omega arith)
+      go (no z) (yes d) =
+          let one : b * change ≡ 1 * change = ap (λ (x : ℕ). x * change) (f ∙ d) in
+          let top = rw (lt-ltb payers 2 (omega arith)) at h in
+          rw (ne-eqb payers 0 z, eq-eqb payers 1 d) (omega arith)
+      go (no z) (no d) =
+          let more : b ≡ suc (payers - 1) = omega arith in
+          let several : b * change ≡ (payers - 1) * change + change = ap (λ (x : ℕ). x * change) more ∙ suc-mul (payers - 1) change in
+          let top = rw (le-ltb payers 2 (omega arith)) at h in
+          rw (ne-eqb payers 0 z, ne-eqb payers 1 d) (omega arith)
+
+pub ruleset moved-cases = (rise-fits, raised-fits, moved-is)
+
+pub price-put : (prices : List ℕ) (i : ℕ) {x y : ℕ} → x ≡ y → set prices i x ≡ set prices i y
+price-put prices i e = ap (set prices i) e
+
+pub ruleset price-put-cases = (price-put)
+
+-- ---- prices at some places
+
+module _ (change : ℕ) (payers place : ℕ → ℕ) (old : List ℕ) where
+  moved-none : MovedBy change payers place 0 old old
+  moved-none = record { size = refl; done = λ i l. absurd (omega arith); others = λ x h. refl }
+
+  moved-more : (n : ℕ) (new : List ℕ) → place n < length old → ((i : ℕ) → i < n → place i ≢ place n) → MovedBy change payers place n old new →
+      MovedBy change payers place (n + 1) old (set new (place n) (movedPrice change (payers n) (getD new (place n) 0)))
+  moved-more n new l apart s =
+      let v = movedPrice change (payers n) (getD new (place n) 0) in
+      record {
+        size = length-set new (place n) v ∙ s .size;
+        done = λ i h. at i h (ℕ-discrete i n);
+        others = λ x h. getD-set-other new (place n) x v 0 (λ e. h n (omega arith) (sym e)) ∙ s .others x (λ i k. h i (omega arith));
+      }
+    where
+      at : (i : ℕ) → i < n + 1 → Dec (i ≡ n) → getD (set new (place n) (movedPrice change (payers n) (getD new (place n) 0))) (place i) 0 ≡ movedPrice change (payers i) (getD old (place i) 0)
+      at i h (yes e) =
+          rw e (getD-set-same new (place n) (movedPrice change (payers n) (getD new (place n) 0)) 0 (omega (arith, s .size)) ∙ ap (movedPrice change (payers n)) (s .others (place n) apart))
+      at i h (no e) = getD-set-other new (place n) (place i) (movedPrice change (payers n) (getD new (place n) 0)) 0 (apart i (omega arith)) ∙ s .done i (omega arith)
+
+  -- by payers that are the same
+  moved-same : (payers′ : ℕ → ℕ) (n : ℕ) (new : List ℕ) → ((i : ℕ) → i < n → payers i ≡ payers′ i) → MovedBy change payers place n old new → MovedBy change payers′ place n old new
+  moved-same payers′ n new e s = record { size = s .size; done = λ i l. s .done i l ∙ ap (λ (k : ℕ). movedPrice change k (getD old (place i) 0)) (e i l); others = s .others }
+
+-- ---- the slopes' prices
+
+module _ (change slopes : ℕ) (payers old : List ℕ) where
+  -- the first k of them are moved
+  pub record SlopesMoved (new : List ℕ) (k : ℕ) : Type 0 where
+    pub within : k ≤ slopes
+    pub moved : MovedBy change (payersAfter payers) ownPlace k old new
+
+  pub slopes-start : SlopesMoved old 0
+  slopes-start = record { within = omega arith; moved = moved-none change (payersAfter payers) ownPlace old }
+
+  module _ (new : List ℕ) {k : ℕ} (s : SlopesMoved new k) where
+    pub slopes-long : length new ≡ length old
+    slopes-long = s .moved .size
+
+    pub slopes-inside : k < slopes → slopes ≤ length old → k < length new
+    slopes-inside h l = omega (arith, slopes-long)
+
+    pub slopes-place : k < slopes → slopes ≤ mostSlopes → k + 1 < payerPlaces
+    slopes-place h l = omega arith
+
+    pub slopes-few : k < slopes → FewPayers (slopes + 1) payers → getD payers (k + 1) 0 ≤ mostTurns
+    unfolding FewPayers
+    slopes-few h f = f (k + 1) (omega arith)
+
+    pub slopes-more : {new′ : List ℕ} → k < slopes → slopes ≤ length old → new′ ≡ set new k (movedPrice change (getD payers (k + 1) 0) (getD new k 0)) → SlopesMoved new′ (k + 1)
+    slopes-more h l e = rw e (record { within = omega arith; moved = moved-more change (payersAfter payers) ownPlace old k new (omega arith) (λ i m q. omega arith) (s .moved) })
+
+    pub slopes-done : slopes ≤ k → MovedBy change (payersAfter payers) ownPlace slopes old new
+    slopes-done h = let q : k ≡ slopes = omega (arith, s .within) in rw q at (s .moved)
+
+pub ruleset slopes-moved-cases = (slopes-start, slopes-long, slopes-inside, slopes-place, slopes-few, slopes-more, slopes-done)
+
+module _ (e : Extent) (cols relaxed prices : List ℕ) (w : Priced e cols prices) where
+  slope-number : (t : ℕ) → t < e .size .count → numberBehind cols 0 t ≡ turnsIn e cols .slope t
+  unfolding rowIn
+  slope-number t h = let z : 0 + t ≡ t = omega arith in rw z (slope-at (e .size) cols t h refl)
+
+  pub slope-numbers : SmallNumbers (e .size .count) cols 0
+  slope-numbers = record { few = w .few; within = omega (arith, w .places, w .few); small = λ t h. omega (arith, slope-number t h, w .numbers t h, w .few-slopes) }
+
+  module _ (times : List ℕ) (ts : Times (e .size .count) (choiceIn (e .size .count) relaxed) (numberBehind cols 0) times) where
+    slope-payers : (k : ℕ) → k < e .slopes → payersAfter times k ≡ slopePayersIn e cols relaxed k
+    unfolding slopePayers timesChosen chosen turnsBy
+    slope-payers k h =
+        ts .values (k + 1) (omega (arith, w .few-slopes))
+        ∙ sum-same (λ t. cond (has (choiceIn (e .size .count) relaxed) t) (cond (eqb (numberBehind cols 0 t) (k + 1)) 1 0) 0) (λ t. cond (has (choiceIn (e .size .count) relaxed) t) (cond (eqb (turnsIn e cols .slope t) (k + 1)) 1 0) 0) (e .size .count)
+        (λ t l. ap (λ (x : ℕ). cond (has (choiceIn (e .size .count) relaxed) t) (cond (eqb x (k + 1)) 1 0) 0) (slope-number t l))
+
+    pub slope-few : FewPayers (e .slopes + 1) times
+    unfolding FewPayers
+    slope-few k h = omega (arith, ts .values k (omega (arith, w .few-slopes)), times-most (e .size .count) (choiceIn (e .size .count) relaxed) (numberBehind cols 0) k, w .few)
+
+    pub slope-moved : (change : ℕ) (new : List ℕ) → MovedBy change (payersAfter times) ownPlace (e .slopes) prices new → MovedBy change (slopePayersIn e cols relaxed) ownPlace (e .slopes) prices new
+    slope-moved change new s = moved-same change (payersAfter times) ownPlace prices (slopePayersIn e cols relaxed) (e .slopes) new slope-payers s
+
+  pub slope-within : e .slopes ≤ length prices
+  slope-within = omega (arith, w .list)
+
+pub ruleset slope-cases = (slope-numbers, slope-few, slope-moved, slope-within)
+
+-- ---- the turns' prices
+
+module _ (change : ℕ) (e : Extent) (orders payers old : List ℕ) where
+  -- those of the turns at the first j places of the drivers' order are moved
+  pub record TurnsMoved (new : List ℕ) (j : ℕ) : Type 0 where
+    pub within : j ≤ e .size .count
+    pub moved : MovedBy change (payersAt payers) (turnPlace (e .slopes) orders) j old new
+
+  pub turns-start : TurnsMoved old 0
+  turns-start = record { within = omega arith; moved = moved-none change (payersAt payers) (turnPlace (e .slopes) orders) old }
+
+  module _ (new : List ℕ) {j : ℕ} (s : TurnsMoved new j) where
+    pub turns-long : length new ≡ length old
+    turns-long = s .moved .size
+
+    pub turns-done : e .size .count ≤ j → MovedBy change (payersAt payers) (turnPlace (e .slopes) orders) (e .size .count) old new
+    turns-done h = let q : j ≡ e .size .count = omega (arith, s .within) in rw q at (s .moved)
+
+    module _ (h : j < e .size .count) where
+      pub turns-place : e .size .count ≤ mostTurns → j < payerPlaces
+      turns-place l = omega arith
+
+      pub turns-read : e .size .count ≤ mostTurns → 2 * mostTurns + j < orderPlaces
+      turns-read l = omega arith
+
+      pub turns-few : FewPayers (e .size .count) payers → getD payers j 0 ≤ mostTurns
+      unfolding FewPayers
+      turns-few f = f j h
+
+      module _ (o : EachOnce (e .size .count) orders) {x : ℕ} (q : x ≡ driverPlace orders j) where
+        pub turns-fits : e .slopes ≤ mostSlopes → e .size .count ≤ mostTurns → Fits w64 (e .slopes + x)
+        turns-fits k l = omega (arith, q, o .inside j h)
+
+        module _ (l : length old ≡ e .slopes + e .size .count) where
+          pub turns-inside : e .slopes + x < length new
+          turns-inside = omega (arith, q, o .inside j h, turns-long)
+
+          pub turns-more : {new′ : List ℕ} → new′ ≡ set new (e .slopes + x) (movedPrice change (getD payers j 0) (getD new (e .slopes + x) 0)) → TurnsMoved new′ (j + 1)
+          turns-more g =
+              rw (g, q) (record {
+                within = omega arith;
+                moved = moved-more change (payersAt payers) (turnPlace (e .slopes) orders) old j new (omega (arith, o .inside j h)) (λ i m z. o .apart i j m h (omega arith)) (s .moved);
+              })
+
+pub ruleset turns-moved-cases = (turns-start, turns-long, turns-done, turns-place, turns-read, turns-few, turns-fits, turns-inside, turns-more)
+
+module _ (e : Extent) (orders relaxed : List ℕ) (r : PaidRuns (e .size .count) orders) (payers : List ℕ) (ps : Payers (e .size .count) (choiceIn (e .size .count) relaxed) orders payers) where
+  pub turn-few : FewPayers (e .size .count) payers
+  unfolding FewPayers
+  turn-few k h = omega (arith, ps .values k h, payers-most (e .size .count) (choiceIn (e .size .count) relaxed) orders (k + 1), r .few)
+
+  pub turn-moved : (change : ℕ) (old new : List ℕ) {c : ℕ} → c ≡ turnChange change → MovedBy c (payersAt payers) (turnPlace (e .slopes) orders) (e .size .count) old new
+      → MovedBy (turnChange change) (turnPayersIn e orders relaxed) (turnPlace (e .slopes) orders) (e .size .count) old new
+  turn-moved change old new q s = moved-same (turnChange change) (payersAt payers) (turnPlace (e .slopes) orders) old (turnPayersIn e orders relaxed) (e .size .count) new (ps .values) (rw q at s)
+
+pub turn-count : (e : Extent) (orders : List ℕ) → PaidRuns (e .size .count) orders → e .size .count ≤ mostTurns
+turn-count e orders r = r .few
+
+pub ruleset turn-cases = (turn-few, turn-moved, turn-count)
+
+-- ---- all prices
+
+module _ (T : Turns) (slopes : ℕ) (S : List Bool) (change : ℕ) (prices : List ℕ) where
+  abbrev slopeMoved : ℕ → ℕ
+  slopeMoved k = movedPrice change (slopePayers T S (k + 1)) (slopePrice prices (k + 1))
+
+  abbrev turnMoved : ℕ → ℕ
+  turnMoved u = movedPrice (turnChange change) (turnPayers T S u) (turnPrice slopes prices u)
+
+  moved-length : length (movedPrices T slopes S change prices) ≡ slopes + T .count
+  unfolding movedPrices
+  moved-length = length-append (tab slopes slopeMoved) (tab (T .count) turnMoved) ∙ ap₂ _+_ (tab-length slopes slopeMoved) (tab-length (T .count) turnMoved)
+
+  moved-slope : (k : ℕ) → k < slopes → getD (movedPrices T slopes S change prices) k 0 ≡ movedPrice change (slopePayers T S (k + 1)) (getD prices k 0)
+  unfolding movedPrices slopePrice
+  moved-slope k h =
+      let z : k + 1 - 1 ≡ k = omega arith in
+      List·getD-append (tab slopes slopeMoved) (tab (T .count) turnMoved) 0 k (omega (arith, tab-length slopes slopeMoved)) ∙ tab-at slopes slopeMoved 0 k h ∙ rw z
+
+  moved-turn : (u : ℕ) → u < T .count → getD (movedPrices T slopes S change prices) (slopes + u) 0 ≡ movedPrice (turnChange change) (turnPayers T S u) (getD prices (slopes + u) 0)
+  unfolding movedPrices turnPrice
+  moved-turn u h =
+      ap (λ (k : ℕ). getD (tab slopes slopeMoved ++ tab (T .count) turnMoved) (k + u) 0) (sym (tab-length slopes slopeMoved))
+      ∙ getD-append-add (tab slopes slopeMoved) (tab (T .count) turnMoved) u 0
+      ∙ tab-at (T .count) turnMoved 0 u h
+
+  module _ (orders mid new : List ℕ) (o : Ordered T orders) (l : length prices ≡ slopes + T .count)
+      (a : MovedBy change (λ k. slopePayers T S (k + 1)) ownPlace slopes prices mid)
+      (b : MovedBy (turnChange change) (λ j. payersBefore (T .count) S orders (j + 1)) (turnPlace slopes orders) (T .count) mid new) where
+    slope-is : (k : ℕ) → k < slopes → getD new k 0 ≡ movedPrice change (slopePayers T S (k + 1)) (getD prices k 0)
+    slope-is k h = b .others k (λ j m e. omega arith) ∙ a .done k h
+
+    turn-is : (u : ℕ) → u < T .count → getD new (slopes + u) 0 ≡ movedPrice (turnChange change) (turnPayers T S u) (getD prices (slopes + u) 0)
+    turn-is u h =
+        let (j, m, q) = turn-place T orders o u h in
+        (rw (payers-are T orders o S j m, q) at (b .done j m)) ∙ ap (movedPrice (turnChange change) (turnPayers T S u)) (a .others (slopes + u) (λ i k e. omega arith))
+
+    all-moved : new ≡ movedPrices T slopes S change prices
+    all-moved = ext-getD 0 new (movedPrices T slopes S change prices) (b .size ∙ a .size ∙ l ∙ sym moved-length) (λ i m. at i m (decLt i slopes))
+      where
+        at : (i : ℕ) → i < length new → Dec (i < slopes) → getD new i 0 ≡ getD (movedPrices T slopes S change prices) i 0
+        at i m (yes h) = slope-is i h ∙ sym (moved-slope i h)
+        at i m (no h) =
+            let u = i - slopes in
+            let q : i ≡ slopes + u = omega arith in
+            let k : u < T .count = omega (arith, b .size, a .size) in
+            ap (λ (x : ℕ). getD new x 0) q ∙ turn-is u k ∙ sym (moved-turn u k) ∙ ap (λ (x : ℕ). getD (movedPrices T slopes S change prices) x 0) (sym q)
+
+module _ (e : Extent) (cols orders relaxed : List ℕ) (change : ℕ) (prices : List ℕ) (w : Priced e cols prices) (mid : List ℕ) where
+  module _ (a : MovedBy change (slopePayersIn e cols relaxed) ownPlace (e .slopes) prices mid) where
+    pub mid-list : length mid ≡ e .slopes + e .size .count
+    mid-list = a .size ∙ w .list
+
+    pub prices-moved : (new : List ℕ) → Ordered (turnsIn e cols) orders → MovedBy (turnChange change) (turnPayersIn e orders relaxed) (turnPlace (e .slopes) orders) (e .size .count) mid new
+        → new ≡ movedPrices (turnsIn e cols) (e .slopes) (choiceIn (e .size .count) relaxed) change prices
+    unfolding turnsBy
+    prices-moved new o b = all-moved (turnsBy (e .size) cols) (e .slopes) (choiceIn (e .size .count) relaxed) change prices orders mid new o (w .list) a b
+
+-- moved prices are a list of the same turns and slopes
+pub moved-priced : (e : Extent) (cols prices : List ℕ) (S : List Bool) (change : ℕ) → Priced e cols prices → Priced e cols (movedPrices (turnsIn e cols) (e .slopes) S change prices)
+moved-priced e cols prices S change w =
+    record {
+      places = w .places;
+      few = w .few;
+      few-slopes = w .few-slopes;
+      numbers = w .numbers;
+      drivers = w .drivers;
+      list = moved-length (turnsIn e cols) (e .slopes) S change prices ∙ ap (λ (n : ℕ). e .slopes + n) (count-is (e .size) cols);
+    }
+
+pub few-slopes : (e : Extent) (cols prices : List ℕ) → Priced e cols prices → e .slopes ≤ mostSlopes
+few-slopes e cols prices w = w .few-slopes
+
+pub ruleset prices-cases = (few-slopes, mid-list, prices-moved)

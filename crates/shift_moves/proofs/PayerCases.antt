@@ -1,0 +1,258 @@
+-- Who pays, counted and summed up, by cases in the form in which the code's loops leave them. Assumes nothing.
+use Prim.Native.Nat.{ℕ, zero, suc, _+_, _-_, _*_, _≤_, _<_}
+use mathlib.Core.Path.{_≡_, refl, sym, ap, _∙_}
+use mathlib.Core.Bool.{Bool, true, false, cond, _&&_}
+use mathlib.Core.List.{List}
+use native.Mathlib.Omega.{arith}
+use native.Mathlib.Numerals.{add-one}
+use native.Mathlib.Decide.{decLt, ℕ-discrete}
+use lib.Dec.{ltb, leb, eqb}
+use lib.ListN.{length, getD, set, replicate, length-set, length-replicate, getD-replicate}
+use lib.Seq.{getD-set-same, getD-set-other}
+use borrow.Author.Tests.{lt-ltb, le-ltb, le-leb, lt-leb, eq-eqb, ne-eqb}
+use Rattle.lists.specs.Lists.{sum, below}
+use Rattle.lists.proofs.Sums.{sum-add, sum-mono, sum-zero, sum-same, sum-split, sum-ones, all-of, all-below}
+use Rattle.lists.specs.Counting.{sumBefore}
+use Rattle.sheet.specs.Kind.{mostTurns}
+use Rattle.model.specs.Choice.{has, chosen}
+use Rattle.choice_map.specs.Choice.{chosenIn, choiceIn, nextChosen, Clean}
+use Rattle.choice_map.proofs.Clean.{choice-has, clean-bits, clear-bits}
+use Rattle.choice_map.proofs.NextChosen.{next-from, next-clear, next-chosen}
+use Rattle.prices.specs.Held.{paidFrom, paidTo}
+use Rattle.shift_moves.specs.Moves.{payerPlaces, numberBehind, timesChosen, timesBefore, payersBefore, payersPresent, SmallNumbers, Times, PaidRuns, Summable, Present, Payers}
+
+-- ---- a count is no more than what is counted
+
+one-most : (a b : Bool) → cond a (cond b 1 0) 0 ≤ 1
+one-most true true = omega arith
+one-most true false = omega arith
+one-most false b = omega arith
+
+sum-most : (p q : ℕ → Bool) (n : ℕ) → sum (λ t. cond (p t) (cond (q t) 1 0) 0) (below n) ≤ n
+sum-most p q n = omega (arith, sum-mono (λ t. cond (p t) (cond (q t) 1 0) 0) (λ t. 1) (all-of (λ t. one-most (p t) (q t)) (below n)), sum-ones n)
+
+before-most : (map : List ℕ) (f : ℕ → ℕ) (m k : ℕ) → timesBefore map f m k ≤ m
+unfolding timesBefore
+before-most map f m k = sum-most (chosenIn map) (λ t. eqb (f t) k) m
+
+pub times-most : (n : ℕ) (S : List Bool) (f : ℕ → ℕ) (k : ℕ) → timesChosen n S f k ≤ n
+unfolding timesChosen chosen
+times-most n S f k = sum-most (has S) (λ t. eqb (f t) k) n
+
+pub payers-most : (n : ℕ) (S : List Bool) (orders : List ℕ) (m : ℕ) → payersBefore n S orders m ≤ n
+unfolding payersBefore chosen
+payers-most n S orders m = sum-most (has S) (λ t. ltb (paidFrom orders t) m && leb m (paidTo orders t)) n
+
+-- ---- counting the turns of a map by their numbers
+
+-- the turns of the map before t are counted, and t is the next of them
+pub record TimesTo (n : ℕ) (map numbers : List ℕ) (at : ℕ) (times : List ℕ) (t : ℕ) : Type 0 where
+  pub within : t ≤ 8 * length map
+  pub here : t < n → chosenIn map t ≡ true
+  pub places : length times ≡ payerPlaces
+  pub values : (k : ℕ) → k ≤ mostTurns → getD times k 0 ≡ timesBefore map (numberBehind numbers at) t k
+
+module _ (map : List ℕ) (f : ℕ → ℕ) (k : ℕ) where
+  -- turns that are not chosen may be passed over
+  times-skip : (a b : ℕ) → a ≤ b → ((u : ℕ) → a ≤ u → u < b → chosenIn map u ≡ false) → timesBefore map f b k ≡ timesBefore map f a k
+  unfolding timesBefore
+  times-skip a b l h =
+      let e : b ≡ a + (b - a) = omega arith in
+      let p : timesBefore map f b k ≡ timesBefore map f (a + (b - a)) k = ap (λ (m : ℕ). timesBefore map f m k) e in
+      let rest : sum (λ u. cond (chosenIn map (a + u)) (cond (eqb (f (a + u)) k) 1 0) 0) (below (b - a)) ≡ 0 =
+      sum-zero (λ u. cond (chosenIn map (a + u)) (cond (eqb (f (a + u)) k) 1 0) 0) (all-below (b - a) (λ u m. rw (h (a + u) (omega arith) (omega arith)))) in
+      omega (arith, p, rest, sum-split (λ u. cond (chosenIn map u) (cond (eqb (f u) k) 1 0) 0) a (b - a))
+
+  times-one : (t : ℕ) → chosenIn map t ≡ true → timesBefore map f (t + 1) k ≡ cond (eqb (f t) k) 1 0 + timesBefore map f t k
+  unfolding timesBefore
+  times-one t e = rw (add-one t, e)
+
+module _ (n : ℕ) (relaxed numbers : List ℕ) (at : ℕ) (c : Clean n relaxed) where
+  abbrev f : ℕ → ℕ
+  f = numberBehind numbers at
+
+  next-here : (t : ℕ) {u : ℕ} → u ≡ nextChosen relaxed t → u < n → chosenIn relaxed u ≡ true
+  next-here t e l = let h : nextChosen relaxed t < 8 * length relaxed = omega (arith, e, clean-bits c) in rw e (next-chosen relaxed t h)
+
+  pub times-start : {t : ℕ} {times : List ℕ} → t ≡ nextChosen relaxed 0 → t ≤ 8 * length relaxed → times ≡ replicate payerPlaces 0 → TimesTo n relaxed numbers at times t
+  unfolding timesBefore
+  times-start {t} e l q =
+      record {
+        within = l;
+        here = next-here 0 e;
+        places = rw q (length-replicate {A = ℕ} payerPlaces 0);
+        values = λ k m. rw q (getD-replicate {A = ℕ} payerPlaces k 0 0 (omega arith) ∙ sym (times-skip relaxed f k 0 t (omega arith) (λ u a b. next-clear relaxed 0 u a (omega (arith, e)))));
+      }
+
+  module _ (w : SmallNumbers n numbers at) {t : ℕ} (h : t < n) where
+    pub times-read : at + t < length numbers
+    times-read = omega (arith, w .within)
+
+    pub times-next : t + 1 ≤ 8 * length relaxed
+    times-next = omega (arith, clean-bits c)
+
+    pub times-few : length relaxed ≤ 65536
+    times-few = omega (arith, c .size, w .few)
+
+    pub times-less : {u : ℕ} → u ≡ nextChosen relaxed (t + 1) → 8 * length relaxed - u < 8 * length relaxed - t
+    times-less e = omega (arith, e, next-from relaxed (t + 1), clean-bits c)
+
+    module _ {k : ℕ} (g : k ≡ getD numbers (at + t) 0) where
+      pub times-inside : k ≤ mostTurns
+      times-inside = omega (arith, g, w .small t h)
+
+      module _ (times : List ℕ) (s : TimesTo n relaxed numbers at times t) where
+        pub times-room : getD times k 0 < mostTurns
+        times-room = omega (arith, s .values k times-inside, before-most relaxed f t k, w .few)
+
+        pub times-more : {u : ℕ} {times′ : List ℕ} → u ≡ nextChosen relaxed (t + 1) → u ≤ 8 * length relaxed → times′ ≡ set times k (getD times k 0 + 1) → TimesTo n relaxed numbers at times′ u
+        times-more {u} e l q =
+            rw q (record {
+              within = l;
+              here = next-here (t + 1) e;
+              places = length-set times k (getD times k 0 + 1) ∙ s .places;
+              values = λ m b. one m b (ℕ-discrete m k) ∙ sym (times-skip relaxed f m (t + 1) u (omega (arith, e, next-from relaxed (t + 1))) (λ v a d. next-clear relaxed (t + 1) v a (omega (arith, e))));
+            })
+          where
+            one : (m : ℕ) → m ≤ mostTurns → Dec (m ≡ k) → getD (set times k (getD times k 0 + 1)) m 0 ≡ timesBefore relaxed f (t + 1) m
+            one m b (yes z) =
+                rw (z, getD-set-same times k (getD times k 0 + 1) 0 (omega (arith, s .places, times-inside)), times-one relaxed f k t (s .here h), eq-eqb (getD numbers (at + t) 0) k (sym g))
+                (omega (arith, s .values k times-inside))
+            one m b (no z) =
+                rw (getD-set-other times k m (getD times k 0 + 1) 0 z, times-one relaxed f m t (s .here h), ne-eqb (getD numbers (at + t) 0) m (λ y. z (sym y ∙ sym g)))
+                (omega (arith, s .values m b))
+
+  pub times-done : (times : List ℕ) {t : ℕ} → n ≤ t → TimesTo n relaxed numbers at times t → Times n (choiceIn n relaxed) (numberBehind numbers at) times
+  unfolding timesChosen timesBefore chosen
+  times-done times {t} h s =
+      record {
+        places = s .places;
+        values = λ k m. s .values k m
+            ∙ times-skip relaxed f k n t h (λ u a b. clear-bits n relaxed (c .clear) u a (omega (arith, s .within, c .size)))
+            ∙ sum-same (λ u. cond (chosenIn relaxed u) (cond (eqb (f u) k) 1 0) 0) (λ u. cond (has (choiceIn n relaxed) u) (cond (eqb (f u) k) 1 0) 0) n (λ u l. ap (λ (b : Bool). cond b (cond (eqb (f u) k) 1 0) 0) (sym (choice-has n relaxed u l)));
+      }
+
+pub ruleset times-cases = (times-start, times-read, times-next, times-few, times-less, times-inside, times-room, times-more, times-done)
+
+-- ---- along the drivers' order
+
+-- a run from a to b: who is at place m, or leaves there, was at the place before or joins
+run-step : (a b m : ℕ) → a ≤ b → cond (ltb a (suc m) && leb (suc m) b) 1 0 + cond (eqb b m) 1 0 ≡ cond (ltb a m && leb m b) 1 0 + cond (eqb a m) 1 0
+run-step a b m l = go (decLt a m) (ℕ-discrete a m) (decLt b m) (ℕ-discrete b m)
+  where
+    go : Dec (a < m) → Dec (a ≡ m) → Dec (b < m) → Dec (b ≡ m) → cond (ltb a (suc m) && leb (suc m) b) 1 0 + cond (eqb b m) 1 0 ≡ cond (ltb a m && leb m b) 1 0 + cond (eqb a m) 1 0
+    go (yes x) e (yes y) d = rw (lt-ltb a (suc m) (omega arith), lt-leb (suc m) b (omega arith), ne-eqb b m (omega arith), lt-ltb a m x, lt-leb m b y, ne-eqb a m (omega arith))
+    go (yes x) e (no y) (yes d) = rw (lt-ltb a (suc m) (omega arith), lt-leb (suc m) b (omega arith), eq-eqb b m d, lt-ltb a m x, le-leb m b (omega arith), ne-eqb a m (omega arith))
+    go (yes x) e (no y) (no d) = rw (lt-ltb a (suc m) (omega arith), le-leb (suc m) b (omega arith), ne-eqb b m d, lt-ltb a m x, le-leb m b (omega arith), ne-eqb a m (omega arith))
+    go (no x) e (yes y) d = absurd (omega arith)
+    go (no x) (yes e) (no y) (yes d) = rw (lt-ltb a (suc m) (omega arith), lt-leb (suc m) b (omega arith), eq-eqb b m d, le-ltb a m (omega arith), eq-eqb a m e)
+    go (no x) (yes e) (no y) (no d) = rw (lt-ltb a (suc m) (omega arith), le-leb (suc m) b (omega arith), ne-eqb b m d, le-ltb a m (omega arith), eq-eqb a m e)
+    go (no x) (no e) (no y) d = rw (le-ltb a (suc m) (omega arith), ne-eqb b m (omega arith), le-ltb a m (omega arith), ne-eqb a m e)
+
+if-chosen : (s : Bool) (a b c d : ℕ) → a + b ≡ c + d → cond s a 0 + cond s b 0 ≡ cond s c 0 + cond s d 0
+if-chosen true a b c d e = e
+if-chosen false a b c d e = refl
+
+no-zero : (s : Bool) → _≡_ {A = ℕ} (cond s 0 0) 0
+no-zero true = refl
+no-zero false = refl
+
+module _ (n : ℕ) (S : List Bool) (orders : List ℕ) (r : PaidRuns n orders) where
+  payers-none : payersBefore n S orders 0 ≡ 0
+  unfolding payersBefore chosen
+  payers-none = sum-zero (λ t. cond (has S t) (cond (ltb (paidFrom orders t) 0 && leb 0 (paidTo orders t)) 1 0) 0)
+      (all-of (λ t. rw (le-ltb (paidFrom orders t) 0 (omega arith)) (no-zero (has S t))) (below n))
+
+  payers-step : (m : ℕ) → payersBefore n S orders (suc m) + timesChosen n S (paidTo orders) m ≡ payersBefore n S orders m + timesChosen n S (paidFrom orders) m
+  unfolding payersBefore timesChosen chosen
+  payers-step m =
+      let after : ℕ → ℕ = λ t. cond (has S t) (cond (ltb (paidFrom orders t) (suc m) && leb (suc m) (paidTo orders t)) 1 0) 0 in
+      let left : ℕ → ℕ = λ t. cond (has S t) (cond (eqb (paidTo orders t) m) 1 0) 0 in
+      let before : ℕ → ℕ = λ t. cond (has S t) (cond (ltb (paidFrom orders t) m && leb m (paidTo orders t)) 1 0) 0 in
+      let joins : ℕ → ℕ = λ t. cond (has S t) (cond (eqb (paidFrom orders t) m) 1 0) 0 in
+      sym (sum-add after left (below n))
+      ∙ sum-same (λ t. after t + left t) (λ t. before t + joins t) n (λ t l. if-chosen (has S t)
+      (cond (ltb (paidFrom orders t) (suc m) && leb (suc m) (paidTo orders t)) 1 0) (cond (eqb (paidTo orders t) m) 1 0)
+      (cond (ltb (paidFrom orders t) m && leb m (paidTo orders t)) 1 0) (cond (eqb (paidFrom orders t) m) 1 0)
+      (run-step (paidFrom orders t) (paidTo orders t) m (r .rising t l)))
+      ∙ sum-add before joins (below n)
+
+  module _ (joining leaving : List ℕ) (js : Times n S (paidFrom orders) joining) (ls : Times n S (paidTo orders) leaving) where
+    sums-are : (m : ℕ) → m ≤ n → sumBefore joining m ≡ payersBefore n S orders m + sumBefore leaving m
+    sums-are zero l = omega (arith, payers-none)
+    sums-are (suc m) l = omega (arith, sums-are m (omega arith), payers-step m, js .values m (omega (arith, r .few)), ls .values m (omega (arith, r .few)))
+
+    pub payers-summable : Summable n joining leaving
+    payers-summable =
+        record {
+          few = r .few;
+          places = js .places;
+          left = λ m l. omega (arith, sums-are m l);
+          small = λ m l. omega (arith, sums-are m l, payers-most n S orders m, r .few);
+          joined = λ m l. omega (arith, js .values m (omega (arith, r .few)), times-most n S (paidFrom orders) m, r .few);
+        }
+
+    pub payers-present : (payers : List ℕ) → Present joining leaving payers n → Payers n S orders payers
+    payers-present payers p = record { values = λ j l. omega (arith, p .values j l, sums-are (j + 1) (omega arith)) }
+
+module _ (n : ℕ) (orders : List ℕ) (r : PaidRuns n orders) where
+  pub runs-from : SmallNumbers n orders (3 * mostTurns)
+  runs-from = record { few = r .few; within = omega (arith, r .places, r .few); small = λ t l. omega (arith, r .rising t l, r .within t l, r .few) }
+
+  pub runs-to : SmallNumbers n orders (4 * mostTurns)
+  runs-to = record { few = r .few; within = omega (arith, r .places, r .few); small = λ t l. omega (arith, r .within t l, r .few) }
+
+pub ruleset payer-cases = (runs-from, runs-to, payers-summable, payers-present)
+
+-- ---- summing up
+
+-- the payers of the first i places are put, and those of the place before the next are at hand
+pub record Along (n : ℕ) (joining leaving payers : List ℕ) (here i : ℕ) : Type 0 where
+  pub within : i ≤ n
+  pub present : Present joining leaving payers i
+  pub now-here : here ≡ payersPresent joining leaving i
+
+module _ (n : ℕ) (joining leaving : List ℕ) (w : Summable n joining leaving) where
+  pub along-start : Along n joining leaving joining 0 0
+  along-start = record { within = omega arith; present = record { places = w .places; values = λ j l. absurd (omega arith); others = λ j l. refl }; now-here = omega arith }
+
+  module _ (payers : List ℕ) {here i : ℕ} (s : Along n joining leaving payers here i) where
+    module _ (h : i < n) where
+      pub along-inside : i < payerPlaces
+      along-inside = omega (arith, w .few)
+
+      joined-here : getD payers i 0 ≡ getD joining i 0
+      joined-here = s .present .others i (omega arith)
+
+      pub along-fits : here + getD payers i 0 < 65536
+      along-fits = omega (arith, s .now-here, joined-here, w .small i (omega arith), w .joined i h)
+
+      next-sums : (sumBefore joining (i + 1) ≡ getD joining i 0 + sumBefore joining i) × (sumBefore leaving (i + 1) ≡ getD leaving i 0 + sumBefore leaving i)
+      next-sums = (rw (add-one i), rw (add-one i))
+
+      pub along-left : getD leaving i 0 ≤ here + getD payers i 0
+      along-left = let (a, b) = next-sums in omega (arith, s .now-here, joined-here, w .left i (omega arith), w .left (i + 1) (omega arith))
+
+      pub along-more : Along n joining leaving (set payers i (here + getD payers i 0 - getD leaving i 0)) (here + getD payers i 0 - getD leaving i 0) (i + 1)
+      along-more =
+          record {
+            within = omega arith;
+            present = record {
+              places = length-set payers i (here + getD payers i 0 - getD leaving i 0) ∙ s .present .places;
+              values = λ j l. value j l (ℕ-discrete j i);
+              others = λ j l. getD-set-other payers i j (here + getD payers i 0 - getD leaving i 0) 0 (omega arith) ∙ s .present .others j (omega arith);
+            };
+            now-here = now-next;
+          }
+        where
+          now-next : here + getD payers i 0 - getD leaving i 0 ≡ payersPresent joining leaving (i + 1)
+          now-next = let (a, b) = next-sums in omega (arith, s .now-here, joined-here, w .left i (omega arith))
+
+          value : (j : ℕ) → j < i + 1 → Dec (j ≡ i) → getD (set payers i (here + getD payers i 0 - getD leaving i 0)) j 0 ≡ payersPresent joining leaving (j + 1)
+          value j l (yes q) = rw q (getD-set-same payers i (here + getD payers i 0 - getD leaving i 0) 0 (omega (arith, s .present .places, w .few)) ∙ now-next)
+          value j l (no q) = getD-set-other payers i j (here + getD payers i 0 - getD leaving i 0) 0 q ∙ s .present .values j (omega arith)
+
+    pub along-done : n ≤ i → Present joining leaving payers n
+    along-done h = let q : i ≡ n = omega (arith, s .within) in rw q at (s .present)
+
+pub ruleset along-cases = (along-start, along-inside, along-fits, along-left, along-more, along-done)

@@ -1,0 +1,32 @@
+-- Invariant: the turns of the set before t are counted, and t is the next of them, or no turn. Measure: the bits left.
+use borrow.Author.Needs.{needs}
+use Rattle.shift_moves.proofs.PayerCases.{TimesTo, times-cases}
+use Prim.Native.Nat.{_-_, _*_}
+use lib.ListN.{length}
+use Rattle.shift_moves.proofs.count_numbers.Statement.{statement}
+use Rattle.shift_moves.proofs.count_numbers.Tie as tie
+
+abbrev Inv-loop : tie.InvT-loop
+Inv-loop n relaxed numbers at times₀ t₀ times t = TimesTo n relaxed numbers at times t
+
+abbrev μ-loop : tie.MeasureT-loop
+μ-loop n relaxed numbers at times₀ t₀ times t = 8 * length relaxed - t
+
+pub count-numbers-spec : {M : Type 1} → statement M
+count-numbers-spec =
+    tie.close
+    (tie.spec
+    Inv-loop
+    μ-loop
+    (λ c κs. search (needs, times-cases))
+    (λ c. search (needs, times-cases))
+    (λ c. search (needs, times-cases))
+    (λ c. search (needs, times-cases))
+    (λ c. search (needs, times-cases))
+    (λ c κs. search (needs, times-cases))
+    (λ c κs. search (needs, times-cases))
+    (λ c. search (needs, times-cases))
+    (λ c κs. search (needs, times-cases))
+    (λ c. search (needs, times-cases))
+    (λ c. search (needs, times-cases))
+    (λ c. search (needs, times-cases)))

@@ -1,0 +1,116 @@
+-- How the functions count who pays and move prices; for inner functions only (request P-2). Assumes nothing.
+use mathlib.Core.Path.{_≡_}
+use mathlib.Core.Logic.{_≢_}
+use mathlib.Core.Bool.{Bool, cond, _&&_}
+use mathlib.Core.List.{List}
+use Prim.Native.Nat.{ℕ, _+_, _-_, _≤_, _<_}
+use lib.Dec.{ltb, leb, eqb}
+use lib.ListN.{length, getD}
+use Rattle.lists.specs.Lists.{sum, below}
+use Rattle.lists.specs.Counting.{sumBefore}
+use Rattle.model.specs.Choice.{chosen}
+use Rattle.sheet.specs.Kind.{mostTurns}
+use Rattle.choice_map.specs.Choice.{chosenIn, choiceIn}
+use Rattle.prices.specs.declared.Extent.{Extent}
+use Rattle.prices.specs.Held.{turnsIn, orderPlaces, driverPlace, paidFrom, paidTo}
+use Rattle.refine_spec.specs.Shift.{slopePayers, movedPrice}
+
+-- a place for each number from 0 to the most turns
+abbrev pub payerPlaces : ℕ
+payerPlaces = mostTurns + 1
+
+-- number t of a list, counted from a place on
+abbrev pub numberBehind : List ℕ → ℕ → ℕ → ℕ
+numberBehind numbers at t = getD numbers (at + t) 0
+
+-- how many turns of a set have number k
+unfoldable pub timesChosen : ℕ → List Bool → (ℕ → ℕ) → ℕ → ℕ
+timesChosen n S f k = chosen n S (λ t. cond (eqb (f t) k) 1 0)
+
+-- how many of the first m turns that a map has chosen have it
+unfoldable pub timesBefore : List ℕ → (ℕ → ℕ) → ℕ → ℕ → ℕ
+timesBefore map f m k = sum (λ t. cond (chosenIn map t) (cond (eqb (f t) k) 1 0) 0) (below m)
+
+-- how many turns of a set pay for the place of the drivers' order before place m: their runs start before m and do not end before it
+unfoldable pub payersBefore : ℕ → List Bool → List ℕ → ℕ → ℕ
+payersBefore n S orders m = chosen n S (λ t. cond (ltb (paidFrom orders t) m && leb m (paidTo orders t)) 1 0)
+
+-- those that joined before place m, less those that left before it
+abbrev pub payersPresent : List ℕ → List ℕ → ℕ → ℕ
+payersPresent joining leaving m = sumBefore joining m - sumBefore leaving m
+
+-- the payers at a place of a table, and those at the place behind it
+abbrev pub payersAt : List ℕ → ℕ → ℕ
+payersAt payers j = getD payers j 0
+
+abbrev pub payersAfter : List ℕ → ℕ → ℕ
+payersAfter payers k = getD payers (k + 1) 0
+
+-- how many turns that a map has chosen pay the price at place k of the slopes' prices, which is that of slope k + 1
+abbrev pub slopePayersIn : Extent → List ℕ → List ℕ → ℕ → ℕ
+slopePayersIn e cols map k = slopePayers (turnsIn e cols) (choiceIn (e .size .count) map) (k + 1)
+
+-- and how many pay for place j of the drivers' order
+abbrev pub turnPayersIn : Extent → List ℕ → List ℕ → ℕ → ℕ
+turnPayersIn e orders map j = payersBefore (e .size .count) (choiceIn (e .size .count) map) orders (j + 1)
+
+-- a slope's price stands where it is counted
+abbrev pub ownPlace : ℕ → ℕ
+ownPlace k = k
+
+-- where the price of the turn at place j of the drivers' order stands, behind those of so many slopes
+abbrev pub turnPlace : ℕ → List ℕ → ℕ → ℕ
+turnPlace slopes orders j = slopes + driverPlace orders j
+
+-- ---- as statements
+
+-- n numbers from a place on, each with a place in a table of payers
+pub record SmallNumbers (n : ℕ) (numbers : List ℕ) (at : ℕ) : Type 0 where
+  pub few : n ≤ mostTurns
+  pub within : at + n ≤ length numbers
+  pub small : (t : ℕ) → t < n → numberBehind numbers at t ≤ mostTurns
+
+-- for each number, how many turns of a set have it
+pub record Times (n : ℕ) (S : List Bool) (f : ℕ → ℕ) (times : List ℕ) : Type 0 where
+  pub places : length times ≡ payerPlaces
+  pub values : (k : ℕ) → k ≤ mostTurns → getD times k 0 ≡ timesChosen n S f k
+
+-- what n turns pay for in the drivers' order: each for the places of one run
+pub record PaidRuns (n : ℕ) (orders : List ℕ) : Type 0 where
+  pub places : length orders ≡ orderPlaces
+  pub few : n ≤ mostTurns
+  pub rising : (t : ℕ) → t < n → paidFrom orders t ≤ paidTo orders t
+  pub within : (t : ℕ) → t < n → paidTo orders t ≤ n
+
+-- payers that join and leave, in numbers that can be summed up
+pub record Summable (n : ℕ) (joining leaving : List ℕ) : Type 0 where
+  pub few : n ≤ mostTurns
+  pub places : length joining ≡ payerPlaces
+  pub left : (m : ℕ) → m ≤ n → sumBefore leaving m ≤ sumBefore joining m
+  pub small : (m : ℕ) → m ≤ n → payersPresent joining leaving m ≤ mostTurns
+  pub joined : (m : ℕ) → m < n → getD joining m 0 ≤ mostTurns
+
+-- at the first i places stand the payers of each, at the others who joins there
+pub record Present (joining leaving payers : List ℕ) (i : ℕ) : Type 0 where
+  pub places : length payers ≡ payerPlaces
+  pub values : (j : ℕ) → j < i → getD payers j 0 ≡ payersPresent joining leaving (j + 1)
+  pub others : (j : ℕ) → i ≤ j → getD payers j 0 ≡ getD joining j 0
+
+-- the payers of the first n places of the drivers' order
+pub record Payers (n : ℕ) (S : List Bool) (orders payers : List ℕ) : Type 0 where
+  pub values : (j : ℕ) → j < n → getD payers j 0 ≡ payersBefore n S orders (j + 1)
+
+-- no more payers at the first n places than there can be turns
+unfoldable pub FewPayers : ℕ → List ℕ → Type 0
+FewPayers n payers = (k : ℕ) → k < n → getD payers k 0 ≤ mostTurns
+
+-- the drivers' order has n turns, each at one place
+pub record EachOnce (n : ℕ) (orders : List ℕ) : Type 0 where
+  pub inside : (j : ℕ) → j < n → driverPlace orders j < n
+  pub apart : (i j : ℕ) → i < j → j < n → driverPlace orders i ≢ driverPlace orders j
+
+-- the prices at some n places are moved, each by its own payers, and all others are as before
+pub record MovedBy (change : ℕ) (payers place : ℕ → ℕ) (n : ℕ) (old new : List ℕ) : Type 0 where
+  pub size : length new ≡ length old
+  pub done : (i : ℕ) → i < n → getD new (place i) 0 ≡ movedPrice change (payers i) (getD old (place i) 0)
+  pub others : (x : ℕ) → ((i : ℕ) → i < n → place i ≢ x) → getD new x 0 ≡ getD old x 0

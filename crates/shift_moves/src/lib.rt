@@ -1,0 +1,222 @@
+// How a round moves the prices of a shift: each by how many turns of the relaxed set pay it. The payers of a
+// slope are the turns with its number. A turn pays for a run of places in the drivers' order: it is counted
+// where the run starts and where it ends, and sums along the order give the payers at each place.
+ghost use mathlib.Core.Path.{_≡_};
+ghost use mathlib.Core.Bool.{cond};
+ghost use Prim.Native.Nat.{_+_, _-_, _≤_, _<_, max, min};
+ghost use lib.Dec.{ltb};
+ghost use lib.ListN.{length, getD, set, replicate};
+ghost use Rattle.turn.specs.Turn.{mostWorth};
+ghost use Rattle.sheet.specs.Kind.{mostTurns, mostSlopes};
+ghost use Rattle.choice_map.specs.Choice.{choiceIn, Clean};
+ghost use Rattle.prices.specs.Held.{mostPrice, turnsIn, Ordered, Priced};
+ghost use Rattle.refine_spec.specs.Shift.{highestPrice, movedPrice, turnChange, movedPrices};
+ghost use Rattle.shift_moves.specs.Moves.{payerPlaces, numberBehind, payersAt, payersAfter, slopePayersIn, turnPayersIn, ownPlace, turnPlace};
+ghost use Rattle.shift_moves.specs.Moves.{SmallNumbers, Times, PaidRuns, Summable, Present, Payers, FewPayers, EachOnce, MovedBy};
+use instance::MOST_TURNS;
+use instance::PLACES;
+use prices::DRIVERS;
+use prices::Extent;
+use prices::FROMS;
+use prices::ORDERS;
+use prices::TOS;
+
+// The greatest number that a price list can hold.
+const MOST_PRICE: u32 = 65535;
+
+// No round raises a price above this.
+const HIGHEST_PRICE: u32 = 60000;
+
+// A place for each number from 0 to the most turns.
+const PAYERS: usize = MOST_TURNS + 1;
+
+fn wide(x: u16) -> u32
+    ensures { λ r. ⌜ (r ≡ x) × (r ≤ mostPrice) ⌝ }
+{
+    x as u32
+}
+
+fn as_place(x: u16) -> usize
+    ensures { λ r. ⌜ r ≡ x ⌝ }
+{
+    x as usize
+}
+
+fn greater(x: u32, y: u32) -> u32
+    ensures { λ r. ⌜ r ≡ max x y ⌝ }
+{
+    if x < y { y } else { x }
+}
+
+fn smaller(x: u32, y: u32) -> u32
+    ensures { λ r. ⌜ r ≡ min x y ⌝ }
+{
+    if x < y { x } else { y }
+}
+
+// What is left of x, not below 0.
+fn left_after(x: u32, y: u32) -> u32
+    ensures { λ r. ⌜ r ≡ x - y ⌝ }
+{
+    if x < y { 0 } else { x - y }
+}
+
+// The change of a turn's price.
+fn turn_change(c: u32) -> u32
+    requires { ⌜ c ≤ mostWorth ⌝ }
+    ensures { λ r. ⌜ (r ≡ turnChange c) × (r ≤ mostWorth) ⌝ }
+{
+    greater(1, c / 2)
+}
+
+// The highest price after a round. A price with two payers or more rises, to 60,000 at most; any other does not
+// rise, and may stand above that.
+fn most_price(payers: u16) -> u32
+    ensures { λ r. ⌜ (r ≡ cond (ltb payers 2) mostPrice highestPrice) × (r ≤ mostPrice) ⌝ }
+{
+    if payers < 2 {
+        MOST_PRICE
+    } else {
+        HIGHEST_PRICE
+    }
+}
+
+// A price that so many pay, after a round. It rises by the change for each payer, and falls by it once: so with
+// one payer it stays.
+fn moved_price(change: u32, payers: u16, price: u16) -> u16
+    requires { ⌜ (change ≤ mostWorth) × (payers ≤ mostTurns) ⌝ }
+    ensures { λ r. ⌜ r ≡ movedPrice change payers price ⌝ }
+{
+    let raised = wide(price) + wide(payers) * change;
+    smaller(left_after(raised, change), most_price(payers)) as u16
+}
+
+// Moves the price at place i.
+fn move_price(change: u32, payers: u16, prices: &mut [u16], i: usize)
+    requires { ⌜ (change ≤ mostWorth) × (payers ≤ mostTurns) × (i < length (now prices)) ⌝ }
+    ensures { λ _. ⌜ now (prices .exit) ≡ set (now (prices .entry)) i (movedPrice change payers (getD (now (prices .entry)) i 0)) ⌝ }
+{
+    let price = prices[i];
+    prices[i] = moved_price(change, payers, price);
+}
+
+// One payer more at place k.
+fn add_payer(payers: &mut [u16; PAYERS], k: usize)
+    requires { ⌜ (k ≤ mostTurns) × (getD (now payers) k 0 < mostTurns) ⌝ }
+    ensures { λ _. ⌜ now (payers .exit) ≡ set (now (payers .entry)) k (getD (now (payers .entry)) k 0 + 1) ⌝ }
+{
+    let x = payers[k];
+    payers[k] = x + 1;
+}
+
+// For each number, how many turns of the relaxed set have it in the column that starts at a place.
+fn count_numbers(n: usize, relaxed: &[u8], numbers: &[u16], at: usize, times: &mut [u16; PAYERS])
+    requires { ⌜ Clean n (now relaxed) × SmallNumbers n (now numbers) at × (now times ≡ replicate payerPlaces 0) ⌝ }
+    ensures { λ _. ⌜ Times n (choiceIn n (now (relaxed .entry))) (numberBehind (now (numbers .entry)) at) (now (times .exit)) ⌝ }
+{
+    let mut t = choice_map::next_chosen(relaxed, 0);
+    while t < n {
+        let k = as_place(numbers[at + t]);
+        add_payer(&mut *times, k);
+        t = choice_map::next_chosen(relaxed, t + 1);
+    }
+}
+
+// The payers at each place, from those that join and those that leave there.
+fn sum_payers(n: usize, payers: &mut [u16; PAYERS], leaving: &[u16; PAYERS])
+    requires { ⌜ Summable n (now payers) (now leaving) ⌝ }
+    ensures { λ _. ⌜ Present (now (payers .entry)) (now (leaving .entry)) (now (payers .exit)) n ⌝ }
+{
+    let mut here: u16 = 0;
+    let mut j = 0;
+    while j < n {
+        let met = here + payers[j];
+        here = met - leaving[j];
+        payers[j] = here;
+        j += 1;
+    }
+}
+
+// The payers of the turn at each place of the drivers' order.
+fn count_payers(n: usize, orders: &[u16; ORDERS], relaxed: &[u8], payers: &mut [u16; PAYERS])
+    requires { ⌜ Clean n (now relaxed) × PaidRuns n (now orders) × (now payers ≡ replicate payerPlaces 0) ⌝ }
+    ensures { λ _. ⌜ Payers n (choiceIn n (now (relaxed .entry))) (now (orders .entry)) (now (payers .exit)) ⌝ }
+{
+    let all = &orders[..];
+    let mut leaving = [0u16; PAYERS];
+    count_numbers(n, relaxed, all, FROMS, &mut *payers);
+    count_numbers(n, relaxed, all, TOS, &mut leaving);
+    sum_payers(n, &mut *payers, &leaving);
+}
+
+// Moves the prices of the slopes. Place s of the payers is for slope s.
+fn move_slope_prices(slopes: usize, payers: &[u16; PAYERS], change: u32, prices: &mut [u16])
+    requires { ⌜ (slopes ≤ mostSlopes) × (slopes ≤ length (now prices)) × (change ≤ mostWorth) × FewPayers (slopes + 1) (now payers) ⌝ }
+    ensures { λ _. ⌜ MovedBy change (payersAfter (now (payers .entry))) ownPlace slopes (now (prices .entry)) (now (prices .exit)) ⌝ }
+{
+    let mut k = 0;
+    while k < slopes {
+        move_price(change, payers[k + 1], &mut *prices, k);
+        k += 1;
+    }
+}
+
+// Moves the prices of the turns, where those that pay are known by the place in the drivers' order.
+fn move_turn_prices(
+    e: Extent,
+    orders: &[u16; ORDERS],
+    payers: &[u16; PAYERS],
+    change: u32,
+    prices: &mut [u16],
+)
+    requires { ⌜ (e .slopes ≤ mostSlopes) × (e .size .count ≤ mostTurns) × (length (now prices) ≡ e .slopes + e .size .count) ⌝ }
+    requires { ⌜ EachOnce (e .size .count) (now orders) × (change ≤ mostWorth) × FewPayers (e .size .count) (now payers) ⌝ }
+    ensures { λ _. ⌜ MovedBy change (payersAt (now (payers .entry))) (turnPlace (e .slopes) (now (orders .entry))) (e .size .count)
+        (now (prices .entry)) (now (prices .exit)) ⌝ }
+{
+    let mut j = 0;
+    while j < e.size.count {
+        let at = e.slopes + as_place(orders[DRIVERS + j]);
+        move_price(change, payers[j], &mut *prices, at);
+        j += 1;
+    }
+}
+
+fn move_slopes(e: Extent, cols: &[u16; PLACES], relaxed: &[u8], change: u32, prices: &mut [u16])
+    requires { ⌜ Priced e (now cols) (now prices) × Clean (e .size .count) (now relaxed) × (change ≤ mostWorth) ⌝ }
+    ensures { λ _. ⌜ MovedBy change (slopePayersIn e (now (cols .entry)) (now (relaxed .entry))) ownPlace (e .slopes)
+        (now (prices .entry)) (now (prices .exit)) ⌝ }
+{
+    let mut payers = [0u16; PAYERS];
+    count_numbers(e.size.count, relaxed, &cols[..], 0, &mut payers);
+    move_slope_prices(e.slopes, &payers, change, &mut *prices);
+}
+
+fn move_turns(e: Extent, orders: &[u16; ORDERS], relaxed: &[u8], change: u32, prices: &mut [u16])
+    requires { ⌜ (e .slopes ≤ mostSlopes) × (length (now prices) ≡ e .slopes + e .size .count) × (change ≤ mostWorth) ⌝ }
+    requires { ⌜ Clean (e .size .count) (now relaxed) × PaidRuns (e .size .count) (now orders) × EachOnce (e .size .count) (now orders) ⌝ }
+    ensures { λ _. ⌜ MovedBy (turnChange change) (turnPayersIn e (now (orders .entry)) (now (relaxed .entry)))
+        (turnPlace (e .slopes) (now (orders .entry))) (e .size .count) (now (prices .entry)) (now (prices .exit)) ⌝ }
+{
+    let mut payers = [0u16; PAYERS];
+    count_payers(e.size.count, orders, relaxed, &mut payers);
+    move_turn_prices(e, orders, &payers, turn_change(change), &mut *prices);
+}
+
+// Moves every price by how many turns of the relaxed set pay it.
+pub fn move_prices(
+    e: Extent,
+    cols: &[u16; PLACES],
+    orders: &[u16; ORDERS],
+    relaxed: &[u8],
+    change: u32,
+    prices: &mut [u16],
+)
+    requires { ⌜ Priced e (now cols) (now prices) × Ordered (turnsIn e (now cols)) (now orders) × Clean (e .size .count) (now relaxed) ⌝ }
+    requires { ⌜ change ≤ mostWorth ⌝ }
+    ensures { λ _. ⌜ now (prices .exit) ≡ movedPrices (turnsIn e (now (cols .entry))) (e .slopes)
+        (choiceIn (e .size .count) (now (relaxed .entry))) change (now (prices .entry)) ⌝ }
+{
+    move_slopes(e, cols, relaxed, change, &mut *prices);
+    move_turns(e, orders, relaxed, change, &mut *prices);
+}

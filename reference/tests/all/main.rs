@@ -1,0 +1,22 @@
+//! Tests of the two versions, alone and side by side.
+
+mod best;
+mod boards;
+mod both;
+mod brute;
+mod cases;
+mod ceiling;
+mod charge;
+mod charge_prices;
+mod draw;
+mod drivers;
+mod driving_over;
+mod improve;
+mod keep;
+mod limit;
+mod partition;
+mod play;
+mod refine;
+mod short;
+mod ties;
+mod writing;
