@@ -29,11 +29,11 @@
  * - All working space is on the caller's stack: at most SLOPEBOARD_STACK_.. bytes, given for each function below. No
  *   function calls itself but the search of slopeboard_improve, one level deeper for each of at most 64 turns.
  * - Times, measured and not proved, in microseconds: one call on the slowest sheets known, the best of many rounds
- *   over 64 sheets (reference/bench), on one core of an x86-64 server at 2.6 GHz. slopeboard_list 152,
- *   slopeboard_charge 137, slopeboard_plan 133, slopeboard_play 86, slopeboard_check 57, slopeboard_limit 17,
- *   slopeboard_keep 12, slopeboard_assign 9.1, slopeboard_draw 8.2, slopeboard_write 5.2, slopeboard_charge_limit 4.6,
- *   slopeboard_restore 4.1, slopeboard_read 2.5, slopeboard_best 2.5; slopeboard_improve 24 for 10,000 visits;
- *   slopeboard_refine 690 and slopeboard_charge_refine 640 for 50 rounds. A slower sheet may exist.
+ *   over 64 sheets (reference/bench), on one core of an Intel Xeon server. slopeboard_list 189, slopeboard_plan 161,
+ *   slopeboard_play 103, slopeboard_check 73, slopeboard_charge 70, slopeboard_limit 21, slopeboard_keep 15,
+ *   slopeboard_assign 13, slopeboard_draw 9.0, slopeboard_charge_limit 6.7, slopeboard_best 4.8,
+ *   slopeboard_restore 4.8, slopeboard_write 4.1, slopeboard_read 2.8; slopeboard_improve 30 for 10,000 visits;
+ *   slopeboard_refine 670 and slopeboard_charge_refine 730 for 50 rounds. A slower sheet may exist.
  */
 #ifndef SLOPEBOARD_H
 #define SLOPEBOARD_H

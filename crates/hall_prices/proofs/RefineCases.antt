@@ -33,7 +33,7 @@ use Rattle.hall.proofs.Charges.{accepted, count}
 use Rattle.refine_spec.specs.Rounds.{Rule, Stage, startFrom, refined, firstChange}
 use Rattle.refine_spec.specs.Shift.{greatestWorth}
 use Rattle.price_rule.specs.declared.RuleFor.the-variants.{Hall}
-use Rattle.price_rule.specs.Rules.{sizeOf, pricesOf, changeOf, limitOf, relaxedOf, fitsOf, movedOf, choiceOf, worthOf, ruleOf, RulePosed}
+use Rattle.price_rule.specs.Rules.{sizeOf, pricesOf, changeOf, ruleLimit, relaxedOf, fitsOf, movedOf, choiceOf, ruleWorth, roundRule, RulePosed}
 use Rattle.price_rounds.specs.declared.Reached.{Reached}
 use Rattle.price_rounds.specs.Rounds.{roundsFrom, Reaches, RoundsStart}
 use Rattle.hall_price_spec.specs.declared.ChargeRefineAnswer.{ChargeRefineAnswer}
@@ -58,12 +58,12 @@ module _ (h : HallSize) (cols : List ℕ) {map : List ℕ} (m : map ≡ mapOf (h
 
   pub plan-starts : (rounds : ℕ) (list room : List ℕ) {worth : ℕ} → HallPosed h cols → worth ≡ hallWorth (hallFor h cols) → length list ≡ shiftMinutes → length room ≡ columnPlaces
       → RoundsStart (record { rule = Hall h; rounds = rounds; worth = worth }) cols list map room
-  unfolding hallWorth worthIn worthOf sizeOf pricesOf RulePosed
+  unfolding hallWorth worthIn ruleWorth sizeOf pricesOf RulePosed
   plan-starts rounds list room q w l p = record { posed = q; prices = l; clean = plan-clean; worth-is = w ∙ ap (worthIn (hallFor h cols)) (sym plan-choice); places = p }
 
   -- the rule that the functions compute is the hall's
-  rule-is : ruleOf (Hall h) cols ≡ hallRule (hallFor h cols) (h .vehicles)
-  unfolding ruleOf limitOf relaxedOf fitsOf movedOf choiceOf worthOf sizeOf hallRule worthIn
+  rule-is : roundRule (Hall h) cols ≡ hallRule (hallFor h cols) (h .vehicles)
+  unfolding roundRule ruleLimit relaxedOf fitsOf movedOf choiceOf ruleWorth sizeOf hallRule worthIn
   rule-is = refl
 
   rounds-are : (rounds : ℕ) → roundsFrom (Hall h) cols rounds (hallChoice (hallFor h cols)) ≡ hallRefined (hallFor h cols) (h .vehicles) rounds

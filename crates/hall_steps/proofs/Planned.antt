@@ -20,17 +20,17 @@ use Rattle.steps.specs.declared.stepping.Rule.the-variants.{Conflicts, Shares}
 use Rattle.steps.specs.Rule.{takesBy, nextBy, planFor, stepsFor, RuleHeld}
 use Rattle.steps.proofs.Planning.{shift-steps}
 use Rattle.hall_steps.specs.declared.among.Among.{Among}
-use Rattle.hall_steps.specs.Among.{hallAmong, kindDraw, ofKind, engineTurns, ruleOf, stepsBy}
+use Rattle.hall_steps.specs.Among.{hallAmong, kindDraw, ofKind, engineTurns, takingRule, stepsBy}
 use Rattle.hall_steps.specs.Bounds.{HallHeld}
 
 -- ---- the rule
 
-pub rule-wide : (a : Among) → a .wide ≡ true → Conflicts ≡ ruleOf a
-unfolding ruleOf
+pub rule-wide : (a : Among) → a .wide ≡ true → Conflicts ≡ takingRule a
+unfolding takingRule
 rule-wide a w = rw w
 
-pub rule-small : (a : Among) → a .wide ≡ false → Shares (a .units) ≡ ruleOf a
-unfolding ruleOf
+pub rule-small : (a : Among) → a .wide ≡ false → Shares (a .units) ≡ takingRule a
+unfolding takingRule
 rule-small a w = rw w
 
 pub ruleset rule-cases = (rule-wide, rule-small)
@@ -100,8 +100,8 @@ module _ (a : Among) (cols : List ℕ) where
 
   -- ---- either kind
 
-  kind-steps : stepsFor (ruleOf a) (engineTurns a cols) ≡ stepsBy a cols
-  unfolding ruleOf stepsBy wideSteps
+  kind-steps : stepsFor (takingRule a) (engineTurns a cols) ≡ stepsBy a cols
+  unfolding takingRule stepsBy wideSteps
   kind-steps = go (a .wide) refl
     where
       go : (b : Bool) → a .wide ≡ b → stepsFor (cond b Conflicts (Shares (a .units))) (engineTurns a cols) ≡ cond b (steps (turnsAmong H (isWide H))) (smallSteps H)
@@ -120,9 +120,9 @@ module _ (a : Among) (cols : List ℕ) where
       given : (x o : Bool) → x ≡ false → o ≡ isSmall H t → 2 * cond (not x) (cond o (draw H t) 0) 0 ≤ a .units
       given x o e f = rw (e, f) (go (isSmall H t) refl)
 
-  module _ {r : Rule} (k : r ≡ ruleOf a) (own : List ℕ) (e : turnsBy (a .size) own ≡ engineTurns a cols) where
+  module _ {r : Rule} (k : r ≡ takingRule a) (own : List ℕ) (e : turnsBy (a .size) own ≡ engineTurns a cols) where
     pub among-rule : HallHeld (a .units) (a .size) cols → RuleHeld r (a .size) own
-    unfolding RuleHeld ruleOf
+    unfolding RuleHeld takingRule
     among-rule held = rw k (go (a .wide) refl)
       where
         go : (b : Bool) → a .wide ≡ b → RuleHeld (cond b Conflicts (Shares (a .units))) (a .size) own

@@ -46,8 +46,8 @@ engineTurns a cols =
     }
 
 -- the rule by which steps take
-unfoldable pub ruleOf : Among → Rule
-ruleOf a = cond (a .wide) Conflicts (Shares (a .units))
+unfoldable pub takingRule : Among → Rule
+takingRule a = cond (a .wide) Conflicts (Shares (a .units))
 
 -- the steps of that kind
 unfoldable pub stepsBy : Among → List ℕ → List Step

@@ -4,7 +4,7 @@ ghost use Prim.Native.Nat.{_*_, _≤_};
 ghost use lib.ListN.{length};
 ghost use Rattle.wire.specs.Number.{puts};
 ghost use Rattle.board.specs.Board.{stepSize, stepBytes};
-ghost use Rattle.hall_steps.specs.Among.{ruleOf, stepsBy};
+ghost use Rattle.hall_steps.specs.Among.{takingRule, stepsBy};
 ghost use Rattle.hall_steps.specs.Bounds.{HallHeld};
 use super::among::Among;
 use super::among::put_among;
@@ -14,7 +14,7 @@ use steps::plan_by;
 
 // The rule by which a step takes from windows of the kind.
 fn rule_of(a: Among) -> Rule
-    ensures { λ r. ⌜ r ≡ ruleOf a ⌝ }
+    ensures { λ r. ⌜ r ≡ takingRule a ⌝ }
 {
     if a.wide {
         return Rule::Conflicts;

@@ -26,7 +26,7 @@ use Rattle.hall_look.specs.declared.HallSize.{HallSize}
 use Rattle.hall_look.specs.Look.{hallFor, HallPosed}
 use Rattle.price_rule.specs.declared.RuleFor.{RuleFor}
 use Rattle.price_rule.specs.declared.RuleFor.the-variants.{Shift, Hall}
-use Rattle.price_rule.specs.Rules.{pricesOf, limitOf, RulePosed}
+use Rattle.price_rule.specs.Rules.{pricesOf, ruleLimit, RulePosed}
 
 sum-most : (f : ℕ → ℕ) (most n : ℕ) → ((k : ℕ) → k < n → f k ≤ most) → sum f (below n) ≤ n * most
 sum-most f most zero h = omega arith
@@ -88,8 +88,8 @@ module _ (h : HallSize) (cols : List ℕ) (q : HallPosed h cols) where
 
 -- ---- either
 
-pub first-limit : (r : RuleFor) (cols : List ℕ) → RulePosed r cols → limitOf r cols (replicate (pricesOf r) 0) < 4294967295
-unfolding RulePosed limitOf pricesOf
+pub first-limit : (r : RuleFor) (cols : List ℕ) → RulePosed r cols → ruleLimit r cols (replicate (pricesOf r) 0) < 4294967295
+unfolding RulePosed ruleLimit pricesOf
 first-limit (Shift e) cols w =
     shift-limit (turnsIn e cols) (e .slopes) (e .slopes + e .size .count) (omega (arith, count-is (e .size) cols, w .held .few)) (λ u l. w .held .worths u (omega (arith, count-is (e .size) cols)))
 first-limit (Hall h) cols w = hall-limit h cols w

@@ -24,7 +24,7 @@ use Rattle.round_parts.proofs.RankCases.{all-copied, keys-room, keys-given}
 use Rattle.hall_price_spec.specs.Hall.{movedMinutes}
 use Rattle.price_rule.specs.declared.RuleFor.{RuleFor}
 use Rattle.price_rule.specs.declared.RuleFor.the-variants.{Shift, Hall}
-use Rattle.price_rule.specs.Rules.{sizeOf, pricesOf, changeOf, limitOf, relaxedOf, movedOf, choiceOf, worthOf, ruleOf, RulePosed}
+use Rattle.price_rule.specs.Rules.{sizeOf, pricesOf, changeOf, ruleLimit, relaxedOf, movedOf, choiceOf, ruleWorth, roundRule, RulePosed}
 use Rattle.price_rule.proofs.RuleCases.{rule-held}
 use Rattle.price_rounds.specs.declared.Task.{Task}
 use Rattle.price_rounds.specs.declared.Reached.{Reached}
@@ -33,14 +33,14 @@ use Rattle.price_rounds.proofs.FirstLook.{first-limit}
 
 -- ---- the better of two choices
 
-module _ (r : RuleFor) (cols : List ℕ) (relaxed : List Bool) (best map : List ℕ) (worth : ℕ) {found : ℕ} (m : choiceIn (sizeOf r .count) map ≡ choiceOf r cols relaxed) (f : found ≡ worthOf r cols (choiceOf r cols relaxed)) where
+module _ (r : RuleFor) (cols : List ℕ) (relaxed : List Bool) (best map : List ℕ) (worth : ℕ) {found : ℕ} (m : choiceIn (sizeOf r .count) map ≡ choiceOf r cols relaxed) (f : found ≡ ruleWorth r cols (choiceOf r cols relaxed)) where
   pub better-none : found ≤ worth → BetterKept r cols relaxed (choiceIn (sizeOf r .count) best) worth (choiceIn (sizeOf r .count) best) worth
-  better-none h = let n : ltb worth (worthOf r cols (choiceOf r cols relaxed)) ≡ false = le-ltb worth (worthOf r cols (choiceOf r cols relaxed)) (omega (arith, f)) in record { choice-is = rw n; worth-is = rw n }
+  better-none h = let n : ltb worth (ruleWorth r cols (choiceOf r cols relaxed)) ≡ false = le-ltb worth (ruleWorth r cols (choiceOf r cols relaxed)) (omega (arith, f)) in record { choice-is = rw n; worth-is = rw n }
 
   pub better-put : {best′ : List ℕ} → Clean (sizeOf r .count) best → Clean (sizeOf r .count) map → best′ ≡ puts best 0 map → worth < found
       → BetterKept r cols relaxed (choiceIn (sizeOf r .count) best) worth (choiceIn (sizeOf r .count) best′) found
   better-put c d e h =
-      let n : ltb worth (worthOf r cols (choiceOf r cols relaxed)) ≡ true = lt-ltb worth (worthOf r cols (choiceOf r cols relaxed)) (omega (arith, f)) in
+      let n : ltb worth (ruleWorth r cols (choiceOf r cols relaxed)) ≡ true = lt-ltb worth (ruleWorth r cols (choiceOf r cols relaxed)) (omega (arith, f)) in
       record { choice-is = rw n (ap (choiceIn (sizeOf r .count)) (all-copied best map (d .size ∙ sym (c .size)) e) ∙ m); worth-is = rw n f }
 
 pub better-clean : {n : ℕ} {best map best′ : List ℕ} → Clean n best → Clean n map → best′ ≡ puts best 0 map → Clean n best′
@@ -101,9 +101,9 @@ module _ (t : Task) (cols list map room : List ℕ) (h : RoundsStart t cols list
 
   pub start-under : {change : ℕ} → (change ≡ changeOf (t .rule) cols) × (change ≤ mostWorth)
       → BetweenLooks (t .rule) cols map (t .rounds) (take (length list) (replicate mostPrices 0)) change 0 4294967295 list map (t .worth)
-  unfolding roundsFrom ruleOf
+  unfolding roundsFrom roundRule
   start-under (c, small) =
-      let R = ruleOf (t .rule) cols in
+      let R = roundRule (t .rule) cols in
       let z = zeros (t .rule) cols list (h .posed) (h .prices) in
       let all : t .rounds - 0 ≡ t .rounds = omega arith in
       record {
@@ -128,11 +128,11 @@ moved-size (Shift e) cols relaxed change prices = moved-length (turnsIn e cols) 
 moved-size (Hall h) cols relaxed change prices = tab-length shiftMinutes _
 
 module _ (r : RuleFor) (cols first : List ℕ) (rounds : ℕ) (prices : List ℕ) (change made limit : ℕ) (list best : List ℕ) (worth : ℕ) (u : BetweenLooks r cols first rounds prices change made limit list best worth)
-    (relaxed best′ : List ℕ) {seen limit′ worth′ : ℕ} {list′ : List ℕ} (s : seen ≡ limitOf r cols prices) (q : choiceIn (sizeOf r .count) relaxed ≡ relaxedOf r cols prices)
+    (relaxed best′ : List ℕ) {seen limit′ worth′ : ℕ} {list′ : List ℕ} (s : seen ≡ ruleLimit r cols prices) (q : choiceIn (sizeOf r .count) relaxed ≡ relaxedOf r cols prices)
     (l : limit′ ≡ cond (ltb seen limit) seen limit) (k : list′ ≡ cond (ltb seen limit) prices list)
     (b : BetterKept r cols (choiceIn (sizeOf r .count) relaxed) (choiceIn (sizeOf r .count) best) worth (choiceIn (sizeOf r .count) best′) worth′) where
   abbrev R : Rule
-  R = ruleOf r cols
+  R = roundRule r cols
 
   abbrev whole : Stage
   whole = roundsFrom r cols rounds (choiceIn (sizeOf r .count) first)
@@ -144,7 +144,7 @@ module _ (r : RuleFor) (cols first : List ℕ) (rounds : ℕ) (prices : List ℕ
   y = stageOf (sizeOf r .count) prices change made limit′ list′ best′ worth′
 
   look-is : looked R x ≡ y
-  unfolding looked lowerLimit betterChoice ruleOf
+  unfolding looked lowerLimit betterChoice roundRule
   look-is = sym (rw (l, k, b .choice-is, b .worth-is, s, q))
 
   module _ {over : Bool} (o : over ≡ (eqb limit′ worth′ || eqb made rounds)) where
@@ -167,7 +167,7 @@ module _ (r : RuleFor) (cols first : List ℕ) (rounds : ℕ) (prices : List ℕ
 
       pub round-goes : {prices′ : List ℕ} {change′ : ℕ} → Clean (sizeOf r .count) best′ → prices′ ≡ movedOf r cols (choiceIn (sizeOf r .count) relaxed) change prices
           → (change′ ≡ nextChange change) × (change′ ≤ mostWorth) → BetweenLooks r cols first rounds prices′ change′ (made + 1) limit′ list′ best′ worth′
-      unfolding moving ruleOf
+      unfolding moving roundRule
       round-goes {prices′} {change′} c p (d, small) =
           let m : moving R y ≡ stageOf (sizeOf r .count) prices′ change′ (made + 1) limit′ list′ best′ worth′ = sym (rw (p, d, q)) in
           record {

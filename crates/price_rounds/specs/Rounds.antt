@@ -14,7 +14,7 @@ use Rattle.prices.specs.declared.Extent.{Extent}
 use Rattle.hall_look.specs.declared.HallSize.{HallSize}
 use Rattle.price_rule.specs.declared.RuleFor.{RuleFor}
 use Rattle.price_rule.specs.declared.RuleFor.the-variants.{Shift, Hall}
-use Rattle.price_rule.specs.Rules.{sizeOf, pricesOf, changeOf, choiceOf, worthOf, ruleOf, RulePosed, Tabled, RunsFor}
+use Rattle.price_rule.specs.Rules.{sizeOf, pricesOf, changeOf, choiceOf, ruleWorth, roundRule, RulePosed, Tabled, RunsFor}
 use Rattle.price_rounds.specs.declared.Start.{Start}
 use Rattle.price_rounds.specs.declared.Task.{Task}
 use Rattle.price_rounds.specs.declared.Reached.{Reached}
@@ -28,7 +28,7 @@ hallTask h s = record { rule = Hall h; rounds = s .rounds; worth = s .worth }
 
 -- at most so many rounds by a rule, from prices of 0 and some choice
 unfoldable pub roundsFrom : RuleFor → List ℕ → ℕ → List Bool → Stage
-roundsFrom r cols rounds S = refined (ruleOf r cols) rounds (startFrom (ruleOf r cols) (changeOf r cols) (replicate (pricesOf r) 0) S)
+roundsFrom r cols rounds S = refined (roundRule r cols) rounds (startFrom (roundRule r cols) (changeOf r cols) (replicate (pricesOf r) 0) S)
 
 -- a stage of which the choice stands in a map of n turns
 abbrev pub stageOf : ℕ → List ℕ → ℕ → ℕ → ℕ → List ℕ → List ℕ → ℕ → Stage
@@ -39,8 +39,8 @@ stageOf n prices change made limit list map worth =
 
 -- the choice made from a relaxed set stands in the place of another just if it is worth more, and the worth is that of the one that stands
 pub record BetterKept (r : RuleFor) (cols : List ℕ) (relaxed S : List Bool) (worth : ℕ) (S′ : List Bool) (worth′ : ℕ) : Type 0 where
-  pub choice-is : S′ ≡ cond (ltb worth (worthOf r cols (choiceOf r cols relaxed))) (choiceOf r cols relaxed) S
-  pub worth-is : worth′ ≡ cond (ltb worth (worthOf r cols (choiceOf r cols relaxed))) (worthOf r cols (choiceOf r cols relaxed)) worth
+  pub choice-is : S′ ≡ cond (ltb worth (ruleWorth r cols (choiceOf r cols relaxed))) (choiceOf r cols relaxed) S
+  pub worth-is : worth′ ≡ cond (ltb worth (ruleWorth r cols (choiceOf r cols relaxed))) (ruleWorth r cols (choiceOf r cols relaxed)) worth
 
 -- what the rounds came to: limit, worth and rounds as numbers, the price list, and the choice in a map of n turns
 pub record Reaches (n : ℕ) (x : Stage) (r : Reached) (list map : List ℕ) : Type 0 where
@@ -56,7 +56,7 @@ pub record RoundsStart (t : Task) (cols list map room : List ℕ) : Type 0 where
   pub posed : RulePosed (t .rule) cols
   pub prices : length list ≡ pricesOf (t .rule)
   pub clean : Clean (sizeOf (t .rule) .count) map
-  pub worth-is : t .worth ≡ worthOf (t .rule) cols (choiceIn (sizeOf (t .rule) .count) map)
+  pub worth-is : t .worth ≡ ruleWorth (t .rule) cols (choiceIn (sizeOf (t .rule) .count) map)
   pub places : length room ≡ columnPlaces
 
 -- what they came to from there
@@ -71,11 +71,11 @@ pub record BetweenLooks (r : RuleFor) (cols first : List ℕ) (rounds : ℕ) (pr
   pub prices-are : length prices ≡ pricesOf r
   pub list-is : length list ≡ pricesOf r
   pub clean : Clean (sizeOf r .count) best
-  pub leads : refined (ruleOf r cols) (rounds - made) (stageOf (sizeOf r .count) prices change made limit list best worth)
+  pub leads : refined (roundRule r cols) (rounds - made) (stageOf (sizeOf r .count) prices change made limit list best worth)
       ≡ roundsFrom r cols rounds (choiceIn (sizeOf r .count) first)
 
 -- the loop at such a place: what no round changes is there, and lent places keep their lengths
-pub record Underway (t : Task) (cols list₀ best₀ tables ranks list best room prices : List ℕ) (change limit worth made : ℕ) : Type 0 where
+pub record RoundsUnderway (t : Task) (cols list₀ best₀ tables ranks list best room prices : List ℕ) (change limit worth made : ℕ) : Type 0 where
   pub posed : RulePosed (t .rule) cols
   pub tabled : Tabled (t .rule) cols tables
   pub ranked : ranks ≡ byWorth (turnsBy (sizeOf (t .rule)) cols)

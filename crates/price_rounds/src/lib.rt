@@ -55,7 +55,7 @@ pub struct Reached {
 }
 
 // The rule, and the worth of the best choice so far.
-pub struct Rated {
+pub struct BestSoFar {
     pub rule: RuleFor,
     pub worth: u32,
 }
@@ -63,7 +63,7 @@ pub struct Rated {
 // The choice made from a relaxed set takes the place of the best so far only if it is worth more; returns the
 // worth of the one that stays.
 fn keep_better(
-    b: Rated,
+    b: BestSoFar,
     cols: &[u16; PLACES],
     ranks: &[u16],
     relaxed: &[u8],
@@ -128,7 +128,7 @@ fn make_rounds(
         let relaxed = &mut map[..best.len()];
         let seen = look_at(rule, cols, &tables, &*prices, &mut *relaxed);
         limit = keep_lower(seen, limit, &*prices, &mut *list);
-        let rated = Rated {
+        let rated = BestSoFar {
             rule: rule,
             worth: worth,
         };

@@ -31,7 +31,7 @@ use Rattle.hall_look.specs.declared.HallSize.{HallSize}
 use Rattle.hall_look.specs.Look.{hallFor, HallPosed}
 use Rattle.price_rule.specs.declared.RuleFor.{RuleFor}
 use Rattle.price_rule.specs.declared.RuleFor.the-variants.{Shift, Hall}
-use Rattle.price_rule.specs.Rules.{sizeOf, pricesOf, changeOf, limitOf, relaxedOf, fitsOf, movedOf, choiceOf, worthOf, ShiftPosed, RulePosed, Tabled, RunsFor}
+use Rattle.price_rule.specs.Rules.{sizeOf, pricesOf, changeOf, ruleLimit, relaxedOf, fitsOf, movedOf, choiceOf, ruleWorth, ShiftPosed, RulePosed, Tabled, RunsFor}
 
 -- ---- for a shift
 
@@ -95,8 +95,8 @@ module _ (r : RuleFor) (e : Extent) (g : r ≡ Shift e) where
     unfolding changeOf firstChange
     shift-change q = rw (g, q)
 
-    pub shift-limit : {x : ℕ} (prices : List ℕ) → x ≡ priceSum (turnsIn e cols) (e .slopes) prices + bestWorth (countedTurns (turnsIn e cols) (e .slopes) prices) → x ≡ limitOf r cols prices
-    unfolding limitOf
+    pub shift-limit : {x : ℕ} (prices : List ℕ) → x ≡ priceSum (turnsIn e cols) (e .slopes) prices + bestWorth (countedTurns (turnsIn e cols) (e .slopes) prices) → x ≡ ruleLimit r cols prices
+    unfolding ruleLimit
     shift-limit prices q = rw g q
 
     pub shift-relaxed : (prices map : List ℕ) → choiceIn (e .size .count) map ≡ bestChoice (countedTurns (turnsIn e cols) (e .slopes) prices) → choiceIn (sizeOf r .count) map ≡ relaxedOf r cols prices
@@ -160,8 +160,8 @@ module _ (r : RuleFor) (h : HallSize) (g : r ≡ Hall h) where
     unfolding changeOf firstChange
     hall-change q = rw (g, q)
 
-    pub hall-limit : {x : ℕ} (prices : List ℕ) → x ≡ hallLimit (hallFor h cols) (h .vehicles) prices → x ≡ limitOf r cols prices
-    unfolding limitOf
+    pub hall-limit : {x : ℕ} (prices : List ℕ) → x ≡ hallLimit (hallFor h cols) (h .vehicles) prices → x ≡ ruleLimit r cols prices
+    unfolding ruleLimit
     hall-limit prices q = rw g q
 
     pub hall-relaxed : (prices map : List ℕ) → choiceIn (h .size .count) map ≡ hallRelaxed (hallFor h cols) prices → choiceIn (sizeOf r .count) map ≡ relaxedOf r cols prices
@@ -230,8 +230,8 @@ module _ (r : RuleFor) (cols : List ℕ) where
     choice-made f = list-made (sizeOf r) cols ranks e relaxed list count q (fitsOf r cols) f
 
     pub choice-worth : (map : List ℕ) {x : ℕ} → choiceIn (sizeOf r .count) map ≡ chooseEach (fitsOf r cols) (take count list) (replicate (sizeOf r .count) false)
-        → x ≡ chosenBelow (turnsBy (sizeOf r) cols) (choiceIn (sizeOf r .count) map) (sizeOf r .count) → x ≡ worthOf r cols (choiceOf r cols (choiceIn (sizeOf r .count) relaxed))
-    unfolding chosenBelow worthOf chosen
+        → x ≡ chosenBelow (turnsBy (sizeOf r) cols) (choiceIn (sizeOf r .count) map) (sizeOf r .count) → x ≡ ruleWorth r cols (choiceOf r cols (choiceIn (sizeOf r .count) relaxed))
+    unfolding chosenBelow ruleWorth chosen
     choice-worth map f h = h ∙ rw (choice-made f, count-is (sizeOf r) cols)
 
 pub ruleset from-cases = (rule-held, ranks-numbers, ranks-bits, ranks-fit, list-fits, list-numbers, list-size, choice-made, choice-worth)

@@ -41,9 +41,9 @@ changeOf (Shift e) cols = firstChange 4 (greatestWorth (turnsIn e cols))
 changeOf (Hall h) cols = firstChange 8 (greatestWorth (turnsBy (h .size) cols))
 
 -- the limit at some prices, for a shift by one table over all groomers' turns
-unfoldable pub limitOf : RuleFor → List ℕ → List ℕ → ℕ
-limitOf (Shift e) cols prices = priceSum (turnsIn e cols) (e .slopes) prices + bestWorth (countedTurns (turnsIn e cols) (e .slopes) prices)
-limitOf (Hall h) cols prices = hallLimit (hallFor h cols) (h .vehicles) prices
+unfoldable pub ruleLimit : RuleFor → List ℕ → List ℕ → ℕ
+ruleLimit (Shift e) cols prices = priceSum (turnsIn e cols) (e .slopes) prices + bestWorth (countedTurns (turnsIn e cols) (e .slopes) prices)
+ruleLimit (Hall h) cols prices = hallLimit (hallFor h cols) (h .vehicles) prices
 
 -- their relaxed set
 unfoldable pub relaxedOf : RuleFor → List ℕ → List ℕ → List Bool
@@ -65,16 +65,16 @@ unfoldable pub choiceOf : RuleFor → List ℕ → List Bool → List Bool
 choiceOf r cols relaxed = choiceFrom (fitsOf r cols) (turnsBy (sizeOf r) cols) relaxed
 
 -- what a choice is worth
-unfoldable pub worthOf : RuleFor → List ℕ → List Bool → ℕ
-worthOf r cols S = let T = turnsBy (sizeOf r) cols in chosen (T .count) S (T .worth)
+unfoldable pub ruleWorth : RuleFor → List ℕ → List Bool → ℕ
+ruleWorth r cols S = let T = turnsBy (sizeOf r) cols in chosen (T .count) S (T .worth)
 
 -- the rule
-unfoldable pub ruleOf : RuleFor → List ℕ → Rule
-ruleOf r cols =
+unfoldable pub roundRule : RuleFor → List ℕ → Rule
+roundRule r cols =
     record {
-      limit = limitOf r cols;
+      limit = ruleLimit r cols;
       choice = λ prices. choiceOf r cols (relaxedOf r cols prices);
-      worth = worthOf r cols;
+      worth = ruleWorth r cols;
       moved = λ change prices. movedOf r cols (relaxedOf r cols prices) change prices;
     }
 

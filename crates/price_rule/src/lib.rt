@@ -14,7 +14,7 @@ ghost use Rattle.hall_spec.specs.Hall.{staysAllowed};
 ghost use Rattle.hall_look.specs.Look.{hallFor, HallPosed};
 ghost use Rattle.prices.specs.Held.{orderPlaces};
 ghost use Rattle.refine_spec.specs.Selection.{byWorth};
-ghost use Rattle.price_rule.specs.Rules.{sizeOf, pricesOf, changeOf, limitOf, relaxedOf, fitsOf, choiceOf, worthOf, movedOf, RulePosed, Tabled, RunsFor};
+ghost use Rattle.price_rule.specs.Rules.{sizeOf, pricesOf, changeOf, ruleLimit, relaxedOf, fitsOf, choiceOf, ruleWorth, movedOf, RulePosed, Tabled, RunsFor};
 use hall_look::HallSize;
 use hall_steps::Among;
 use instance::PLACES;
@@ -78,7 +78,7 @@ pub fn look_at(
 ) -> u32
     requires { ⌜ RulePosed r (now cols) × Tabled r (now cols) (now tables) × (length (now prices) ≡ pricesOf r) ⌝ }
     requires { ⌜ Clean (sizeOf r .count) (now relaxed) × (choiceIn (sizeOf r .count) (now relaxed) ≡ replicate (sizeOf r .count) false) ⌝ }
-    ensures { λ x. ⌜ x ≡ limitOf r (now (cols .entry)) (now (prices .entry)) ⌝ }
+    ensures { λ x. ⌜ x ≡ ruleLimit r (now (cols .entry)) (now (prices .entry)) ⌝ }
     ensures { λ _. ⌜ Clean (sizeOf r .count) (now (relaxed .exit))
         × (choiceIn (sizeOf r .count) (now (relaxed .exit)) ≡ relaxedOf r (now (cols .entry)) (now (prices .entry))) ⌝ }
 {
@@ -142,7 +142,7 @@ pub fn choose_from(
     requires { ⌜ RulePosed r (now cols) × (now ranks ≡ byWorth (turnsBy (sizeOf r) (now cols))) × Clean (sizeOf r .count) (now relaxed) ⌝ }
     requires { ⌜ Clean (sizeOf r .count) (now map) × (choiceIn (sizeOf r .count) (now map) ≡ replicate (sizeOf r .count) false) ⌝ }
     requires { ⌜ RunsFor r (now cols) (now runs) ⌝ }
-    ensures { λ x. ⌜ x ≡ worthOf r (now (cols .entry)) (choiceOf r (now (cols .entry)) (choiceIn (sizeOf r .count) (now (relaxed .entry)))) ⌝ }
+    ensures { λ x. ⌜ x ≡ ruleWorth r (now (cols .entry)) (choiceOf r (now (cols .entry)) (choiceIn (sizeOf r .count) (now (relaxed .entry)))) ⌝ }
     ensures { λ _. ⌜ choiceIn (sizeOf r .count) (now (map .exit)) ≡ choiceOf r (now (cols .entry)) (choiceIn (sizeOf r .count) (now (relaxed .entry))) ⌝ }
     ensures { λ _. ⌜ Clean (sizeOf r .count) (now (map .exit)) ⌝ }
 {

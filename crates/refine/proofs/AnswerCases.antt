@@ -50,7 +50,7 @@ use Rattle.refine_spec.proofs.Rounds.{chosen-worth}
 use Rattle.refine_spec.proofs.Relaxed.{relaxed-counted}
 use Rattle.refine.specs.declared.planned.Planned.{Planned}
 use Rattle.price_rule.specs.declared.RuleFor.the-variants.{Shift}
-use Rattle.price_rule.specs.Rules.{sizeOf, pricesOf, changeOf, limitOf, relaxedOf, fitsOf, movedOf, choiceOf, worthOf, ruleOf, ShiftPosed, RulePosed}
+use Rattle.price_rule.specs.Rules.{sizeOf, pricesOf, changeOf, ruleLimit, relaxedOf, fitsOf, movedOf, choiceOf, ruleWorth, roundRule, ShiftPosed, RulePosed}
 use Rattle.price_rounds.specs.declared.Reached.{Reached}
 use Rattle.price_rounds.specs.Rounds.{roundsFrom, Reaches, RoundsStart}
 use Rattle.refine.specs.Stages.{shiftRounds, choiceWorth, PlannedIn}
@@ -72,8 +72,8 @@ module _ (e : Extent) (cols : List ℕ) (groomers : ℕ) (numbers : (t : ℕ) �
   unfolding countedTurns limitBy
   limit-is prices = ap (λ (n : ℕ). priceSum U (e .slopes) prices + n) (priced-best U (e .slopes) prices ∙ priced-sum U (e .slopes) prices groomers numbers)
 
-  rule-is : ruleOf (Shift e) cols ≡ shiftRule U groomers (e .slopes)
-  unfolding ruleOf limitOf relaxedOf fitsOf movedOf choiceOf worthOf sizeOf shiftRule
+  rule-is : roundRule (Shift e) cols ≡ shiftRule U groomers (e .slopes)
+  unfolding roundRule ruleLimit relaxedOf fitsOf movedOf choiceOf ruleWorth sizeOf shiftRule
   rule-is =
       λ j. record {
         limit = λ prices. limit-is prices j;
@@ -85,7 +85,7 @@ module _ (e : Extent) (cols : List ℕ) (groomers : ℕ) (numbers : (t : ℕ) �
   pub refined-is : (rounds : ℕ) → shiftRounds e cols rounds (choice (turnsIn e cols)) ≡ shiftRefined (turnsIn e cols) groomers (e .slopes) rounds
   unfolding roundsFrom changeOf pricesOf shiftRefined shiftStart
   refined-is rounds =
-      ap (λ (n : ℕ). refined (ruleOf (Shift e) cols) rounds (startFrom (ruleOf (Shift e) cols) (firstChange 4 (greatestWorth U)) (replicate (e .slopes + n) 0) (choice U))) (sym (count-is (e .size) cols))
+      ap (λ (n : ℕ). refined (roundRule (Shift e) cols) rounds (startFrom (roundRule (Shift e) cols) (firstChange 4 (greatestWorth U)) (replicate (e .slopes + n) 0) (choice U))) (sym (count-is (e .size) cols))
       ∙ ap (λ (R : Rule). refined R rounds (startFrom R (firstChange 4 (greatestWorth U)) (replicate (e .slopes + U .count) 0) (choice U))) rule-is
 
 -- ---- a board and a price list in lent places
@@ -110,7 +110,7 @@ posed-held e cols w = w .held
 module _ (e : Extent) (cols lent prices room : List ℕ) (rounds : ℕ) {plan : Planned} {board map : List ℕ} (w : ShiftPosed e cols) (u : PlannedIn (e .size) cols lent plan board map) where
   pub rounds-start : e .slopes + e .size .count ≤ length prices → length room ≡ columnPlaces
       → RoundsStart (record { rule = Shift e; rounds = rounds; worth = plan .worth }) cols (take (e .slopes + e .size .count) prices) map room
-  unfolding RulePosed pricesOf sizeOf worthOf
+  unfolding RulePosed pricesOf sizeOf ruleWorth
   rounds-start l p = record { posed = w; prices = length-take-le (e .slopes + e .size .count) prices l; clean = u .clean; worth-is = start-worth (e .size) cols lent u; places = p }
 
 -- and what they came to
@@ -135,8 +135,8 @@ module _ (e : Extent) (cols lent : List ℕ) {plan : Planned} {board map : List 
     made = ap (λ (S : List Bool). length S) (sym (reached .choice)) ∙ choice-length (e .size .count) map′ ∙ sym (count-is (e .size) cols)
 
     worth-made : r .worth ≡ choiceWorth T (x .choice)
-    unfolding roundsFrom startFrom ruleOf worthOf sizeOf
-    worth-made = reached .worth ∙ chosen-worth (ruleOf (Shift e) cols) rounds (startFrom (ruleOf (Shift e) cols) (changeOf (Shift e) cols) (replicate (pricesOf (Shift e)) 0) (choice T)) refl
+    unfolding roundsFrom startFrom roundRule ruleWorth sizeOf
+    worth-made = reached .worth ∙ chosen-worth (roundRule (Shift e) cols) rounds (startFrom (roundRule (Shift e) cols) (changeOf (Shift e) cols) (replicate (pricesOf (Shift e)) 0) (choice T)) refl
 
     map-made : map′ ≡ mapOf (x .choice)
     map-made = clean-map (e .size .count) map′ (reached .clean) ∙ ap mapOf (reached .choice)

@@ -5,7 +5,7 @@ ghost use lib.ListN.{length};
 ghost use Rattle.sheet.specs.Kind.{mostTurns};
 ghost use Rattle.instance.specs.Columns.{columnPlaces, turnsBy, Held};
 ghost use Rattle.prices.specs.Held.{paidTo, Ordered};
-ghost use Rattle.selection_by_runs.specs.Runs.{driverColumns, turnAt, endAt, withPlace, Passed, OrderFits, ColumnsTo, RunsOf};
+ghost use Rattle.selection_by_runs.specs.Runs.{driverColumns, runTurn, runEndAt, withRunPlace, NotReached, OrderFits, ColumnsTo, RunsOf};
 use super::BY_DRIVER;
 use super::BY_GROOMER;
 use super::ENDS;
@@ -39,8 +39,8 @@ fn driver_end(orders: &[u16; ORDERS], t: u16) -> u16
 
 // What stands at place k of an order.
 fn placed_at(orders: &[u16; ORDERS], at: usize, k: usize) -> Placed
-    requires { ⌜ (k < mostTurns) × (turnAt (now orders) at k < mostTurns) ⌝ }
-    ensures { λ r. ⌜ (r .turn ≡ turnAt (now (orders .entry)) at k) × (r .end ≡ endAt (now (orders .entry)) at k) ⌝ }
+    requires { ⌜ (k < mostTurns) × (runTurn (now orders) at k < mostTurns) ⌝ }
+    ensures { λ r. ⌜ (r .turn ≡ runTurn (now (orders .entry)) at k) × (r .end ≡ runEndAt (now (orders .entry)) at k) ⌝ }
 {
     if at == BY_GROOMER {
         return Placed {
@@ -56,7 +56,7 @@ fn placed_at(orders: &[u16; ORDERS], at: usize, k: usize) -> Placed
 // The first place from low on whose run comes to place k, or k itself.
 fn first_near(runs: &[u16; RUNS], at: usize, low: usize, k: usize) -> usize
     requires { ⌜ (k < mostTurns) × (low ≤ k) × (at ≤ driverColumns) ⌝ }
-    ensures { λ r. ⌜ Passed (now (runs .entry)) at low r k × (r ≤ k) ⌝ }
+    ensures { λ r. ⌜ NotReached (now (runs .entry)) at low r k × (r ≤ k) ⌝ }
 {
     let mut j = low;
     while j < k {
@@ -71,7 +71,7 @@ fn first_near(runs: &[u16; RUNS], at: usize, low: usize, k: usize) -> usize
 // The columns of an order at place k.
 fn put_place(runs: &mut [u16; RUNS], at: usize, k: usize, x: Placed, low: usize)
     requires { ⌜ (k < mostTurns) × (x .turn < mostTurns) × (low ≤ k) × (at ≤ driverColumns) × (length (now runs) ≡ columnPlaces) ⌝ }
-    ensures { λ _. ⌜ now (runs .exit) ≡ withPlace (now (runs .entry)) at k (x .turn) (x .end) low ⌝ }
+    ensures { λ _. ⌜ now (runs .exit) ≡ withRunPlace (now (runs .entry)) at k (x .turn) (x .end) low ⌝ }
 {
     let t = index(x.turn);
     runs[at + t] = k as u16;

@@ -26,7 +26,7 @@ use Rattle.price_spec.specs.Prices.{slopePrice, turnPrice}
 use Rattle.prices.specs.declared.Extent.{Extent}
 use Rattle.prices.specs.Held.{mostPrice, turnsIn, orderPlaces, driverPlace, Ordered, Priced}
 use Rattle.refine_spec.specs.Shift.{highestPrice, slopePayers, turnPayers, movedPrice, turnChange, movedPrices}
-use Rattle.shift_moves.specs.Moves.{payerPlaces, numberBehind, timesChosen, payersBefore, payersAt, payersAfter, slopePayersIn, turnPayersIn, ownPlace, turnPlace, SmallNumbers, Times, PaidRuns, Payers, FewPayers, EachOnce, MovedBy}
+use Rattle.shift_moves.specs.Moves.{payerPlaces, numberBehind, timesChosen, payersBefore, payersAt, payersAfter, slopePayersIn, turnPayersIn, ownPlace, turnPricePlace, SmallNumbers, Times, PaidRuns, Payers, FewPayers, EachOnce, MovedBy}
 use Rattle.shift_moves.proofs.DriversOrder.{turn-place, payers-are}
 use Rattle.shift_moves.proofs.PayerCases.{times-most, payers-most}
 
@@ -179,16 +179,16 @@ module _ (change : ℕ) (e : Extent) (orders payers old : List ℕ) where
   -- those of the turns at the first j places of the drivers' order are moved
   pub record TurnsMoved (new : List ℕ) (j : ℕ) : Type 0 where
     pub within : j ≤ e .size .count
-    pub moved : MovedBy change (payersAt payers) (turnPlace (e .slopes) orders) j old new
+    pub moved : MovedBy change (payersAt payers) (turnPricePlace (e .slopes) orders) j old new
 
   pub turns-start : TurnsMoved old 0
-  turns-start = record { within = omega arith; moved = moved-none change (payersAt payers) (turnPlace (e .slopes) orders) old }
+  turns-start = record { within = omega arith; moved = moved-none change (payersAt payers) (turnPricePlace (e .slopes) orders) old }
 
   module _ (new : List ℕ) {j : ℕ} (s : TurnsMoved new j) where
     pub turns-long : length new ≡ length old
     turns-long = s .moved .size
 
-    pub turns-done : e .size .count ≤ j → MovedBy change (payersAt payers) (turnPlace (e .slopes) orders) (e .size .count) old new
+    pub turns-done : e .size .count ≤ j → MovedBy change (payersAt payers) (turnPricePlace (e .slopes) orders) (e .size .count) old new
     turns-done h = let q : j ≡ e .size .count = omega (arith, s .within) in rw q at (s .moved)
 
     module _ (h : j < e .size .count) where
@@ -214,7 +214,7 @@ module _ (change : ℕ) (e : Extent) (orders payers old : List ℕ) where
           turns-more g =
               rw (g, q) (record {
                 within = omega arith;
-                moved = moved-more change (payersAt payers) (turnPlace (e .slopes) orders) old j new (omega (arith, o .inside j h)) (λ i m z. o .apart i j m h (omega arith)) (s .moved);
+                moved = moved-more change (payersAt payers) (turnPricePlace (e .slopes) orders) old j new (omega (arith, o .inside j h)) (λ i m z. o .apart i j m h (omega arith)) (s .moved);
               })
 
 pub ruleset turns-moved-cases = (turns-start, turns-long, turns-done, turns-place, turns-read, turns-few, turns-fits, turns-inside, turns-more)
@@ -224,9 +224,9 @@ module _ (e : Extent) (orders relaxed : List ℕ) (r : PaidRuns (e .size .count)
   unfolding FewPayers
   turn-few k h = omega (arith, ps .values k h, payers-most (e .size .count) (choiceIn (e .size .count) relaxed) orders (k + 1), r .few)
 
-  pub turn-moved : (change : ℕ) (old new : List ℕ) {c : ℕ} → c ≡ turnChange change → MovedBy c (payersAt payers) (turnPlace (e .slopes) orders) (e .size .count) old new
-      → MovedBy (turnChange change) (turnPayersIn e orders relaxed) (turnPlace (e .slopes) orders) (e .size .count) old new
-  turn-moved change old new q s = moved-same (turnChange change) (payersAt payers) (turnPlace (e .slopes) orders) old (turnPayersIn e orders relaxed) (e .size .count) new (ps .values) (rw q at s)
+  pub turn-moved : (change : ℕ) (old new : List ℕ) {c : ℕ} → c ≡ turnChange change → MovedBy c (payersAt payers) (turnPricePlace (e .slopes) orders) (e .size .count) old new
+      → MovedBy (turnChange change) (turnPayersIn e orders relaxed) (turnPricePlace (e .slopes) orders) (e .size .count) old new
+  turn-moved change old new q s = moved-same (turnChange change) (payersAt payers) (turnPricePlace (e .slopes) orders) old (turnPayersIn e orders relaxed) (e .size .count) new (ps .values) (rw q at s)
 
 pub turn-count : (e : Extent) (orders : List ℕ) → PaidRuns (e .size .count) orders → e .size .count ≤ mostTurns
 turn-count e orders r = r .few
@@ -261,7 +261,7 @@ module _ (T : Turns) (slopes : ℕ) (S : List Bool) (change : ℕ) (prices : Lis
 
   module _ (orders mid new : List ℕ) (o : Ordered T orders) (l : length prices ≡ slopes + T .count)
       (a : MovedBy change (λ k. slopePayers T S (k + 1)) ownPlace slopes prices mid)
-      (b : MovedBy (turnChange change) (λ j. payersBefore (T .count) S orders (j + 1)) (turnPlace slopes orders) (T .count) mid new) where
+      (b : MovedBy (turnChange change) (λ j. payersBefore (T .count) S orders (j + 1)) (turnPricePlace slopes orders) (T .count) mid new) where
     slope-is : (k : ℕ) → k < slopes → getD new k 0 ≡ movedPrice change (slopePayers T S (k + 1)) (getD prices k 0)
     slope-is k h = b .others k (λ j m e. omega arith) ∙ a .done k h
 
@@ -286,7 +286,7 @@ module _ (e : Extent) (cols orders relaxed : List ℕ) (change : ℕ) (prices : 
     pub mid-list : length mid ≡ e .slopes + e .size .count
     mid-list = a .size ∙ w .list
 
-    pub prices-moved : (new : List ℕ) → Ordered (turnsIn e cols) orders → MovedBy (turnChange change) (turnPayersIn e orders relaxed) (turnPlace (e .slopes) orders) (e .size .count) mid new
+    pub prices-moved : (new : List ℕ) → Ordered (turnsIn e cols) orders → MovedBy (turnChange change) (turnPayersIn e orders relaxed) (turnPricePlace (e .slopes) orders) (e .size .count) mid new
         → new ≡ movedPrices (turnsIn e cols) (e .slopes) (choiceIn (e .size .count) relaxed) change prices
     unfolding turnsBy
     prices-moved new o b = all-moved (turnsBy (e .size) cols) (e .slopes) (choiceIn (e .size .count) relaxed) change prices orders mid new o (w .list) a b

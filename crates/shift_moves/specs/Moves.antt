@@ -59,8 +59,8 @@ abbrev pub ownPlace : ℕ → ℕ
 ownPlace k = k
 
 -- where the price of the turn at place j of the drivers' order stands, behind those of so many slopes
-abbrev pub turnPlace : ℕ → List ℕ → ℕ → ℕ
-turnPlace slopes orders j = slopes + driverPlace orders j
+abbrev pub turnPricePlace : ℕ → List ℕ → ℕ → ℕ
+turnPricePlace slopes orders j = slopes + driverPlace orders j
 
 -- ---- as statements
 

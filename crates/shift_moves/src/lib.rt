@@ -11,7 +11,7 @@ ghost use Rattle.sheet.specs.Kind.{mostTurns, mostSlopes};
 ghost use Rattle.choice_map.specs.Choice.{choiceIn, Clean};
 ghost use Rattle.prices.specs.Held.{mostPrice, turnsIn, Ordered, Priced};
 ghost use Rattle.refine_spec.specs.Shift.{highestPrice, movedPrice, turnChange, movedPrices};
-ghost use Rattle.shift_moves.specs.Moves.{payerPlaces, numberBehind, payersAt, payersAfter, slopePayersIn, turnPayersIn, ownPlace, turnPlace};
+ghost use Rattle.shift_moves.specs.Moves.{payerPlaces, numberBehind, payersAt, payersAfter, slopePayersIn, turnPayersIn, ownPlace, turnPricePlace};
 ghost use Rattle.shift_moves.specs.Moves.{SmallNumbers, Times, PaidRuns, Summable, Present, Payers, FewPayers, EachOnce, MovedBy};
 use instance::MOST_TURNS;
 use instance::PLACES;
@@ -171,7 +171,7 @@ fn move_turn_prices(
 )
     requires { ⌜ (e .slopes ≤ mostSlopes) × (e .size .count ≤ mostTurns) × (length (now prices) ≡ e .slopes + e .size .count) ⌝ }
     requires { ⌜ EachOnce (e .size .count) (now orders) × (change ≤ mostWorth) × FewPayers (e .size .count) (now payers) ⌝ }
-    ensures { λ _. ⌜ MovedBy change (payersAt (now (payers .entry))) (turnPlace (e .slopes) (now (orders .entry))) (e .size .count)
+    ensures { λ _. ⌜ MovedBy change (payersAt (now (payers .entry))) (turnPricePlace (e .slopes) (now (orders .entry))) (e .size .count)
         (now (prices .entry)) (now (prices .exit)) ⌝ }
 {
     let mut j = 0;
@@ -196,7 +196,7 @@ fn move_turns(e: Extent, orders: &[u16; ORDERS], relaxed: &[u8], change: u32, pr
     requires { ⌜ (e .slopes ≤ mostSlopes) × (length (now prices) ≡ e .slopes + e .size .count) × (change ≤ mostWorth) ⌝ }
     requires { ⌜ Clean (e .size .count) (now relaxed) × PaidRuns (e .size .count) (now orders) × EachOnce (e .size .count) (now orders) ⌝ }
     ensures { λ _. ⌜ MovedBy (turnChange change) (turnPayersIn e (now (orders .entry)) (now (relaxed .entry)))
-        (turnPlace (e .slopes) (now (orders .entry))) (e .size .count) (now (prices .entry)) (now (prices .exit)) ⌝ }
+        (turnPricePlace (e .slopes) (now (orders .entry))) (e .size .count) (now (prices .entry)) (now (prices .exit)) ⌝ }
 {
     let mut payers = [0u16; PAYERS];
     count_payers(e.size.count, orders, relaxed, &mut payers);

@@ -4,14 +4,14 @@ use mathlib.Core.Path.{_∙_, sym}
 use native.Mathlib.Omega.{arith}
 use borrow.Author.Needs.{needs}
 use Rattle.selection.proofs.Unchosen.{zeros-size, zeros-map, zeros-none-chosen}
-use Rattle.price_rounds.specs.Rounds.{Underway}
+use Rattle.price_rounds.specs.Rounds.{RoundsUnderway}
 use Rattle.price_rounds.proofs.RoundCases.{start-cases, start-size, rule-few, map-fits, round-stops, round-left, round-goes}
 use Rattle.price_rounds.proofs.make_rounds.Statement.{statement}
 use Rattle.price_rounds.proofs.make_rounds.Tie as tie
 
 abbrev Inv-loop : tie.InvT-loop
 Inv-loop t cols list₀ best₀ room₀ rule tables ranks prices₀ change₀ limit₀ worth₀ made₀ list best room prices change limit worth made =
-    Underway t cols list₀ best₀ tables ranks list best room prices change limit worth made
+    RoundsUnderway t cols list₀ best₀ tables ranks list best room prices change limit worth made
 
 abbrev μ-loop : tie.MeasureT-loop
 μ-loop t cols list₀ best₀ room₀ rule tables ranks prices₀ change₀ limit₀ worth₀ made₀ list best room prices change limit worth made = t .rounds - made

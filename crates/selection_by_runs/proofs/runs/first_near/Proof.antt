@@ -1,13 +1,13 @@
 -- Invariant: no run from low on and before j comes to k. Measure: the places left before k.
 use Rattle.selection_by_runs.proofs.RunCases.{near-cases}
-use Rattle.selection_by_runs.specs.Runs.{Passed}
+use Rattle.selection_by_runs.specs.Runs.{NotReached}
 use Prim.Native.Nat.{_-_, _≤_}
 use borrow.Author.Needs.{needs}
 use Rattle.selection_by_runs.proofs.runs.first_near.Statement.{statement}
 use Rattle.selection_by_runs.proofs.runs.first_near.Tie as tie
 
 abbrev Inv-loop : tie.InvT-loop
-Inv-loop runs at low k j₀ j = (j ≤ k) × Passed runs at low j k
+Inv-loop runs at low k j₀ j = (j ≤ k) × NotReached runs at low j k
 
 abbrev μ-loop : tie.MeasureT-loop
 μ-loop runs at low k j₀ j = k - j

@@ -1,13 +1,13 @@
 -- Invariant: the columns of the places before k are put, what stands before them is as it was, and no run from before low comes to k. Measure: the places left.
 use Rattle.selection_by_runs.proofs.RunCases.{columns-cases, columns-more, low-more}
-use Rattle.selection_by_runs.specs.Runs.{Passed, ColumnsTo}
+use Rattle.selection_by_runs.specs.Runs.{NotReached, ColumnsTo}
 use Prim.Native.Nat.{_-_, _≤_}
 use borrow.Author.Needs.{needs}
 use Rattle.selection_by_runs.proofs.runs.put_columns.Statement.{statement}
 use Rattle.selection_by_runs.proofs.runs.put_columns.Tie as tie
 
 abbrev Inv-loop : tie.InvT-loop
-Inv-loop n orders at runs₀ low₀ k₀ runs low k = (k ≤ n) × (low ≤ k) × ColumnsTo orders at runs₀ runs k × Passed runs at 0 low k
+Inv-loop n orders at runs₀ low₀ k₀ runs low k = (k ≤ n) × (low ≤ k) × ColumnsTo orders at runs₀ runs k × NotReached runs at 0 low k
 
 abbrev μ-loop : tie.MeasureT-loop
 μ-loop n orders at runs₀ low₀ k₀ runs low k = n - k
