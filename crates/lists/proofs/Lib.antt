@@ -2,3 +2,4 @@ pub mod Bools
 pub mod Sums
 pub mod Sorted
 pub mod Order
+pub mod Counting
