@@ -205,5 +205,3 @@ module _ (s lent : List ℕ) {a : ReadAnswer} (e : a ≡ answerOf s) where
         let size = kept-size s fine in
         let front : u ≡ keptOf s ++ drop (length (keptOf s)) lent = put ∙ puts-front (keptOf s) lent (omega arith) in
         ap₂ (λ (b : ℕ) (l : List ℕ). beside {A = WriteAnswer} (record { refusal = 0; bytes = b }) l) (sym size) front ∙ sym (wrote-enough (sheetCauses s) (length s) (keptOf s) lent (sheet-numbered s) fine h)
-
-pub ruleset keep-cases = (keep-fault, keep-small)

@@ -184,11 +184,6 @@ module _ (k : List ℕ) {f : ℕ} (q : f ≡ firstOf (formCauses k)) where
 pub kind-numbered : {K : Kind} → K ≡ archive → Numbered (K .refusals)
 kind-numbered e = rw e (archive-sound .numbers)
 
-pub kind-maps : {K : Kind} → K ≡ archive → K .maps ≡ archive .maps
-kind-maps e = rw e
-
-pub ruleset judge-cases = (judge-fault, judge-stops, judge-whole, judge-room, judge-table, judge-values, kind-numbered, kind-maps)
-
 -- ---- the whole kept form
 
 module _ (k : List ℕ) (K : Kind) (a : K ≡ archive) {h : Header} where

@@ -3,12 +3,13 @@ ghost use mathlib.Core.Path.{_≡_};
 ghost use mathlib.Core.List.{_++_};
 ghost use Prim.Native.Nat.{_≤_};
 ghost use lib.ListN.{length};
+ghost use Rattle.refusal.specs.Written.{writeRefused};
 ghost use Rattle.wire.specs.Number.{bytesAt, puts};
 ghost use Rattle.sheet.specs.Read.{headerBytes};
 use refusal::WriteAnswer;
 
 pub fn refused(k: u8) -> WriteAnswer
-    ensures { λ r. ⌜ r ≡ record { refusal = k; bytes = 0 } ⌝ }
+    ensures { λ r. ⌜ r ≡ writeRefused k ⌝ }
 {
     WriteAnswer {
         refusal: k,

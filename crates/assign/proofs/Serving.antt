@@ -10,6 +10,7 @@ use native.Mathlib.Decide.{decLt, ℕ-discrete}
 use lib.ListN.{length, getD, set, drop, replicate, length-set, length-replicate, drop-of-length-le, List·getD-eq-default}
 use lib.Seq.{getD-set-same, getD-set-other, drop-cons}
 use Rattle.lists.proofs.Bools.{not-both, fails, up-to}
+use Rattle.lists.proofs.Sums.{all-head}
 use Rattle.model.specs.Turns.{Turns, PositiveLengths, overlap}
 use Rattle.model.proofs.Conflicts.{overlap-lt, lt-overlap}
 use Rattle.turn.specs.Turn.{shiftMinutes}
@@ -25,7 +26,7 @@ use Rattle.assign_spec.specs.Underway.{Underway}
 use Rattle.assign.specs.Serving.{NextIn, BusyUntil, NoneBefore, FirstFree, Serving}
 use Rattle.assign_spec.proofs.Smallest.{first-is, greatest-above, greatest-to, greatest-set}
 use Rattle.instance_spec.proofs.ByStart.{order-length}
-use Rattle.assign_spec.proofs.Numbers.{all-head, free-apart, apart-free, next-inside, next-unnumbered, underway-next, underway-first, nothing}
+use Rattle.assign_spec.proofs.Numbers.{free-apart, apart-free, next-inside, next-unnumbered, underway-next, underway-first, nothing}
 
 -- ---- the first groomer that is free
 

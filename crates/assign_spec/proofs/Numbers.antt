@@ -13,19 +13,15 @@ use Rattle.lists.proofs.Bools.{and-1, and-2, and-of, not-both, fails, every-at,
 use Rattle.model.specs.Turns.{Turns, PositiveLengths, overlap}
 use Rattle.model.proofs.Conflicts.{overlap-sym}
 use Rattle.model.proofs.Minutes.{overlap-minute, minute-overlap}
-use Rattle.lists.specs.Sorting.{AllOf, timesIn}
+use Rattle.lists.specs.Lists.{All}
+use Rattle.lists.specs.Sorting.{timesIn}
 use Rattle.lists.specs.Order.{Ascending}
+use Rattle.lists.proofs.Sums.{all-head, all-tail}
 use Rattle.assign_spec.specs.Numbering.{numberIn, freeFor, numberFor, numberAll, numbersOf, Before, TakenFor, GreedyNumbers, Assignment}
 use Rattle.instance_spec.specs.ByStart.{orderByStart}
 use Rattle.assign_spec.specs.Underway.{TakenBy, Underway}
 use Rattle.assign_spec.proofs.Smallest.{first-from, first-below, first-least, first-passes}
 use Rattle.instance_spec.proofs.ByStart.{order-length, order-inside, order-rising, order-has}
-
-pub all-head : {P : ℕ → Type 0} {t : ℕ} {ts : List ℕ} → AllOf P (t ∷ ts) → P t
-all-head (AllOf.more p ps) = p
-
-pub all-rest : {P : ℕ → Type 0} {t : ℕ} {ts : List ℕ} → AllOf P (t ∷ ts) → AllOf P ts
-all-rest (AllOf.more p ps) = ps
 
 -- ---- a number that is free, or not
 
@@ -151,15 +147,15 @@ module _ (T : Turns) (t : ℕ) (ts numbers : List ℕ) (w : Underway T (t ∷ ts
   rising-rest : Ascending (T .start) (t ∷ ts) → Ascending (T .start) ts
   rising-rest (Ascending.more a r) = r
 
-  rising-first : Ascending (T .start) (t ∷ ts) → AllOf (λ u. Before T t u) ts
+  rising-first : Ascending (T .start) (t ∷ ts) → All (λ u. Before T t u) ts
   rising-first (Ascending.more a r) = a
 
-  after-past : (u : ℕ) → 1 ≤ numberIn after u → AllOf (λ x. Before T u x) ts
+  after-past : (u : ℕ) → 1 ≤ numberIn after u → All (λ x. Before T u x) ts
   after-past u h = go (ℕ-discrete u t)
     where
-      go : Dec (u ≡ t) → AllOf (λ x. Before T u x) ts
+      go : Dec (u ≡ t) → All (λ x. Before T u x) ts
       go (yes p) = rw p (rising-first (w .rising))
-      go (no p) = all-rest (w .past u (omega (arith, still-has u p)))
+      go (no p) = all-tail (w .past u (omega (arith, still-has u p)))
 
   after-rest : (u : ℕ) → u < T .count → timesIn eqb u ts ≡ 0 → 1 ≤ numberIn after u
   unfolding timesIn
@@ -181,7 +177,7 @@ module _ (T : Turns) (t : ℕ) (ts numbers : List ℕ) (w : Underway T (t ∷ ts
       record {
         places = simp length-set (w .places);
         rising = rising-rest (w .rising);
-        inside = all-rest (w .inside);
+        inside = all-tail (w .inside);
         past = after-past;
         rest = after-rest;
         apart = after-apart;

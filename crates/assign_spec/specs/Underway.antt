@@ -6,7 +6,8 @@ use Prim.Native.Nat.{ℕ, _+_, _≤_, _<_}
 use lib.Dec.{eqb}
 use lib.ListN.{length}
 use Rattle.model.specs.Turns.{Turns, overlap}
-use Rattle.lists.specs.Sorting.{AllOf, timesIn}
+use Rattle.lists.specs.Lists.{All}
+use Rattle.lists.specs.Sorting.{timesIn}
 use Rattle.lists.specs.Order.{Ascending}
 use Rattle.assign_spec.specs.Numbering.{numberIn, Before}
 
@@ -22,8 +23,8 @@ pub record TakenBy (T : Turns) (numbers : List ℕ) (t k : ℕ) : Type 0 where
 pub record Underway (T : Turns) (ts numbers : List ℕ) : Type 0 where
   pub places : length numbers ≡ T .count
   pub rising : Ascending (T .start) ts
-  pub inside : AllOf (λ t. t < T .count) ts
-  pub past : (u : ℕ) → 1 ≤ numberIn numbers u → AllOf (λ t. Before T u t) ts
+  pub inside : All (λ t. t < T .count) ts
+  pub past : (u : ℕ) → 1 ≤ numberIn numbers u → All (λ t. Before T u t) ts
   pub rest : (u : ℕ) → u < T .count → timesIn eqb u ts ≡ 0 → 1 ≤ numberIn numbers u
   pub apart : (x y : ℕ) → (x ≡ y → ⊥) → 1 ≤ numberIn numbers x → numberIn numbers x ≡ numberIn numbers y → overlap T x y ≡ false
   pub smallest : (t k : ℕ) → 1 ≤ k → k < numberIn numbers t → TakenBy T numbers t k

@@ -28,14 +28,6 @@ use Rattle.best_spec.proofs.Groomers.{groomers-add}
 -- ---- those of a list of which a test holds
 
 module _ (p : ℕ → Bool) where
-  keep-with : (t : ℕ) (ts : List ℕ) → p t ≡ true → keep p (t ∷ ts) ≡ t ∷ keep p ts
-  unfolding keep
-  keep-with t ts e = rw e
-
-  keep-without : (t : ℕ) (ts : List ℕ) → p t ≡ false → keep p (t ∷ ts) ≡ keep p ts
-  unfolding keep
-  keep-without t ts e = rw e
-
   keep-every : {P : ℕ → Type 0} {ts : List ℕ} → All P ts → All P (keep p ts)
   unfolding keep
   keep-every none = none

@@ -22,7 +22,7 @@ use Rattle.board_open.proofs.Openings.{opened, shut, formed-steps, formed-map, 
 use Rattle.instance.specs.declared.columns.Size.{Size}
 use Rattle.instance.specs.Columns.{turnsBy, Held}
 use Rattle.selection.specs.Bounds.{Lent}
-use Rattle.selection.specs.Below.{apartBelow, independentBelow, maximalBelow, chosenBelow}
+use Rattle.selection.specs.Below.{chosenBelow}
 use Rattle.replay.specs.declared.replay.Judgement.{Judgement}
 use Rattle.check_spec.specs.Check.{choiceCauses, stepCauses, ruleCauses, sumCauses, partCauses, boardCauses}
 use Rattle.replay.specs.Judged.{faultAt, judged}
@@ -31,31 +31,23 @@ use Rattle.replay.proofs.Faults.{fault-judged, judged-number, judged-same}
 -- ---- the choice
 
 module _ (p : Size) (cols : List ℕ) (S : List Bool) where
-  independent-below : independent (turnsBy p cols) S ≡ independentBelow (turnsBy p cols) S (p .count)
-  unfolding independent independentBelow apartBelow turnsBy
-  independent-below = refl
-
-  maximal-below : maximal (turnsBy p cols) S ≡ maximalBelow (turnsBy p cols) S (p .count)
-  unfolding maximal maximalBelow turnsBy
-  maximal-below = refl
-
   chosen-below : chosen (turnsBy p cols .count) S (turnsBy p cols .worth) ≡ chosenBelow (turnsBy p cols) S (p .count)
   unfolding chosen chosenBelow turnsBy
   chosen-below = refl
 
-  module _ {i : Bool} (e : i ≡ independentBelow (turnsBy p cols) S (p .count)) where
+  module _ {i : Bool} (e : i ≡ independent (turnsBy p cols) S) where
     pub choice-conflict : i ≡ false → chosenConflict ≡ firstOf (choiceCauses (turnsBy p cols) S)
     unfolding choiceCauses firstOf
-    choice-conflict f = rw (independent-below, ← e, f)
+    choice-conflict f = rw (← e, f)
 
-    module _ {m : Bool} (t : i ≡ true) (g : m ≡ maximalBelow (turnsBy p cols) S (p .count)) where
+    module _ {m : Bool} (t : i ≡ true) (g : m ≡ maximal (turnsBy p cols) S) where
       pub choice-room : m ≡ false → notMaximal ≡ firstOf (choiceCauses (turnsBy p cols) S)
       unfolding choiceCauses firstOf
-      choice-room f = rw (independent-below, ← e, t, maximal-below, ← g, f)
+      choice-room f = rw (← e, t, ← g, f)
 
       pub choice-fine : m ≡ true → 0 ≡ firstOf (choiceCauses (turnsBy p cols) S)
       unfolding choiceCauses firstOf
-      choice-fine f = rw (independent-below, ← e, t, maximal-below, ← g, f)
+      choice-fine f = rw (← e, t, ← g, f)
 
 pub ruleset choice-cases = (choice-conflict, choice-room, choice-fine)
 

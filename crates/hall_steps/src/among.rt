@@ -8,10 +8,10 @@ ghost use Rattle.hall_steps.specs.Bounds.{HallHeld};
 use instance::PLACES;
 use instance::Row;
 use instance::Size;
+use instance::as_u32;
 use instance::put_row;
 use instance::row_at;
 use local_ratio::value_if;
-use shares::to_u32;
 
 // The hall's units, how many windows it has, and which of them are meant: the wide ones, or the small.
 pub struct Among {
@@ -25,7 +25,7 @@ pub fn is_of_kind(a: Among, draw: u16) -> bool
     ensures { λ q. ⌜ q ≡ kindDraw a draw ⌝ }
 {
     let units = a.units;
-    let is_wide = to_u32(units) < 2 * to_u32(draw);
+    let is_wide = as_u32(units) < 2 * as_u32(draw);
     if a.wide { is_wide } else { !is_wide }
 }
 

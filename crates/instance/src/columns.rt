@@ -10,6 +10,9 @@ use super::ways::Row;
 // A column has a place for each turn that a sheet can have.
 pub const MOST_TURNS: usize = sheet::MOST_TURNS as usize;
 
+// A bit for each turn that a sheet can have.
+pub const MAP_BYTES: usize = (MOST_TURNS + 7) / 8;
+
 // Slopes, groomers, starts, ends, worths, drivers.
 const COLUMNS: usize = 6;
 

@@ -1,10 +1,11 @@
 // By which ways two turns conflict. Steps, the order of steps, choices and the search ask here. The table of
 // the best worth, whose turns have different slopes and no drivers, tests groomer and gap itself
-// (is_in_the_way of besttable).
+// (is_in_the_way of best_table).
 ghost use mathlib.Core.Path.{_≡_};
 ghost use Prim.Native.Nat.{_<_};
 ghost use Rattle.model.specs.Turns.{overlapping};
 ghost use Rattle.instance.specs.Ways.{sharedOf, waysOf, conflicting};
+use super::numbers::as_u32;
 
 // What the engine asks of a turn. Driver 0 stands for none.
 pub struct Row {
@@ -23,18 +24,12 @@ pub struct Ways {
     pub driver: bool,
 }
 
-fn wide(x: u16) -> u32
-    ensures { λ r. ⌜ (r ≡ x) × (r < 65536) ⌝ }
-{
-    x as u32
-}
-
 // Whether two stretches of minutes overlap, each with the gap behind it. It has no branch: where every turn
 // is tested, one at each turn would be mispredicted too often.
 pub fn overlap(gap: u16, start: u16, end: u16, from: u16, until: u16) -> bool
     ensures { λ r. ⌜ r ≡ overlapping gap start end from until ⌝ }
 {
-    (wide(start) < wide(until) + wide(gap)) & (wide(from) < wide(end) + wide(gap))
+    (as_u32(start) < as_u32(until) + as_u32(gap)) & (as_u32(from) < as_u32(end) + as_u32(gap))
 }
 
 // What two turns share, whatever their minutes: the ways in which they could conflict.

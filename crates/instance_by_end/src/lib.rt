@@ -9,6 +9,7 @@ ghost use Rattle.instance_by_end.specs.Placing.{byEnd, placeAt, PutByEnd
 use instance::PLACES;
 use instance::Row;
 use instance::Size;
+use instance::as_place;
 use instance::put_row;
 use instance::row_at;
 
@@ -75,17 +76,11 @@ pub fn put_places(order: &[u16], places: &mut [u16])
 }
 
 // A number of 16 bits as an index.
-fn index(x: u16) -> usize
-    ensures { λ r. ⌜ r ≡ x ⌝ }
-{
-    x as usize
-}
-
 // The place of a turn, and how many there are where it is none.
 pub fn place_of(places: &[u16], t: u16) -> usize
     ensures { λ r. ⌜ r ≡ placeAt (now (places .entry)) t ⌝ }
 {
     let n = places.len();
     let i = t as usize;
-    if i < n { index(places[i]) } else { n }
+    if i < n { as_place(places[i]) } else { n }
 }

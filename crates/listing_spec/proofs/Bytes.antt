@@ -8,7 +8,7 @@ use lib.ListN.{length, length-append}
 use Rattle.text.specs.Decimal.{decimal}
 use Rattle.text.proofs.Width.{decimal-width}
 use Rattle.refusal.specs.Cause.{firstOf}
-use Rattle.lists.specs.Lists.{sum, below}
+use Rattle.lists.specs.Lists.{sum, below, In, here, later}
 use Rattle.model.specs.Turns.{Turns, PositiveLengths}
 use Rattle.model.specs.Steps.{tally}
 use Rattle.model.specs.Choice.{choice}
@@ -24,7 +24,7 @@ use Rattle.turn.specs.Turn.{mostWorth}
 use Rattle.instance_spec.specs.Problem.{sheetTurns}
 use Rattle.instance_spec.proofs.SheetTurns.{sheet-count, sheet-lengths, sheet-ends, sheet-worths, sheet-slopes, sheet-groomers}
 use Rattle.listing_spec.specs.declared.Sums.{Sums}
-use Rattle.listing_spec.specs.Round.{roundOf, shiftMinutes, In, here, later, StartsApart}
+use Rattle.listing_spec.specs.Round.{roundOf, shiftMinutes, StartsApart}
 use Rattle.listing_spec.specs.Text.{labelled, twoLabelled, headingOf, lineOf, linesOf, groomerText, groomersFrom, sumsLine, listingOf, groomerWord, slopeWord, worthWord, sumWord, tallyWord, ceilingWord, hyphen, lineFeed}
 use Rattle.listing_spec.specs.List.{sumsFor, listingFor, sheetListing}
 use Rattle.listing_spec.proofs.Rounds.{apart-starts, round-is, rounds-count}

@@ -9,17 +9,16 @@ use native.Mathlib.Decide.{ℕ-discrete}
 use lib.Dec.{eqb}
 use lib.ListN.{length, length-append}
 use borrow.Author.Tests.{eq-eqb, eqb-true}
-use Rattle.lists.specs.Lists.{sum, below, All, none, more}
+use Rattle.lists.specs.Lists.{sum, below, All, none, more, In, here, later}
 use Rattle.model.specs.Turns.{Turns, PositiveLengths, same-groomer}
 use Rattle.model.specs.Choice.{has, chosen}
 use Rattle.model.specs.Rules.{Independent}
-use Rattle.model.specs.Feasible.{Distinct, empty, other}
 use Rattle.lists.proofs.Bools.{fails, not-apart, and-1, and-2, and-of}
-use Rattle.lists.proofs.Sums.{sum-add, sum-zero, sum-same, sum-swap, sum-hit, all-of, all-map}
+use Rattle.lists.proofs.Sums.{sum-add, sum-zero, sum-same, sum-swap, sum-hit, all-of, all-append, in-first, in-second}
 use Rattle.choice_map.specs.Choice.{onesIn, mapOf}
 use Rattle.choice_map.proofs.Clean.{map-choice, map-clean}
 use Rattle.choice_map.proofs.Counts.{ones-turns}
-use Rattle.listing_spec.specs.Round.{shiftMinutes, startsAt, startsBelow, roundFrom, roundOf, In, here, later, Rising, Round, StartsApart}
+use Rattle.listing_spec.specs.Round.{shiftMinutes, startsAt, startsBelow, roundFrom, roundOf, Rising, Round, StartsApart}
 use Rattle.listing_spec.specs.Round as round
 
 -- ---- two of a groomer's chosen turns that start together share that minute
@@ -33,14 +32,6 @@ apart-starts T S apart lengths u v l m p q g s =
 
 -- ---- which turns stand in two lists, one behind the other
 
-in-first : {u : ℕ} {us : List ℕ} (vs : List ℕ) → In u us → In u (us ++ vs)
-in-first vs here = here
-in-first vs (later i) = later (in-first vs i)
-
-in-second : {u : ℕ} (us : List ℕ) {vs : List ℕ} → In u vs → In u (us ++ vs)
-in-second [] i = i
-in-second (v ∷ us) i = later (in-second us i)
-
 in-either : (u : ℕ) (us vs : List ℕ) → In u (us ++ vs) → In u us ⊎ In u vs
 in-either u [] vs i = inr i
 in-either u (v ∷ us) vs here = inl here
@@ -50,13 +41,9 @@ in-either u (v ∷ us) vs (later i) = go (in-either u us vs i)
     go (inl j) = inl (later j)
     go (inr j) = inr j
 
-all-in : {P : ℕ → Type 0} (us : List ℕ) → ((u : ℕ) → In u us → P u) → All P us
-all-in [] h = none
-all-in (u ∷ us) h = more (h u here) (all-in us (λ v i. h v (later i)))
-
-all-append : {P : ℕ → Type 0} {us vs : List ℕ} → All P us → All P vs → All P (us ++ vs)
-all-append none k = k
-all-append (more p h) k = more p (all-append h k)
+in-all : {P : ℕ → Type 0} (us : List ℕ) → ((u : ℕ) → In u us → P u) → All P us
+in-all [] h = none
+in-all (u ∷ us) h = more (h u here) (in-all us (λ v i. h v (later i)))
 
 rising-append : {T : Turns} {us vs : List ℕ} → Rising T us → Rising T vs → All (λ u. All (λ v. T .start u < T .start v) vs) us → Rising T (us ++ vs)
 rising-append round.none k none = k
@@ -117,8 +104,8 @@ module _ (T : Turns) (S : List Bool) (h : ℕ) where
   below-rising apart minute zero l = round.none
   below-rising apart minute (suc i) l =
       rising-append (below-rising apart minute i (omega arith)) (alone (startsAt T S h minute i))
-      (all-in (startsBelow T S h minute i)
-      (λ u m. all-in (cond (startsAt T S h minute i) (i ∷ []) []) (λ v k. absurd (twice u v (below-all minute i u m) (in-one (startsAt T S h minute i) k)))))
+      (in-all (startsBelow T S h minute i)
+      (λ u m. in-all (cond (startsAt T S h minute i) (i ∷ []) []) (λ v k. absurd (twice u v (below-all minute i u m) (in-one (startsAt T S h minute i) k)))))
     where
       alone : (b : Bool) → Rising T (cond b (i ∷ []) [])
       alone true = round.more none round.none
@@ -164,7 +151,7 @@ module _ (T : Turns) (S : List Bool) (h : ℕ) where
   from-rising apart zero minute = round.none
   from-rising apart (suc d) minute =
       rising-append (below-rising apart minute (T .count) (omega arith)) (from-rising apart d (minute + 1))
-      (all-in (startsBelow T S h minute (T .count)) (λ u m. all-in (roundFrom T S h d (minute + 1)) (λ v k. sooner u v (below-all minute (T .count) u m) (from-all d (minute + 1) v k))))
+      (in-all (startsBelow T S h minute (T .count)) (λ u m. in-all (roundFrom T S h d (minute + 1)) (λ v k. sooner u v (below-all minute (T .count) u m) (from-all d (minute + 1) v k))))
     where
       sooner : (u v : ℕ) → Below minute (T .count) u → Since (minute + 1) v → T .start u < T .start v
       sooner u v a b =
@@ -183,12 +170,6 @@ round-is T S h apart starts =
       );
       by-start = from-rising T S h apart shiftMinutes 0;
     }
-
--- ---- each turn of a rising list starts before the next, so that none stands twice
-
-pub round-once : {T : Turns} {us : List ℕ} → Rising T us → Distinct us
-round-once round.none = empty
-round-once {T} (round.more {u} a h) = other {t = u} (all-map (λ v l e. omega (arith, l, ap (T .start) e)) a) (round-once h)
 
 -- ---- how many turns the rounds have
 

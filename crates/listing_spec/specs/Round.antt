@@ -6,7 +6,7 @@ use mathlib.Core.Bool.{Bool, true, cond, _&&_}
 use mathlib.Core.List.{List, [], _∷_, _++_}
 use lib.Dec.{eqb}
 pub use Rattle.turn.specs.Turn.{shiftMinutes}
-use Rattle.lists.specs.Lists.{All}
+use Rattle.lists.specs.Lists.{All, In}
 use Rattle.model.specs.Turns.{Turns}
 use Rattle.model.specs.Choice.{has}
 
@@ -29,11 +29,6 @@ unfoldable pub roundOf : Turns → List Bool → ℕ → List ℕ
 roundOf T S h = roundFrom T S h shiftMinutes 0
 
 -- ---- as statements
-
--- turn u is one of a list
-pub data In (u : ℕ) : List ℕ → Type 0 where
-  here : {us : List ℕ} → In u (u ∷ us)
-  later : {v : ℕ} {us : List ℕ} → In u us → In u (v ∷ us)
 
 -- each turn of a list starts before all that follow it
 pub data Rising (T : Turns) : List ℕ → Type 0 where

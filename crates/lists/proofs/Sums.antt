@@ -1,14 +1,14 @@
 -- Sums over lists of numbers, what holds of every element, and lists given by a function. None of this is in the source. Assumes nothing.
 use mathlib.Core.Path.{_≡_, refl, sym, ap, ap₂}
 use mathlib.Core.Bool.{Bool, true, false, cond}
-use mathlib.Core.List.{List, [], _∷_}
+use mathlib.Core.List.{List, [], _∷_, _++_}
 use Prim.Native.Nat.{ℕ, zero, suc, _+_, _≤_, _<_}
 use native.Mathlib.Omega.{arith}
 use native.Mathlib.Decide.{ℕ-discrete}
 use lib.Dec.{eqb}
 use lib.ListN.{length, getD, set}
 use borrow.Author.Tests.{eq-eqb, ne-eqb}
-use Rattle.lists.specs.Lists.{sum, below, tab, All, none, more}
+use Rattle.lists.specs.Lists.{sum, below, tab, All, none, more, In, here, later}
 use Rattle.lists.proofs.Bools.{fails}
 
 pub sum-add : (f g : ℕ → ℕ) (ts : List ℕ) → sum (λ t. f t + g t) ts ≡ sum f ts + sum g ts
@@ -35,8 +35,34 @@ pub all-map : {P Q : ℕ → Type 0} → ((t : ℕ) → P t → Q t) → {ts : L
 all-map h none = none
 all-map h (more p ps) = more (h _ p) (all-map h ps)
 
+pub all-head : {P : ℕ → Type 0} {t : ℕ} {ts : List ℕ} → All P (t ∷ ts) → P t
+all-head (more h hs) = h
+
 pub all-tail : {P : ℕ → Type 0} {t : ℕ} {ts : List ℕ} → All P (t ∷ ts) → All P ts
 all-tail (more h hs) = hs
+
+pub all-at : {P : ℕ → Type 0} {ts : List ℕ} → All P ts → (i : ℕ) → i < length ts → P (getD ts i 0)
+all-at none i l = absurd (omega arith)
+all-at (more h hs) zero l = h
+all-at (more h hs) (suc i) l = all-at hs i (omega arith)
+
+pub all-append : {A : Type 0} {P : A → Type 0} {ts us : List A} → All P ts → All P us → All P (ts ++ us)
+all-append none k = k
+all-append (more h hs) k = more h (all-append hs k)
+
+pub all-in : {P : ℕ → Type 0} {t : ℕ} {ts : List ℕ} → All P ts → In t ts → P t
+all-in (more h hs) here = h
+all-in (more h hs) (later i) = all-in hs i
+
+-- ---- which numbers stand in two lists, one behind the other
+
+pub in-first : {t : ℕ} {ts : List ℕ} (us : List ℕ) → In t ts → In t (ts ++ us)
+in-first us here = here
+in-first us (later i) = later (in-first us i)
+
+pub in-second : {t : ℕ} (ts : List ℕ) {us : List ℕ} → In t us → In t (ts ++ us)
+in-second [] i = i
+in-second (u ∷ ts) i = later (in-second ts i)
 
 -- ---- the numbers below n
 

@@ -24,6 +24,11 @@ below zero = []
 below (suc n) = n ∷ below n
 
 -- every element of a list has P
-pub data All (P : ℕ → Type 0) : List ℕ → Type 0 where
+pub data All {A : Type 0} (P : A → Type 0) : List A → Type 0 where
   none : All P []
-  more : {t : ℕ} {ts : List ℕ} → P t → All P ts → All P (t ∷ ts)
+  more : {t : A} {ts : List A} → P t → All P ts → All P (t ∷ ts)
+
+-- t stands in a list
+pub data In (t : ℕ) : List ℕ → Type 0 where
+  here : {ts : List ℕ} → In t (t ∷ ts)
+  later : {u : ℕ} {ts : List ℕ} → In t ts → In t (u ∷ ts)

@@ -13,8 +13,10 @@ use borrow.Author.Tests.{eq-eqb}
 use Rattle.lists.proofs.Bools.{and-of}
 use Rattle.model.specs.Turns.{Turns}
 use Rattle.model.specs.Choice.{has}
-use Rattle.lists.specs.Sorting.{AllOf, timesIn}
+use Rattle.lists.specs.Lists.{All}
+use Rattle.lists.specs.Sorting.{timesIn}
 use Rattle.lists.specs.Order.{Ascending, StandsBefore}
+use Rattle.lists.proofs.Sums.{all-at}
 use Rattle.lists.proofs.Order.{ascending-of}
 use Rattle.instance_spec.specs.ByStart.{orderByStart}
 use Rattle.instance_spec.proofs.ByStart.{order-inside, order-rising, order-has}
@@ -24,11 +26,6 @@ use Rattle.play_spec.proofs.Stints.{doing-before, doing-in, doing-over,
 use Rattle.play_spec.proofs.Delayed.{works-of, times-rest, all-has, taken-all, taken-has, taken-chosen, taken-groomer}
 
 -- ---- lists by their places
-
-all-at : {P : ℕ → Type 0} {us : List ℕ} → AllOf P us → (i : ℕ) → i < length us → P (getD us i 0)
-all-at AllOf.none i l = absurd (omega arith)
-all-at (AllOf.more p h) zero l = p
-all-at (AllOf.more p h) (suc i) l = all-at h i (omega arith)
 
 rising-at : {f : ℕ → ℕ} {us : List ℕ} → Ascending f us → (i j : ℕ) → i < j → j < length us → StandsBefore f (getD us i 0) (getD us j 0)
 rising-at Ascending.none i j l m = absurd (omega arith)
@@ -97,7 +94,7 @@ before-not : (f : ℕ → ℕ) (x y : ℕ) → StandsBefore f x y → x ≡ y �
 before-not f x y b e = let l : x < y = b .ties (ap f e) in omega (arith, l, e)
 
 module _ (f : ℕ → ℕ) where
-  head-same : (t u : ℕ) (ts us : List ℕ) → AllOf (StandsBefore f t) ts → AllOf (StandsBefore f u) us → 1 ≤ timesIn eqb t (u ∷ us) → 1 ≤ timesIn eqb u (t ∷ ts) → t ≡ u
+  head-same : (t u : ℕ) (ts us : List ℕ) → All (StandsBefore f t) ts → All (StandsBefore f u) us → 1 ≤ timesIn eqb t (u ∷ us) → 1 ≤ timesIn eqb u (t ∷ ts) → t ≡ u
   head-same t u ts us a b p q = go (ℕ-discrete t u)
     where
       go : Dec (t ≡ u) → t ≡ u
@@ -161,7 +158,7 @@ module _ (T : Turns) (S : List Bool) (h : ℕ) where
   abbrev taken : List ℕ
   taken = takenOf T S h (orderByStart T)
 
-  taken-takes : AllOf (Takes T S h) taken
+  taken-takes : All (Takes T S h) taken
   taken-takes = taken-all T S h (λ u e l. record { inside = l; chosen = taken-chosen T S h u e; groomer-is = taken-groomer T S h u e }) (order-inside T)
 
   takes-taken : (u : ℕ) → Takes T S h u → 1 ≤ timesIn eqb u taken

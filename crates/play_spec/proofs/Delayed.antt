@@ -13,10 +13,12 @@ use Rattle.lists.proofs.Bools.{and-1, and-2, and-of}
 use Rattle.model.specs.Turns.{Turns, PositiveLengths, same-groomer}
 use Rattle.model.specs.Choice.{has}
 use Rattle.model.specs.Rules.{Independent}
-use Rattle.lists.specs.Sorting.{AllOf, timesIn}
+use Rattle.lists.specs.Lists.{All}
+use Rattle.lists.specs.Sorting.{timesIn}
 use Rattle.instance_spec.specs.ByStart.{orderByStart}
 use Rattle.assign_spec.specs.Numbering.{Before}
 use Rattle.lists.specs.Order.{Ascending}
+use Rattle.lists.proofs.Sums.{all-head}
 use Rattle.instance_spec.proofs.ByStart.{order-inside, order-rising, order-has}
 use Rattle.turn.specs.Turn.{shiftMinutes}
 use Rattle.play_spec.specs.declared.Stint.{Stint}
@@ -48,36 +50,33 @@ planned T (u ∷ us) = record { turn = u; begin = T .start u; end = T .end u } �
 -- turns of which each starts when its groomer has driven over from all before it
 data Spaced (T : Turns) : List ℕ → Type 0 where
   none : Spaced T []
-  more : {u : ℕ} {us : List ℕ} → T .start u < T .end u → AllOf (λ v. T .end u + overMinutes ≤ T .start v) us → Spaced T us → Spaced T (u ∷ us)
+  more : {u : ℕ} {us : List ℕ} → T .start u < T .end u → All (λ v. T .end u + overMinutes ≤ T .start v) us → Spaced T us → Spaced T (u ∷ us)
 
 -- each turn lasts a minute and is followed by ten, so that no more of them than this end within the shift
-spaced-few : (T : Turns) (low : ℕ) {us : List ℕ} → low ≤ shiftMinutes + overMinutes → Spaced T us → AllOf (λ v. low ≤ T .start v) us → AllOf (λ v. T .end v ≤ shiftMinutes) us → 11 * length us + low ≤ shiftMinutes + overMinutes
-spaced-few T low l Spaced.none AllOf.none AllOf.none = omega arith
-spaced-few T low l (Spaced.more {u} {us} p a r) (AllOf.more q b) (AllOf.more e f) =
+spaced-few : (T : Turns) (low : ℕ) {us : List ℕ} → low ≤ shiftMinutes + overMinutes → Spaced T us → All (λ v. low ≤ T .start v) us → All (λ v. T .end v ≤ shiftMinutes) us → 11 * length us + low ≤ shiftMinutes + overMinutes
+spaced-few T low l Spaced.none All.none All.none = omega arith
+spaced-few T low l (Spaced.more {u} {us} p a r) (All.more q b) (All.more e f) =
     let k = spaced-few T (T .start u + 11) (omega (arith, p, e)) r (later a) f in omega (arith, k, q)
   where
-    later : {vs : List ℕ} → AllOf (λ v. T .end u + overMinutes ≤ T .start v) vs → AllOf (λ v. T .start u + 11 ≤ T .start v) vs
-    later AllOf.none = AllOf.none
-    later (AllOf.more {x = v} {xs = vs} k y) = AllOf.more {x = v} (omega (arith, k, p)) (later y)
+    later : {vs : List ℕ} → All (λ v. T .end u + overMinutes ≤ T .start v) vs → All (λ v. T .start u + 11 ≤ T .start v) vs
+    later All.none = All.none
+    later (All.more {t = v} {ts = vs} k y) = All.more {t = v} (omega (arith, k, p)) (later y)
 
-all-take : {P : ℕ → Type 0} (i : ℕ) {us : List ℕ} → AllOf P us → AllOf P (take i us)
-all-take zero h = AllOf.none
-all-take (suc i) AllOf.none = AllOf.none
-all-take (suc i) (AllOf.more p h) = AllOf.more p (all-take i h)
+all-take : {P : ℕ → Type 0} (i : ℕ) {us : List ℕ} → All P us → All P (take i us)
+all-take zero h = All.none
+all-take (suc i) All.none = All.none
+all-take (suc i) (All.more p h) = All.more p (all-take i h)
 
 rising-take : {f : ℕ → ℕ} (i : ℕ) {us : List ℕ} → Ascending f us → Ascending f (take i us)
 rising-take zero h = Ascending.none
 rising-take (suc i) Ascending.none = Ascending.none
 rising-take (suc i) (Ascending.more a r) = Ascending.more (all-take i a) (rising-take i r)
 
-head-of : {P : ℕ → Type 0} {u : ℕ} {us : List ℕ} → AllOf P (u ∷ us) → P u
-head-of (AllOf.more p h) = p
-
-planned-is : (T : Turns) (free : ℕ) {us : List ℕ} → Spaced T us → AllOf (λ v. free ≤ T .start v) us → stintsFrom T (λ _. 0) free us ≡ planned T us
+planned-is : (T : Turns) (free : ℕ) {us : List ℕ} → Spaced T us → All (λ v. free ≤ T .start v) us → stintsFrom T (λ _. 0) free us ≡ planned T us
 unfolding stintsFrom stintOf planned
 planned-is T free Spaced.none a = refl
 planned-is T free (Spaced.more {u} {us} l b h) a =
-    let q : max (T .start u) free ≡ T .start u = max-eq-left (head-of a) in
+    let q : max (T .start u) free ≡ T .start u = max-eq-left (all-head a) in
     let e : T .start u + (T .end u - T .start u) + 0 ≡ T .end u = omega arith in
     rw (q, e) (ap (λ (ss : List Stint). record { turn = u; begin = T .start u; end = T .end u } ∷ ss) (planned-is T (T .end u + overMinutes) h b))
 
@@ -112,10 +111,10 @@ pub times-rest : (u v : ℕ) (vs : List ℕ) → (u ≡ v → ⊥) → 1 ≤ tim
 unfolding timesIn
 times-rest u v vs d o = let e : _≡_ {A = ℕ} (cond (eqb u v) 1 0) 0 = rw (ne-eqb u v d) in omega (arith, o, e)
 
-pub all-has : {P : ℕ → Type 0} {us : List ℕ} → AllOf P us → (u : ℕ) → 1 ≤ timesIn eqb u us → P u
+pub all-has : {P : ℕ → Type 0} {us : List ℕ} → All P us → (u : ℕ) → 1 ≤ timesIn eqb u us → P u
 unfolding timesIn
-all-has AllOf.none u l = absurd (omega arith)
-all-has {P} (AllOf.more {x} {xs} p h) u l = go (ℕ-discrete u x) (all-has h u)
+all-has All.none u l = absurd (omega arith)
+all-has {P} (All.more {t = x} {ts = xs} p h) u l = go (ℕ-discrete u x) (all-has h u)
   where
     go : Dec (u ≡ x) → (1 ≤ timesIn eqb u xs → P u) → P u
     go (yes e) ih = rw e p
@@ -139,13 +138,13 @@ planned-worked T (Spaced.more {u = v} {us = vs} l c h) u m o a b = go (ℕ-discr
 -- ---- the turns that a groomer takes are spaced where no two chosen turns conflict
 
 module _ (T : Turns) (S : List Bool) (h : ℕ) where
-  pub taken-all : {P Q : ℕ → Type 0} → ((v : ℕ) → takes T S h v ≡ true → P v → Q v) → {us : List ℕ} → AllOf P us → AllOf Q (takenOf T S h us)
+  pub taken-all : {P Q : ℕ → Type 0} → ((v : ℕ) → takes T S h v ≡ true → P v → Q v) → {us : List ℕ} → All P us → All Q (takenOf T S h us)
   unfolding takenOf
-  taken-all f AllOf.none = AllOf.none
-  taken-all {P} {Q} f (AllOf.more {x} {xs} p g) = go (takes T S h x) refl (taken-all f g)
+  taken-all f All.none = All.none
+  taken-all {P} {Q} f (All.more {t = x} {ts = xs} p g) = go (takes T S h x) refl (taken-all f g)
     where
-      go : (b : Bool) → takes T S h x ≡ b → AllOf Q (takenOf T S h xs) → AllOf Q (cond b (x ∷ []) [] ++ takenOf T S h xs)
-      go true e ih = AllOf.more (f x e p) ih
+      go : (b : Bool) → takes T S h x ≡ b → All Q (takenOf T S h xs) → All Q (cond b (x ∷ []) [] ++ takenOf T S h xs)
+      go true e ih = All.more (f x e p) ih
       go false e ih = ih
 
   pub taken-has : (us : List ℕ) (u : ℕ) → takes T S h u ≡ true → 1 ≤ timesIn eqb u us → 1 ≤ timesIn eqb u (takenOf T S h us)
@@ -183,28 +182,28 @@ module _ (T : Turns) (S : List Bool) (h : ℕ) where
             differ e = let z : u < v = w .ties (ap (T .start) e) in omega (arith, z, e)
         go (no x) = omega arith
 
-    both-all : {P Q : ℕ → Type 0} {us : List ℕ} → AllOf P us → AllOf Q us → AllOf (λ v. P v × Q v) us
-    both-all AllOf.none AllOf.none = AllOf.none
-    both-all (AllOf.more p a) (AllOf.more q b) = AllOf.more (p, q) (both-all a b)
+    both-all : {P Q : ℕ → Type 0} {us : List ℕ} → All P us → All Q us → All (λ v. P v × Q v) us
+    both-all All.none All.none = All.none
+    both-all (All.more p a) (All.more q b) = All.more (p, q) (both-all a b)
 
-    taken-spaced : {us : List ℕ} → Ascending (T .start) us → AllOf (λ t. t < T .count) us → Spaced T (takenOf T S h us)
+    taken-spaced : {us : List ℕ} → Ascending (T .start) us → All (λ t. t < T .count) us → Spaced T (takenOf T S h us)
     unfolding takenOf
     taken-spaced Ascending.none i = Spaced.none
-    taken-spaced (Ascending.more {t} {ts} a r) (AllOf.more l i) = go (takes T S h t) refl (taken-spaced r i)
+    taken-spaced (Ascending.more {t} {ts} a r) (All.more l i) = go (takes T S h t) refl (taken-spaced r i)
       where
         go : (b : Bool) → takes T S h t ≡ b → Spaced T (takenOf T S h ts) → Spaced T (cond b (t ∷ []) [] ++ takenOf T S h ts)
         go true e ih = Spaced.more (lengths t l) (taken-all (λ v q w. space t v l (w .1) e q (w .0)) (both-all a i)) ih
         go false e ih = ih
 
-    from-zero : (us : List ℕ) → AllOf (λ v. 0 ≤ T .start v) us
-    from-zero [] = AllOf.none
-    from-zero (u ∷ us) = AllOf.more {x = u} (omega arith) (from-zero us)
+    from-zero : (us : List ℕ) → All (λ v. 0 ≤ T .start v) us
+    from-zero [] = All.none
+    from-zero (u ∷ us) = All.more {t = u} (omega arith) (from-zero us)
 
     -- however many turns are gone through by start, those that a groomer takes fit into the rows of its day
     pub taken-few : ((t : ℕ) → t < T .count → T .end t ≤ shiftMinutes) → (i : ℕ) → length (takenOf T S h (take i (orderByStart T))) < dayRows
     taken-few ends i =
         let us = takenOf T S h (take i (orderByStart T)) in
-        let inside : AllOf (λ t. t < T .count) (take i (orderByStart T)) = all-take i (order-inside T) in
+        let inside : All (λ t. t < T .count) (take i (orderByStart T)) = all-take i (order-inside T) in
         let k = spaced-few T 0 (omega arith) (taken-spaced (rising-take i (order-rising T)) inside) (from-zero us) (taken-all (λ t e l. ends t l) inside) in
         omega (arith, k)
 

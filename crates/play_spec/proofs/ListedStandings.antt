@@ -111,13 +111,6 @@ unfolding minutesFrom
 minutes-more zero m n l table = let q : m + 0 ≡ m = omega arith in rw q
 minutes-more (suc k) m n l table = let q : m + suc k ≡ m + 1 + k = omega arith in rw q (minutes-more k (m + 1) n (minuteOf n 0 l table m) table)
 
--- ---- no groomers
-
-pub none-moved : (k m : ℕ) (l : List Standing) (table : List ℕ) → minutesFrom k m 0 l table ≡ l
-unfolding minutesFrom minuteOf
-none-moved zero m l table = refl
-none-moved (suc k) m l table = none-moved k (m + 1) l table
-
 -- ---- a table that holds the days
 
 -- the number at place i of it: of the row there the turn, the begin or the end

@@ -13,7 +13,7 @@ ghost use Rattle.refine.specs.Stages.{shiftRounds};
 
 mod planned;
 
-use instance::MOST_TURNS;
+use instance::MAP_BYTES;
 use instance::PLACES;
 use planned::plan_board;
 use planned::write_choice;
@@ -21,9 +21,6 @@ use price_rounds::Start;
 use price_rounds::shift_rounds;
 use prices::Extent;
 use refine_spec::RefineAnswer;
-
-// A bit for each turn that a sheet can have.
-const MAP_BYTES: usize = (MOST_TURNS + 7) / 8;
 
 // Plans a board and makes it better by rounds, where the lent places suffice.
 fn refine_with(

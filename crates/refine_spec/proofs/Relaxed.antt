@@ -6,7 +6,6 @@ use Prim.Native.Nat.{ℕ, _≤_, _<_}
 use native.Mathlib.Omega.{arith}
 use native.Mathlib.Decide.{decLt, ℕ-discrete}
 use lib.Dec.{eqb}
-use lib.ListN.{length}
 use lib.Seq.{ext-getD}
 use borrow.Author.Tests.{eq-eqb, ne-eqb}
 use Rattle.lists.specs.Lists.{All, none, more}
@@ -160,7 +159,3 @@ module _ (T : Turns) (slopes : ℕ) (prices : List ℕ) where
   pub relaxed-counted : relaxedSet T slopes prices ≡ bestChoice (withWorths T (countsFor T slopes prices))
   unfolding pricedTurns
   relaxed-counted = relaxed-best ∙ bare-choice (withWorths T (countsFor T slopes prices))
-
-  pub relaxed-length : length (relaxedSet T slopes prices) ≡ T .count
-  unfolding relaxedSet
-  relaxed-length = tab-length (T .count) (isRelaxed (pricedTurns T slopes prices))

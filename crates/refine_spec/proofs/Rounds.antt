@@ -22,10 +22,6 @@ module _ (R : Rule) where
   unfolding looked lowerLimit betterChoice
   looked-prices x = refl
 
-  pub looked-change : (x : Stage) → looked R x .change ≡ x .change
-  unfolding looked lowerLimit betterChoice
-  looked-change x = refl
-
   pub looked-rounds : (x : Stage) → looked R x .rounds ≡ x .rounds
   unfolding looked lowerLimit betterChoice
   looked-rounds x = refl

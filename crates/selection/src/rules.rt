@@ -5,10 +5,11 @@ ghost use mathlib.Core.Bool.{cond};
 ghost use Prim.Native.Nat.{_<_};
 ghost use lib.ListN.{length, replicate};
 ghost use Rattle.model.specs.Choice.{has};
+ghost use Rattle.model.specs.Rules.{independent, maximal};
 ghost use Rattle.choice_map.specs.Choice.{choiceIn};
 ghost use Rattle.instance.specs.Columns.{columnPlaces, slopePlaces, turnsBy};
 ghost use Rattle.selection.specs.Bounds.{Lent};
-ghost use Rattle.selection.specs.Below.{independentBelow, maximalBelow, chosenBelow};
+ghost use Rattle.selection.specs.Below.{chosenBelow};
 ghost use Rattle.selection.specs.Gathered.{Gathered};
 use super::gathered::fits_beside;
 use super::gathered::gather_if_fits;
@@ -22,7 +23,7 @@ use instance::row_at;
 // gathered in the lent columns.
 pub fn is_independent(p: Size, cols: &[u16; PLACES], map: &[u8], rows: &mut [u16; PLACES]) -> bool
     requires { ⌜ Lent p (now cols) (now map) × (length (now rows) ≡ columnPlaces) ⌝ }
-    ensures { λ r. ⌜ r ≡ independentBelow (turnsBy p (now (cols .entry))) (choiceIn (p .count) (now (map .entry))) (p .count) ⌝ }
+    ensures { λ r. ⌜ r ≡ independent (turnsBy p (now (cols .entry))) (choiceIn (p .count) (now (map .entry))) ⌝ }
     ensures { λ _. ⌜ length (now (rows .exit)) ≡ columnPlaces ⌝ }
 {
     let n = p.count;
@@ -78,7 +79,7 @@ fn are_settled(
     c: usize,
 ) -> bool
     requires { ⌜ Lent p (now cols) (now map) × Gathered (turnsBy p (now cols)) (choiceIn (p .count) (now map)) (p .count) c (now rows) (now flags) ⌝ }
-    ensures { λ r. ⌜ r ≡ maximalBelow (turnsBy p (now (cols .entry))) (choiceIn (p .count) (now (map .entry))) (p .count) ⌝ }
+    ensures { λ r. ⌜ r ≡ maximal (turnsBy p (now (cols .entry))) (choiceIn (p .count) (now (map .entry))) ⌝ }
 {
     let n = p.count;
     let mut t = 0;
@@ -99,7 +100,7 @@ fn are_settled(
 // in the lent columns.
 pub fn is_maximal(p: Size, cols: &[u16; PLACES], map: &[u8], rows: &mut [u16; PLACES]) -> bool
     requires { ⌜ Lent p (now cols) (now map) × (length (now rows) ≡ columnPlaces) ⌝ }
-    ensures { λ r. ⌜ r ≡ maximalBelow (turnsBy p (now (cols .entry))) (choiceIn (p .count) (now (map .entry))) (p .count) ⌝ }
+    ensures { λ r. ⌜ r ≡ maximal (turnsBy p (now (cols .entry))) (choiceIn (p .count) (now (map .entry))) ⌝ }
     ensures { λ _. ⌜ length (now (rows .exit)) ≡ columnPlaces ⌝ }
 {
     let mut flags = [0u8; SLOPES];

@@ -13,6 +13,7 @@ ghost use Rattle.shares.specs.Taking.{hallBy, rowTakes, SharesBy, HalfDr
 use instance::PLACES;
 use instance::Row;
 use instance::Size;
+use instance::as_u32;
 use instance::overlap;
 use instance::row_at;
 use local_ratio::lessen;
@@ -31,20 +32,13 @@ pub struct Share {
     pub units: u16,
 }
 
-// A number of 16 bits as one of 32.
-pub fn to_u32(x: u16) -> u32
-    ensures { λ r. ⌜ (r ≡ x) × (r < 65536) ⌝ }
-{
-    x as u32
-}
-
 // Twice the draw times the amount, divided by the units, rounded up.
 fn share_of(units: u16, draw: u16, amount: u16) -> u16
     requires { ⌜ (1 ≤ units) × (2 * draw ≤ units) × (amount ≤ mostWorth) ⌝ }
     ensures { λ r. ⌜ (r ≡ roundedUp (2 * draw * amount) units) × (r ≤ amount) ⌝ }
 {
-    let whole = 2 * to_u32(draw) * to_u32(amount);
-    let by = to_u32(units);
+    let whole = 2 * as_u32(draw) * as_u32(amount);
+    let by = as_u32(units);
     ((whole + (by - 1)) / by) as u16
 }
 

@@ -19,7 +19,7 @@ use Rattle.sheet.specs.Record.{widthOf, endAt, firstCursor, recordCauses
 use Rattle.sheet.specs.Read.{headerBytes, countsIn, turnCount, countCauses, headerCauses, recordsCauses, causesFor, sheetCauses}
 use Rattle.sheet.proofs.SoundKinds.{garage-sound, mark-iff}
 use Rattle.sheet.proofs.Maps.{bad-map-iff}
-use Rattle.sheet.specs.Accepted.{cursorOf, recordMap, turnOf, placeOf, CauseFor, SheetCause, short-header, other-mark, groomer-count, slope-count, turn-count, no-map, wrong-map, short-fields, slope, groomer, time, worth, driver, bytes-behind, FirstCause, FirstAmong}
+use Rattle.sheet.specs.Accepted.{cursorOf, recordMap, turnOf, placeOf, CauseFor, short-header, other-mark, groomer-count, slope-count, turn-count, no-map, wrong-map, short-fields, slope, groomer, time, worth, driver, bytes-behind, FirstCause, FirstAmong}
 use Rattle.refusal.proofs.Order.{first-same}
 
 other-mark-iff : {mark : List ℕ} → ThreeBytes mark → (s : List ℕ) → (not (opensWith mark s) ≡ true) ↔ (take 3 s ≢ mark)
@@ -142,7 +142,3 @@ refused-iff-for K mark s k z = first-same (causesFor K s) (CauseFor K s) (causes
 pub refused-iff : (s : List ℕ) (k : ℕ) → (k ≡ 0 → ⊥) → (firstOf (sheetCauses s) ≡ k) ↔ FirstCause s k
 unfolding sheetCauses
 refused-iff = refused-iff-for garage (garage-sound .mark)
-
-pub cause-there : (s : List ℕ) {k r : ℕ} → SheetCause s k r → There (sheetCauses s) k r
-unfolding sheetCauses
-cause-there s h = cause-there-for garage (garage-sound .mark) s h

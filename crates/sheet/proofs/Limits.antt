@@ -7,7 +7,6 @@ use native.Mathlib.Omega.{arith}
 use lib.ListN.{length, take, drop}
 use lib.Seq.{take-at, drop-at}
 use Rattle.refusal.specs.Number.{tooManyTurns, tooManyForScreen}
-use Rattle.refusal.specs.Cause.{firstOf}
 use Rattle.wire.specs.Number.{Bytes}
 use Rattle.turn.specs.Turn.{rowNumbers}
 use Rattle.sheet.specs.declared.kind.Kind.{Kind}
@@ -16,7 +15,7 @@ use Rattle.sheet.specs.Read.{turnCount, tableOf, causesFor, readCausesFo
 use Rattle.refusal.specs.Written.{atFront}
 use Rattle.sheet.specs.Promises.{ReadPromisedFor}
 use Rattle.sheet.specs.Accepted.{short-header, other-mark, groomer-count, slope-count, turn-count, no-map, wrong-map, short-fields, slope, groomer, time, worth, driver, bytes-behind, ReadCauseFor}
-use Rattle.sheet.proofs.Alike.{same-refusal, same-reading}
+use Rattle.sheet.proofs.Alike.{same-reading}
 use Rattle.sheet.proofs.SoundKinds.{garage-sound}
 use Rattle.sheet.proofs.Accepting.{read-accepted-iff-for}
 use Rattle.refusal.proofs.Order.{clear-append}
@@ -44,10 +43,6 @@ module _ (K : Kind) (m x n y : ℕ) (s : List ℕ) where
   pub within-both : turnCount s ≤ m → turnCount s ≤ n → (lent : List ℕ) → readFor (withTurns K m x) s lent ≡ readFor (withTurns K n y) s lent
   unfolding withTurns
   within-both h k lent = same-reading (withTurns K n y) m x s k h lent
-
-  refusal-within : turnCount s ≤ m → turnCount s ≤ n → firstOf (causesFor (withTurns K m x) s) ≡ firstOf (causesFor (withTurns K n y) s)
-  unfolding withTurns
-  refusal-within h k = same-refusal (withTurns K n y) m x s k h
 
   -- what a reader accepts has no more turns than its limit
   few-accepted : (k z : ℕ) → Sound (withTurns K k z) → (lent : List ℕ) → readFor (withTurns K k z) s lent .answer .refusal ≡ 0 → turnCount s ≤ k

@@ -7,28 +7,11 @@ use native.Mathlib.Omega.{arith}
 use native.Mathlib.Decide.{decLt}
 use lib.ListN.{length, getD, length-append}
 use Rattle.lists.specs.Lists.{All, none, more}
+use Rattle.lists.proofs.Sums.{all-append}
 use Rattle.text.specs.Decimal.{digit, decimal, numberFrom, Spells}
 use Rattle.text.proofs.Digits.{decimal-one, decimal-more}
 
--- ---- how many there are
-
-places : (f x : ℕ) → x < f → length (decimal x) ≤ x + 1
-places zero x h = absurd (omega arith)
-places (suc f) x h = go (decLt x 10) (λ l. places f (x / 10) (omega arith))
-  where
-    go : Dec (x < 10) → (10 ≤ x → length (decimal (x / 10)) ≤ x / 10 + 1) → length (decimal x) ≤ x + 1
-    go (yes l) ih = rw (decimal-one x l) (omega arith)
-    go (no l) ih = let m : 10 ≤ x = omega arith in rw (decimal-more x m) (omega (arith, ih m, length-append (decimal (x / 10)) (digit (x % 10) ∷ [])))
-
--- a number has no more digits than its size and one more
-pub decimal-length : (x : ℕ) → length (decimal x) ≤ x + 1
-decimal-length x = places (suc x) x (omega arith)
-
 -- ---- a character more at the end
-
-all-end : {P : ℕ → Type 0} {cs : List ℕ} {c : ℕ} → All P cs → P c → All P (cs ++ (c ∷ []))
-all-end none q = more q none
-all-end (more p h) q = more p (all-end h q)
 
 all-before : {P : ℕ → Type 0} (cs : List ℕ) (c : ℕ) → All P (cs ++ (c ∷ [])) → All P cs
 all-before [] c h = none
@@ -70,7 +53,7 @@ spelled (suc f) x h = go (decLt x 10) (λ l. spelled f (x / 10) (omega arith))
     go (no l) ih =
         let m : 10 ≤ x = omega arith in
         record {
-          digits = rw (decimal-more x m) (all-end {c = digit (x % 10)} (ih m .digits) (omega arith, omega arith));
+          digits = rw (decimal-more x m) (all-append (ih m .digits) (more {t = digit (x % 10)} (omega arith, omega arith) none));
           value = rw (decimal-more x m) (omega (arith, number-end 0 (decimal (x / 10)) (digit (x % 10)), ih m .value));
           short = inr (first-digit (suc f) x h (omega arith));
         }

@@ -11,7 +11,7 @@ use mir.Val.{Fits}
 use borrow.Author.Tests.{lt-ltb, le-ltb, ne-eqb}
 use Rattle.refusal.specs.Number.{badSeed}
 use Rattle.refusal.specs.Cause.{firstOf}
-use Rattle.refusal.specs.Written.{Written}
+use Rattle.refusal.specs.Written.{Written, writeRefused}
 use Rattle.refusal.proofs.Written.{kept-before}
 use Rattle.wire.specs.Number.{puts}
 use Rattle.wire.proofs.Puts.{puts-front}
@@ -28,7 +28,7 @@ use Rattle.lists.specs.Sorting.{sortBy}
 use Rattle.write_spec.specs.Write.{writtenTurns, tableCauses, writeOf, sheetWritten}
 use Rattle.write_spec.specs.Key.{keyOf, keysOf, turnsOfKeys, turnsByKey}
 use Rattle.write_spec.proofs.Writable.{table-sorted, write-clear}
-use Rattle.write_spec.specs.Answer.{written}
+use Rattle.refusal.specs.Outcome.{beside}
 use Rattle.trial.specs.declared.Drawn.{Drawn}
 use Rattle.trial_spec.specs.Draw.{drawFactor, drawModulus, mostDraw, nextDraw, drawNumber, drawnLength, lengthPlaces, drawnStarts, fromOne, turnDrawn, turnDraws, turnAfter, drawnTurns, drawnTable, Drawable}
 use Rattle.trial_spec.specs.Trial.{seedCauses, drawCauses, drawOf}
@@ -132,7 +132,7 @@ pub ruleset seed-cases = (seed-none, seed-large, seed-right)
 -- ---- the entry
 
 module _ (seed groomers slopes turns : ℕ) {f : ℕ} (e : f ≡ firstOf (seedCauses seed (countsOf groomers slopes) turns)) where
-  pub draw-refused : (lent : List ℕ) → (f ≡ 0 → ⊥) → written (record { refusal = f; bytes = 0 }) lent ≡ drawOf seed (countsOf groomers slopes) turns lent
+  pub draw-refused : (lent : List ℕ) → (f ≡ 0 → ⊥) → beside (writeRefused f) lent ≡ drawOf seed (countsOf groomers slopes) turns lent
   unfolding drawOf drawCauses
   draw-refused lent z = sym (kept-before (seedCauses seed (countsOf groomers slopes) turns) _ _ lent f (sym e) z)
 

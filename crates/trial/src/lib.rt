@@ -4,12 +4,12 @@ ghost use mathlib.Core.Path.{_≡_};
 ghost use Prim.Native.Nat.{_+_, _*_, _%_, _≤_, _<_};
 ghost use lib.ListN.{length};
 ghost use Rattle.refusal.specs.Cause.{firstOf};
+ghost use Rattle.refusal.specs.Outcome.{beside};
 ghost use Rattle.turn.specs.Turn.{countsOf};
 ghost use Rattle.sheet.specs.Kind.{garage, mostTurns};
 ghost use Rattle.sheet.specs.Accepted.{Legal};
 ghost use Rattle.write_spec.specs.Write.{writeOf};
 ghost use Rattle.write_spec.specs.Key.{keysOf};
-ghost use Rattle.write_spec.specs.Answer.{written};
 ghost use Rattle.trial_spec.specs.Draw.{drawModulus, lengthPlaces, nextDraw, drawNumber, drawnLength, fromOne, turnDrawn, turnDraws, turnAfter, drawnTurns, drawnTable, Drawable};
 ghost use Rattle.trial_spec.specs.Trial.{seedCauses, drawOf};
 use refusal::WriteAnswer;
@@ -154,7 +154,7 @@ fn write_drawn(
 ) -> WriteAnswer
     requires { ⌜ (n ≤ mostTurns) × (n ≤ length (now keys)) × (n ≤ length (now spare)) × Drawable seed × Legal garage counts n ⌝ }
     requires { ⌜ (1 ≤ counts .groomers) × (counts .groomers < 256) × (1 ≤ counts .slopes) × (counts .slopes < 256) ⌝ }
-    ensures { λ r. ⌜ written r (now (out .exit)) ≡ writeOf counts (drawnTable n counts seed) (now (out .entry)) ⌝ }
+    ensures { λ r. ⌜ beside r (now (out .exit)) ≡ writeOf counts (drawnTable n counts seed) (now (out .entry)) ⌝ }
 {
     let end = n as usize;
     let some = &mut keys[0..end];
@@ -178,7 +178,7 @@ fn seed_fault(seed: u64, groomers: u32, slopes: u32, turns: u32) -> u8
 
 // Draws turns from any seed with any counts, and writes their sheet into any lent bytes.
 pub fn draw(seed: u64, groomers: u32, slopes: u32, turns: u32, out: &mut [u8]) -> WriteAnswer
-    ensures { λ r. ⌜ written r (now (out .exit)) ≡ drawOf seed (countsOf groomers slopes) turns (now (out .entry)) ⌝ }
+    ensures { λ r. ⌜ beside r (now (out .exit)) ≡ drawOf seed (countsOf groomers slopes) turns (now (out .entry)) ⌝ }
 {
     let fault = seed_fault(seed, groomers, slopes, turns);
     if fault != 0 {

@@ -7,7 +7,7 @@ use native.Mathlib.Nat.{mod-lt, add-mul-mod-self-left}
 use lib.Dec.{ltb}
 use lib.ListN.{length, getD}
 use borrow.Author.Tests.{ltb-true, ltb-false, lt-ltb, le-ltb}
-use Rattle.lists.specs.Sorting.{AllOf}
+use Rattle.lists.specs.Lists.{All}
 use Rattle.turn.specs.declared.Turn.{Turn}
 use Rattle.turn.specs.declared.Counts.{Counts}
 use Rattle.turn.specs.Turn.{mostWorth, InRange}
@@ -128,11 +128,11 @@ module _ (counts : Counts) (g : 1 ≤ counts .groomers) (s : 1 ≤ counts .slope
         driver-to = omega arith;
       }
 
-  pub drawn-all : (n x : ℕ) → AllOf (InRange counts) (drawnTurns n counts x)
+  pub drawn-all : (n x : ℕ) → All (InRange counts) (drawnTurns n counts x)
   unfolding drawnTurns turnAfter
-  drawn-all zero x = AllOf.none
+  drawn-all zero x = All.none
   drawn-all (suc n) x =
-      AllOf.more (drawn-in-range _ _ _ _ _) (drawn-all n (drawNumber turnDraws x))
+      All.more (drawn-in-range _ _ _ _ _) (drawn-all n (drawNumber turnDraws x))
 
 -- ---- the turns: as many as asked for, and turn i is that of the draws 5 i + 1 to 5 i + 5
 

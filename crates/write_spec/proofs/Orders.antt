@@ -8,7 +8,8 @@ use native.Mathlib.Omega.{arith}
 use lib.Dec.{ltb, eqb}
 use lib.ListN.{length}
 use borrow.Author.Tests.{ltb-true, ltb-false, eqb-true, eqb-false, lt-ltb, eq-eqb, ne-eqb}
-use Rattle.lists.specs.Sorting.{insertBy, sortBy, Sameness, TotalOrder, InOrder, AllOf}
+use Rattle.lists.specs.Lists.{All}
+use Rattle.lists.specs.Sorting.{insertBy, sortBy, Sameness, TotalOrder, InOrder}
 use Rattle.lists.proofs.Sorted.{sort-length, sort-as-often, sort-in-order, sort-unique, sort-same, sort-sorted}
 use Rattle.turn.specs.declared.Turn.{Turn}
 use Rattle.write_spec.specs.Order.{numbersAtMost, sameNumbers, orderOf, turnAtMost, sameTurn, sortedTurns, SameTurns, InWrittenOrder}
@@ -122,16 +123,16 @@ sorted-twice ts = sorted-stay (sortedTurns ts) (sorted-order ts .in-order)
 
 -- what holds of all sorted turns holds of all
 module _ {A : Type 0} (le : A → A → Bool) (P : A → Type 0) where
-  inserted-all : (x : A) (ys : List A) → AllOf P (insertBy le x ys) → P x × AllOf P ys
+  inserted-all : (x : A) (ys : List A) → All P (insertBy le x ys) → P x × All P ys
   unfolding insertBy
-  inserted-all x [] (AllOf.more p ps) = (p, ps)
+  inserted-all x [] (All.more p ps) = (p, ps)
   inserted-all x (y ∷ ys) all = go (le x y) all (inserted-all x ys)
     where
-      go : (b : Bool) → AllOf P (cond b (x ∷ y ∷ ys) (y ∷ insertBy le x ys)) → (AllOf P (insertBy le x ys) → P x × AllOf P ys) → P x × AllOf P (y ∷ ys)
-      go true (AllOf.more p ps) ih = (p, ps)
-      go false (AllOf.more q qs) ih = let r = ih qs in (r .0, AllOf.more q (r .1))
+      go : (b : Bool) → All P (cond b (x ∷ y ∷ ys) (y ∷ insertBy le x ys)) → (All P (insertBy le x ys) → P x × All P ys) → P x × All P (y ∷ ys)
+      go true (All.more p ps) ih = (p, ps)
+      go false (All.more q qs) ih = let r = ih qs in (r .0, All.more q (r .1))
 
-  pub unsorted-all : (xs : List A) → AllOf P (sortBy le xs) → AllOf P xs
+  pub unsorted-all : (xs : List A) → All P (sortBy le xs) → All P xs
   unfolding sortBy
-  unsorted-all [] all = AllOf.none
-  unsorted-all (x ∷ xs) all = let r = inserted-all x (sortBy le xs) all in AllOf.more (r .0) (unsorted-all xs (r .1))
+  unsorted-all [] all = All.none
+  unsorted-all (x ∷ xs) all = let r = inserted-all x (sortBy le xs) all in All.more (r .0) (unsorted-all xs (r .1))

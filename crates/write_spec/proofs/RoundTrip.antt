@@ -8,7 +8,8 @@ use lib.ListN.{length, take}
 use lib.Seq.{take-append-seam}
 use lib.Dec.{eqb, ltb}
 use borrow.Author.Tests.{le-ltb, eq-eqb}
-use Rattle.lists.specs.Sorting.{InOrder, AllOf}
+use Rattle.lists.specs.Lists.{All}
+use Rattle.lists.specs.Sorting.{InOrder}
 use Rattle.lists.proofs.Sorted.{sort-all}
 use Rattle.refusal.specs.Number.{bufferTooSmall}
 use Rattle.refusal.specs.Cause.{_when_, firstOf}
@@ -35,7 +36,7 @@ use Rattle.sheet.proofs.Accepting.{sheet-reads}
 use Rattle.write_spec.specs.Order.{turnAtMost, sortedTurns, SameTurns, InWrittenOrder}
 use Rattle.write_spec.specs.Write.{mapFor, recordsOf, allRecords, sheetOf, writtenTurns, turnsCauses, tableCauses, writeCauses, writeOf}
 use Rattle.write_spec.proofs.WriteMaps.{map-good, map-below, map-carries}
-use Rattle.write_spec.proofs.Orders.{sorted-length, sorted-iff, sorted-order, sorted-same, sorted-stay, sorted-twice, unsorted-all}
+use Rattle.write_spec.proofs.Orders.{sorted-length, sorted-iff, sorted-same, sorted-stay, sorted-twice, unsorted-all}
 use Rattle.write_spec.proofs.Writable.{Writable, table-writable, table-numbered, fine-all, all-fine, write-clear}
 use Rattle.write_spec.proofs.Shortest.{shortest, shortest-only}
 use Rattle.refusal.specs.Outcome.{beside, unless}
@@ -43,10 +44,10 @@ use Rattle.refusal.proofs.Outcome.{enough-iff}
 
 -- ---- what is written is a sheet of these turns
 
-records-written : (counts : Counts) (first : Bool) (p : Turn) {ts : List Turn} → AllOf (InRange counts) ts → Records garage counts first p (recordsOf first p ts) ts
+records-written : (counts : Counts) (first : Bool) (p : Turn) {ts : List Turn} → All (InRange counts) ts → Records garage counts first p (recordsOf first p ts) ts
 unfolding recordsOf
-records-written counts first p AllOf.none = accepted.Records.none
-records-written counts first p (AllOf.more {x = t} r rs) = accepted.Records.more (map-good first p t) (map-carries first p t) r (records-written counts false t rs)
+records-written counts first p All.none = accepted.Records.none
+records-written counts first p (All.more {t = t} r rs) = accepted.Records.more (map-good first p t) (map-carries first p t) r (records-written counts false t rs)
 
 pub sheet-for : (counts : Counts) (ts : List Turn) → Legal garage counts (length ts) → firstOf (turnsCauses (garage .refusals) counts ts) ≡ 0 → SheetFor garage (sheetOf counts ts) counts ts
 unfolding sheetOf garage
@@ -166,10 +167,6 @@ write-then-read counts table out lent e l =
     let a = write-accepts counts table out e in
     rw (writing counts table out (a .0) (a .1), take-append-seam) (sheet-back counts table lent (a .0) l)
 
--- the turns of the table so read are those of the table that was written, each as often, in the written order
-pub read-in-order : (table : List ℕ) → InWrittenOrder (tableTurns table) (tableTurns (rows (writtenTurns table)))
-read-in-order table = rw (turns-rows (writtenTurns table)) (sorted-order (tableTurns table))
-
 -- ---- a sheet that was read, written again
 
 pub writable-table : (counts : Counts) (table : List ℕ) → Writable counts table → firstOf (tableCauses counts table) ≡ 0
@@ -178,9 +175,9 @@ writable-table counts table s =
     let n = counts-numbered garage counts (tableRows table) (garage-sound .numbers) in
     rw (eq-eqb (length table % rowNumbers) 0 (s .whole)) (first-goes (countCauses garage counts (tableRows table)) _ n (legal-counts garage counts (tableRows table) (s .legal)) ∙ s .fine)
 
-records-in-range : {limits : Counts} {first : Bool} {p : Turn} {bytes : List ℕ} {ts : List Turn} → Records garage limits first p bytes ts → AllOf (InRange limits) ts
-records-in-range accepted.Records.none = AllOf.none
-records-in-range (accepted.Records.more map kept fits r) = AllOf.more fits (records-in-range r)
+records-in-range : {limits : Counts} {first : Bool} {p : Turn} {bytes : List ℕ} {ts : List Turn} → Records garage limits first p bytes ts → All (InRange limits) ts
+records-in-range accepted.Records.none = All.none
+records-in-range (accepted.Records.more map kept fits r) = All.more fits (records-in-range r)
 
 -- the table of a sheet of these counts and turns is one that the writer accepts
 sheet-table : {s : List ℕ} {counts : Counts} {ts : List Turn} → SheetFor garage s counts ts → firstOf (tableCauses counts (rows ts)) ≡ 0
@@ -222,7 +219,7 @@ one-sheet counts a b out same whole e =
     let s = table-writable counts a e in
     let t : writtenTurns a ≡ writtenTurns b = sorted-same (tableTurns a) (tableTurns b) same in
     let n : tableRows b ≡ tableRows a = sym (table-turns-length (tableRows b) b 0) ∙ sym (sorted-length (tableTurns b)) ∙ sym (ap length t) ∙ sorted-length (tableTurns a) ∙ table-turns-length (tableRows a) a 0 in
-    let all : AllOf (InRange counts) (writtenTurns b) = subst (AllOf (InRange counts)) t (sort-all turnAtMost (InRange counts) (fine-all counts (tableTurns a) (s .fine))) in
+    let all : All (InRange counts) (writtenTurns b) = subst (All (InRange counts)) t (sort-all turnAtMost (InRange counts) (fine-all counts (tableTurns a) (s .fine))) in
     let z = writable-table counts b (record { whole = whole; legal = rw n (s .legal); fine = all-fine counts (unsorted-all turnAtMost (InRange counts) (tableTurns b) all) }) in
     write-clear counts b out z ∙ rw (← t) (sym (write-clear counts a out e))
 

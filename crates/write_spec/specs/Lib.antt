@@ -3,4 +3,3 @@ pub mod Write
 pub mod Key
 pub mod WriteCause
 pub mod Promises
-pub mod Answer
