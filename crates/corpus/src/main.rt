@@ -3,9 +3,9 @@
 // the lines that must come are made by the independent Rust version: the head of
 // reference/src/bin/corpus.rs says how a case is laid out.
 //
-// It is proved that each case runs safely to its end, and that the values of its line and what was lent
-// are those of the entry's definition (entries.rt). No contract can say what is printed: the lines are held
-// to the file stdout.
+// It is proved that each case runs safely to its end, and of each function in entries.rt that what its line
+// says and what was lent are given by the entry's definition. Which of them a case calls, with which part of
+// its input, no contract says, and none can say what is printed: the lines are held to the file stdout.
 //
 // A further entry is an arm of run_entry, a function in entries.rt and a line in specs/Line.
 ghost use Prim.Native.Nat.{_≤_};
