@@ -3,17 +3,19 @@
 // the lines that must come are made by the independent Rust version: the head of
 // reference/src/bin/corpus.rs says how a case is laid out.
 //
-// No contract can say what is printed. It is proved that each case runs safely to its end; what the
-// entries return is in their own contracts; and the lines are held to the file stdout.
+// It is proved that each case runs safely to its end, and of each function in entries.rt that what its line
+// says and what was lent are given by the entry's definition. Which of them a case calls, with which part of
+// its input, no contract says, and none can say what is printed: the lines are held to the file stdout.
 //
-// A further entry is an arm of run_entry, and a function in entries.rt.
+// A further entry is an arm of run_entry, a function in entries.rt and a line in specs/Line.
 ghost use Prim.Native.Nat.{_≤_};
 ghost use lib.ListN.{length};
 
 mod entries;
-mod print;
 
+use entries::Line;
 use libc::STDIN_FILENO;
+use libc::STDOUT_FILENO;
 
 // Bytes before a case's name.
 const HEAD: usize = 10;
@@ -28,8 +30,11 @@ const NUMBER_BEFORE: u16 = 42405;
 
 const BYTE_BEFORE: u8 = 165;
 
-// Calls the entry, which prints what it returns.
-fn run_entry(entry: u8, front: &[u8], rest: &[u8], numbers: &mut [u16], bytes: &mut [u8]) {
+// The number of the entry whose line has the steps of a board too.
+const OPEN: u8 = 4;
+
+// Calls the entry; what its line says.
+fn run_entry(entry: u8, front: &[u8], rest: &[u8], numbers: &mut [u16], bytes: &mut [u8]) -> Line {
     match entry {
         1 => entries::read(front, &mut *numbers),
         2 => entries::write(front, rest, &mut *bytes),
@@ -45,7 +50,83 @@ fn run_entry(entry: u8, front: &[u8], rest: &[u8], numbers: &mut [u16], bytes: &
         14 => entries::keep(front, &mut *bytes),
         15 => entries::restore(front, &mut *bytes),
         17 => entries::charge(front, &mut *bytes),
-        _ => {}
+        _ => Line::Nothing,
+    }
+}
+
+fn text(bytes: &[u8]) {
+    io::write_all(STDOUT_FILENO, bytes);
+}
+
+// A value, with a space before it.
+fn value(x: u64) {
+    text(b" ");
+    io::print_decimal(STDOUT_FILENO, x);
+}
+
+// A refusal, and the value that comes with it.
+fn pair(refusal: u8, x: u64) {
+    value(refusal as u64);
+    value(x);
+}
+
+fn print(line: Line) {
+    match line {
+        Line::Nothing => {}
+        Line::One(refusal, a) => pair(refusal, a),
+        Line::Two(refusal, a, b) => {
+            pair(refusal, a);
+            value(b);
+        }
+        Line::Three(refusal, a, b, c) => {
+            pair(refusal, a);
+            value(b);
+            value(c);
+        }
+        Line::Four(refusal, a, b, c, d) => {
+            pair(refusal, a);
+            value(b);
+            value(c);
+            value(d);
+        }
+    }
+}
+
+fn number(x: u16) {
+    value(x as u64);
+}
+
+// A byte in hexadecimal, with a space before it.
+fn byte(x: u8) {
+    text(b" ");
+    io::print_hex(STDOUT_FILENO, x as u64, 2);
+}
+
+// Numbers behind a bar.
+fn print_numbers(numbers: &[u16]) {
+    text(b" |");
+    let mut i = 0;
+    while i < numbers.len() {
+        number(numbers[i]);
+        i += 1;
+    }
+}
+
+// Bytes behind a bar.
+fn print_bytes(bytes: &[u8]) {
+    text(b" |");
+    let mut i = 0;
+    while i < bytes.len() {
+        byte(bytes[i]);
+        i += 1;
+    }
+}
+
+// What the entry's line says, and the steps of a board where it was opened.
+fn print_call(entry: u8, front: &[u8], rest: &[u8], numbers: &mut [u16], bytes: &mut [u8]) {
+    print(run_entry(entry, front, rest, &mut *numbers, &mut *bytes));
+    if entry == OPEN {
+        print_bytes(board_open::steps(front));
     }
 }
 
@@ -67,17 +148,17 @@ fn print_line(
 )
     requires { ⌜ cut ≤ length (now input) ⌝ }
 {
-    print::text(name);
-    run_entry(
+    text(name);
+    print_call(
         entry,
         &input[..cut],
         &input[cut..],
         &mut *numbers,
         &mut *bytes,
     );
-    print::numbers(&*numbers);
-    print::bytes(&*bytes);
-    print::text(b"\n");
+    print_numbers(&*numbers);
+    print_bytes(&*bytes);
+    text(b"\n");
 }
 
 // Runs a case, which is lent so many of the numbers and bytes here; false where it asks for more.

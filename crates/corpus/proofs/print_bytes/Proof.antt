@@ -1,25 +1,24 @@
--- Invariant: i is within the numbers. Measure: the numbers left.
+-- Invariant: i is within the bytes. Measure: the bytes left.
 use Prim.Native.Nat.{_-_, _≤_}
 use lib.ListN.{length}
 use borrow.Author.Needs.{needs}
-use Rattle.corpus.proofs.print.numbers.Statement.{statement}
-use Rattle.corpus.proofs.print.numbers.Tie as tie
+use Rattle.corpus.proofs.print_bytes.Statement.{statement}
+use Rattle.corpus.proofs.print_bytes.Tie as tie
 
 abbrev Inv-loop : tie.InvT-loop
-Inv-loop numbers i₀ i = i ≤ length numbers
+Inv-loop bytes i₀ i = i ≤ length bytes
 
 abbrev μ-loop : tie.MeasureT-loop
-μ-loop numbers i₀ i = length numbers - i
+μ-loop bytes i₀ i = length bytes - i
 
-pub numbers-spec : {M : Type 1} → statement M
-numbers-spec =
+pub print-bytes-spec : {M : Type 1} → statement M
+print-bytes-spec =
     tie.close
     (tie.spec
     Inv-loop
     μ-loop
     (λ c. search needs)
     (λ c κs. search needs)
-    (λ c. search needs)
     (λ c. search needs)
     (λ c. search needs)
     (λ c κs. search needs)

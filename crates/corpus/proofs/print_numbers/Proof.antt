@@ -1,24 +1,25 @@
--- Invariant: i is within the bytes. Measure: the bytes left.
+-- Invariant: i is within the numbers. Measure: the numbers left.
 use Prim.Native.Nat.{_-_, _≤_}
 use lib.ListN.{length}
 use borrow.Author.Needs.{needs}
-use Rattle.corpus.proofs.print.bytes.Statement.{statement}
-use Rattle.corpus.proofs.print.bytes.Tie as tie
+use Rattle.corpus.proofs.print_numbers.Statement.{statement}
+use Rattle.corpus.proofs.print_numbers.Tie as tie
 
 abbrev Inv-loop : tie.InvT-loop
-Inv-loop bytes i₀ i = i ≤ length bytes
+Inv-loop numbers i₀ i = i ≤ length numbers
 
 abbrev μ-loop : tie.MeasureT-loop
-μ-loop bytes i₀ i = length bytes - i
+μ-loop numbers i₀ i = length numbers - i
 
-pub bytes-spec : {M : Type 1} → statement M
-bytes-spec =
+pub print-numbers-spec : {M : Type 1} → statement M
+print-numbers-spec =
     tie.close
     (tie.spec
     Inv-loop
     μ-loop
     (λ c. search needs)
     (λ c κs. search needs)
+    (λ c. search needs)
     (λ c. search needs)
     (λ c. search needs)
     (λ c κs. search needs)

@@ -1,0 +1,7 @@
+use Rattle.corpus.proofs.LineCases.{asked-cases}
+use borrow.Author.Needs.{needs}
+use Rattle.corpus.proofs.entries.asked.Statement.{statement}
+use Rattle.corpus.proofs.entries.asked.Tie as tie
+
+pub asked-spec : {M : Type 1} → statement M
+asked-spec = tie.close (tie.spec (λ c. search asked-cases) (λ c κs. search needs) (λ c. search asked-cases))

@@ -1,0 +1,7 @@
+use Rattle.corpus.proofs.LineCases.{line-cases}
+use borrow.Author.Needs.{needs}
+use Rattle.corpus.proofs.entries.plan.Statement.{statement}
+use Rattle.corpus.proofs.entries.plan.Tie as tie
+
+pub plan-spec : {M : Type 1} → statement M
+plan-spec = tie.close (tie.spec (λ c κs. search needs) (λ c. search needs) (λ c. search needs) (λ c. search line-cases))
