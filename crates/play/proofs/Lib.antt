@@ -1,3 +1,4 @@
 pub mod Again
 pub mod Whole
 pub mod Answers
+pub mod Packed

@@ -12,11 +12,12 @@ ghost use Rattle.instance_spec.specs.Problem.{shiftGap};
 ghost use Rattle.board.specs.Board.{boardTurns, boardChoice};
 ghost use Rattle.board_open.specs.Open.{malformed};
 ghost use Rattle.check_spec.specs.Check.{boardCauses};
-ghost use Rattle.play_spec.specs.DayTable.{dayTablePlaces};
-ghost use Rattle.play_spec.specs.Standing.{freshOf};
+ghost use Rattle.play_spec.specs.DayTable.{dayTablePlaces, doingBy};
+ghost use Rattle.play_spec.specs.Standing.{freshOf, movedBy, totalOf};
 ghost use Rattle.play_spec.specs.Play.{servesFor, lentCauses, played, playOf};
 ghost use Rattle.play_spec.specs.Minutes.{begunOf, stepOf, minuteOf, minutesFrom, MinuteReady, AllReady};
 ghost use Rattle.play_days.specs.Table.{blankTable, GroomersKnown, Playable};
+ghost use Rattle.play.specs.Packed.{addedBy, mostAdded};
 ghost use Rattle.play.specs.Prepared.{PreparedBy, PreparedFor};
 use instance::PLACES;
 use instance::Size;
@@ -25,6 +26,7 @@ use play_days::MINUTES;
 use play_days::OVER_MINUTES;
 use play_spec::PlayAnswer;
 use play_spec::Standing;
+use play_spec::Stint;
 
 // What is known before the first minute: the answer, and how many standings are moved.
 pub struct Prepared {
@@ -41,6 +43,16 @@ pub struct Lent {
 
 // The turn in hand where none is.
 const NO_TURN: u16 = 65535;
+
+// A standing packed into one number of 64 bits: the minutes worked count from 1, the others and the turn in hand
+// from these on.
+const DRIVING_UNIT: u64 = 65536;
+
+const STANDING_UNIT: u64 = 4294967296;
+
+const TURN_UNIT: u64 = 281474976710656;
+
+const NONE_IN_HAND: u64 = NO_TURN as u64 * TURN_UNIT;
 
 // Before the first minute.
 fn fresh() -> Standing
@@ -64,6 +76,38 @@ fn begun(s: Standing, m: u16) -> Standing
     s
 }
 
+// What minute m of a stint adds to a packed standing: one to a count, and the turn in hand. The stint comes as
+// its numbers: read before the tests, they leave the compiled code without a branch.
+fn added(turn: u16, begin: u16, end: u16, m: u16) -> u64
+    ensures { λ r. ⌜ (r ≡ addedBy (doingBy (record { turn = turn; begin = begin; end = end }) m)) × (r ≤ mostAdded) ⌝ }
+{
+    let worked = 1 + turn as u64 * TURN_UNIT;
+    if m < begin {
+        return STANDING_UNIT + NONE_IN_HAND;
+    }
+    if m < end {
+        return worked;
+    }
+    DRIVING_UNIT + NONE_IN_HAND
+}
+
+// A minute later. The counts are packed into one number, so that the minute is one sum.
+fn moved(b: Standing, k: Stint, m: u16) -> Standing
+    requires { ⌜ totalOf b < shiftMinutes ⌝ }
+    ensures { λ r. ⌜ r ≡ movedBy b (doingBy k m) ⌝ }
+{
+    let counts = b.working as u64
+        + b.driving as u64 * DRIVING_UNIT
+        + b.standing as u64 * STANDING_UNIT;
+    let x = counts + added(k.turn, k.begin, k.end, m);
+    Standing {
+        working: (x % DRIVING_UNIT) as u16,
+        driving: (x / DRIVING_UNIT % DRIVING_UNIT) as u16,
+        standing: (x / STANDING_UNIT % DRIVING_UNIT) as u16,
+        turn: (x / TURN_UNIT) as u16,
+    }
+}
+
 // A minute of the groomer at place g. By its minutes of driving over it is known how many stints it has
 // behind it, and so which one is in hand or next.
 pub fn step(s: Standing, table: &[u16], g: usize, m: u16) -> Standing
@@ -72,28 +116,7 @@ pub fn step(s: Standing, table: &[u16], g: usize, m: u16) -> Standing
 {
     let b = begun(s, m);
     let k = play_days::stint_in(table, g, (b.driving / OVER_MINUTES) as usize);
-    if m < k.begin {
-        return Standing {
-            working: b.working,
-            driving: b.driving,
-            standing: b.standing + 1,
-            turn: NO_TURN,
-        };
-    }
-    if m < k.end {
-        return Standing {
-            working: b.working + 1,
-            driving: b.driving,
-            standing: b.standing,
-            turn: k.turn,
-        };
-    }
-    Standing {
-        working: b.working,
-        driving: b.driving + 1,
-        standing: b.standing,
-        turn: NO_TURN,
-    }
+    moved(b, k, m)
 }
 
 // A minute of the first n groomers, in the caller's list.

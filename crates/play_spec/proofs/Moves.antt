@@ -9,14 +9,14 @@ use mathlib.Core.Logic.{_⊎_, inl, inr}
 use lib.Dec.{T, eqb, eqb→eq}
 use lib.ListN.{length, set, getD, length-set}
 use lib.Seq.{getD-set-same, getD-set-other}
-use borrow.Author.Tests.{eq-eqb, ne-eqb, lt-ltb, le-ltb}
+use borrow.Author.Tests.{eq-eqb, ne-eqb}
 use Rattle.turn.specs.Turn.{shiftMinutes}
 use Rattle.sheet.specs.Kind.{mostGroomers}
 use Rattle.play_spec.specs.declared.Stint.{Stint}
 use Rattle.play_spec.specs.Day.{overMinutes}
 use Rattle.play_spec.specs.DayTable.{dayRows, dayTablePlaces, stintIn, doingBy}
 use Rattle.play_spec.specs.declared.Standing.{Standing}
-use Rattle.play_spec.specs.Standing.{noTurnInHand, freshOf, movedBy, totalOf}
+use Rattle.play_spec.specs.Standing.{freshOf, movedBy, totalOf}
 use Rattle.play_spec.proofs.Standings.{moved-total}
 use Rattle.play_spec.specs.Minutes.{begunOf, stepOf, minuteOf, minutesFrom, MinuteReady, AllReady}
 
@@ -35,46 +35,19 @@ begun-later s m e = rw (ne-eqb m 0 e)
 
 pub ruleset begun-cases = (begun-anew, begun-later)
 
-moved-stands : (b : Standing) (k : Stint) (m : ℕ) → m < k .begin → record { working = b .working; driving = b .driving; standing = b .standing + 1; turn = noTurnInHand } ≡ movedBy b (doingBy k m)
-unfolding movedBy doingBy
-moved-stands b k m l = rw (lt-ltb m (k .begin) l)
-
-moved-works : (b : Standing) (k : Stint) (m : ℕ) → k .begin ≤ m → m < k .end → record { working = b .working + 1; driving = b .driving; standing = b .standing; turn = k .turn } ≡ movedBy b (doingBy k m)
-unfolding movedBy doingBy
-moved-works b k m a l = rw (le-ltb m (k .begin) a, lt-ltb m (k .end) l)
-
-moved-drives : (b : Standing) (k : Stint) (m : ℕ) → k .begin ≤ m → k .end ≤ m → record { working = b .working; driving = b .driving + 1; standing = b .standing; turn = noTurnInHand } ≡ movedBy b (doingBy k m)
-unfolding movedBy doingBy
-moved-drives b k m a l = rw (le-ltb m (k .begin) a, le-ltb m (k .end) l)
-
-module _ (b s : Standing) (table : List ℕ) (g m : ℕ) {k : Stint} (e : b ≡ begunOf s m) (f : k ≡ stintIn table g (b .driving / overMinutes)) where
-  is-step : movedBy b (doingBy k m) ≡ stepOf s table g m
-  unfolding stepOf
-  is-step = let q : k ≡ stintIn table g (begunOf s m .driving / overMinutes) = f ∙ ap (λ (x : Standing). stintIn table g (x .driving / overMinutes)) e in λ i. movedBy (e i) (doingBy (q i) m)
-
-  pub step-stands : m < k .begin → record { working = b .working; driving = b .driving; standing = b .standing + 1; turn = noTurnInHand } ≡ stepOf s table g m
-  step-stands l = moved-stands b k m l ∙ is-step
-
-  pub step-works : k .begin ≤ m → m < k .end → record { working = b .working + 1; driving = b .driving; standing = b .standing; turn = k .turn } ≡ stepOf s table g m
-  step-works a l = moved-works b k m a l ∙ is-step
-
-  pub step-drives : k .begin ≤ m → k .end ≤ m → record { working = b .working; driving = b .driving + 1; standing = b .standing; turn = noTurnInHand } ≡ stepOf s table g m
-  step-drives a l = moved-drives b k m a l ∙ is-step
+pub step-is : (b s : Standing) (table : List ℕ) (g m : ℕ) {k : Stint} {r : Standing} → b ≡ begunOf s m → k ≡ stintIn table g (b .driving / overMinutes) → r ≡ movedBy b (doingBy k m) → r ≡ stepOf s table g m
+unfolding stepOf
+step-is b s table g m {k} e f h =
+    let q : k ≡ stintIn table g (begunOf s m .driving / overMinutes) = f ∙ ap (λ (x : Standing). stintIn table g (x .driving / overMinutes)) e in h ∙ (λ i. movedBy (e i) (doingBy (q i) m))
 
 -- ---- a step has room
 
 module _ (b s : Standing) (table : List ℕ) (g m : ℕ) (e : b ≡ begunOf s m) (r : MinuteReady table g m s) where
-  total-is : b .working + b .driving + b .standing ≡ m
+  total-is : totalOf b ≡ m
   total-is = ap totalOf e ∙ r .3
 
-  pub working-room : b .working + 1 < 65536
-  working-room = omega (arith, total-is, r .2)
-
-  pub driving-room : b .driving + 1 < 65536
-  driving-room = omega (arith, total-is, r .2)
-
-  pub standing-room : b .standing + 1 < 65536
-  standing-room = omega (arith, total-is, r .2)
+  pub minute-room : totalOf b < shiftMinutes
+  minute-room = omega (arith, total-is, r .2)
 
   pub row-room : b .driving / overMinutes < dayRows
   row-room = omega (arith, total-is, r .2)
@@ -88,7 +61,7 @@ table-room s table g m r = r .0
 pub groomer-room : (s : Standing) (table : List ℕ) (g m : ℕ) → MinuteReady table g m s → g < mostGroomers
 groomer-room s table g m r = r .1
 
-pub ruleset step-cases = (step-stands, step-works, step-drives, working-room, driving-room, standing-room, row-room, row-fits, table-room, groomer-room)
+pub ruleset step-cases = (step-is, minute-room, row-room, row-fits, table-room, groomer-room)
 
 -- ---- a step makes one more minute
 

@@ -1,0 +1,23 @@
+use Rattle.play.proofs.Packed.{sum-is}
+use borrow.Author.Needs.{needs}
+use Rattle.play.proofs.moved.Statement.{statement}
+use Rattle.play.proofs.moved.Tie as tie
+
+pub moved-spec : {M : Type 1} → statement M
+moved-spec =
+    tie.close
+    (tie.spec
+    (λ c. search needs)
+    (λ c. search needs)
+    (λ c. search needs)
+    (λ c. search needs)
+    (λ c. search needs)
+    (λ c. search needs)
+    (λ c. search needs)
+    (λ c κs. search needs)
+    (λ c. search needs)
+    (λ c. search needs)
+    (λ c. search needs)
+    (λ c. search needs)
+    (λ c. search needs)
+    (λ c. search (needs, sum-is)))
