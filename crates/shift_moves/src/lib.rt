@@ -100,25 +100,34 @@ fn move_price(change: u32, payers: u16, prices: &mut [u16], i: usize)
     prices[i] = moved_price(change, payers, price);
 }
 
-// One payer more at place k.
-fn add_payer(payers: &mut [u16; PAYERS], k: usize)
-    requires { ⌜ (k ≤ mostTurns) × (getD (now payers) k 0 < mostTurns) ⌝ }
-    ensures { λ _. ⌜ now (payers .exit) ≡ set (now (payers .entry)) k (getD (now (payers .entry)) k 0 + 1) ⌝ }
+// 1 for a turn that is chosen, else 0.
+fn one_if(chosen: bool) -> u16
+    ensures { λ r. ⌜ (r ≡ cond chosen 1 0) × (r ≤ 1) ⌝ }
 {
-    let x = payers[k];
-    payers[k] = x + 1;
+    if chosen { 1 } else { 0 }
 }
 
-// For each number, how many turns of the relaxed set have it in the column that starts at a place.
+// One payer more at place k, or none.
+fn add_payer(payers: &mut [u16; PAYERS], k: usize, more: u16)
+    requires { ⌜ (k ≤ mostTurns) × (getD (now payers) k 0 < mostTurns) × (more ≤ 1) ⌝ }
+    ensures { λ _. ⌜ now (payers .exit) ≡ set (now (payers .entry)) k (getD (now (payers .entry)) k 0 + more) ⌝ }
+{
+    let x = payers[k];
+    payers[k] = x + more;
+}
+
+// For each number, how many turns of the relaxed set have it in the column that starts at a place. Each turn adds 1
+// or 0: a branch per turn would be mispredicted.
 fn count_numbers(n: usize, relaxed: &[u8], numbers: &[u16], at: usize, times: &mut [u16; PAYERS])
     requires { ⌜ Clean n (now relaxed) × SmallNumbers n (now numbers) at × (now times ≡ replicate payerPlaces 0) ⌝ }
     ensures { λ _. ⌜ Times n (choiceIn n (now (relaxed .entry))) (numberBehind (now (numbers .entry)) at) (now (times .exit)) ⌝ }
 {
-    let mut t = choice_map::next_chosen(relaxed, 0);
+    let mut t = 0;
     while t < n {
         let k = as_place(numbers[at + t]);
-        add_payer(&mut *times, k);
-        t = choice_map::next_chosen(relaxed, t + 1);
+        let more = one_if(choice_map::is_chosen(relaxed, t));
+        add_payer(&mut *times, k, more);
+        t += 1;
     }
 }
 
