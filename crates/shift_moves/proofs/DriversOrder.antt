@@ -9,11 +9,11 @@ use native.Mathlib.Decide.{ℕ-discrete}
 use lib.Dec.{ltb, leb, eqb}
 use lib.ListN.{length, getD}
 use borrow.Author.Tests.{ltb-true, lt-ltb, leb-true, le-leb, eq-eqb, ne-eqb}
-use Rattle.lists.specs.Lists.{sum, All, none, more}
+use Rattle.lists.specs.Lists.{sum, below, All, none, more}
 use Rattle.lists.proofs.Bools.{and-1, and-2, fails, not-both}
-use Rattle.lists.proofs.Sums.{sum-same, sum-point}
+use Rattle.lists.proofs.Sums.{sum-zero, sum-same, sum-point, all-of}
 use Rattle.sheet.specs.Kind.{mostTurns}
-use Rattle.model.specs.Turns.{Turns}
+use Rattle.model.specs.Turns.{Turns, oneDriver, byDriver}
 use Rattle.model.specs.Choice.{has, chosen}
 use Rattle.instance.specs.Columns.{turnsBy}
 use Rattle.best_spec.specs.Table.{turnOrder}
@@ -24,6 +24,7 @@ use Rattle.prices.specs.declared.Extent.{Extent}
 use Rattle.prices.specs.Held.{byDrivers, turnsIn, driverPlace, paidFrom, paidTo, Ordered, Priced}
 use Rattle.refine_spec.specs.Shift.{turnPayers}
 use Rattle.shift_moves.specs.Moves.{payersBefore, PaidRuns, EachOnce}
+use Rattle.shift_moves.proofs.PayerCases.{no-zero}
 
 -- ---- an order of all turns
 
@@ -95,6 +96,16 @@ module _ (T : Turns) (orders : List ℕ) (o : Ordered T orders) where
   unfolding payersBefore turnPayers chosen
   payers-are S j h = sum-same (λ t. cond (has S t) (cond (ltb (paidFrom orders t) (j + 1) && leb (j + 1) (paidTo orders t)) 1 0) 0) (λ t. cond (has S t) (cond (paysTurn T (driverPlace orders j) t) 1 0) 0) (T .count)
       (λ t l. ap (λ (b : Bool). cond (has S t) (cond b 1 0) 0) (in-run j t h l))
+
+-- ---- without drivers
+
+-- no turn pays the price of one that names no driver
+pub no-payers : (T : Turns) (S : List Bool) (u : ℕ) → T .driver u ≡ 0 → turnPayers T S u ≡ 0
+unfolding turnPayers chosen paysTurn byDriver oneDriver
+no-payers T S u e = sum-zero (λ t. cond (has S t) (cond (paysTurn T u t) 1 0) 0) (all-of (λ t. rw (unpaid t) (no-zero (has S t))) (below (T .count)))
+  where
+    unpaid : (t : ℕ) → paysTurn T u t ≡ false
+    unpaid t = rw e
 
 -- ---- as the code leaves it
 

@@ -1,3 +1,3 @@
-pub mod DriversOrder
 pub mod PayerCases
+pub mod DriversOrder
 pub mod MoveCases

@@ -17,18 +17,19 @@ use Rattle.lists.specs.Lists.{tab}
 use Rattle.lists.proofs.Sums.{sum-same, tab-length, tab-at}
 use Rattle.turn.specs.Turn.{mostWorth}
 use Rattle.sheet.specs.Kind.{mostTurns, mostSlopes}
-use Rattle.model.specs.Turns.{Turns}
+use Rattle.model.specs.Turns.{Turns, NoDrivers}
 use Rattle.model.specs.Choice.{has, chosen}
 use Rattle.choice_map.specs.Choice.{choiceIn}
 use Rattle.instance.specs.Columns.{rowIn, turnsBy}
 use Rattle.instance.proofs.Rows.{count-is, slope-at}
 use Rattle.price_spec.specs.Prices.{slopePrice, turnPrice}
 use Rattle.prices.specs.declared.Extent.{Extent}
-use Rattle.prices.specs.Held.{mostPrice, turnsIn, orderPlaces, driverPlace, Ordered, Priced}
+use Rattle.prices.specs.Held.{mostPrice, turnsIn, orderPlaces, driverPlace, paidFrom, paidTo, DriversUpTo, Ordered, Priced}
+use Rattle.prices.proofs.UndrivenCases.{none-named}
 use Rattle.refine_spec.specs.Shift.{highestPrice, slopePayers, turnPayers, movedPrice, turnChange, movedPrices}
-use Rattle.shift_moves.specs.Moves.{payerPlaces, numberBehind, timesChosen, payersBefore, payersAt, payersAfter, slopePayersIn, turnPayersIn, ownPlace, turnPricePlace, SmallNumbers, Times, PaidRuns, Payers, FewPayers, EachOnce, MovedBy}
-use Rattle.shift_moves.proofs.DriversOrder.{turn-place, payers-are}
-use Rattle.shift_moves.proofs.PayerCases.{times-most, payers-most}
+use Rattle.shift_moves.specs.Moves.{payerPlaces, numberBehind, timesChosen, payersBefore, payersPresent, presentAt, nobody, payersAfter, slopePayersIn, turnPayersIn, ownPlace, placeBehind, turnPricePlace, SmallNumbers, Times, PaidRuns, Summable, FewPayers, EachOnce, MovedBy}
+use Rattle.shift_moves.proofs.DriversOrder.{turn-place, payers-are, no-payers}
+use Rattle.shift_moves.proofs.PayerCases.{times-most, runs-from, runs-to, payers-summable, payers-present, sum-inside, sum-fits, sum-left, sum-next, sum-few}
 
 -- ---- the change
 
@@ -175,63 +176,99 @@ pub ruleset slope-cases = (slope-numbers, slope-few, slope-moved, slope-within)
 
 -- ---- the turns' prices
 
-module _ (change : ℕ) (e : Extent) (orders payers old : List ℕ) where
-  -- those of the turns at the first j places of the drivers' order are moved
-  pub record TurnsMoved (new : List ℕ) (j : ℕ) : Type 0 where
+module _ (change : ℕ) (e : Extent) (orders joining leaving old : List ℕ) where
+  -- those of the turns at the first j places of the drivers' order are moved, and the payers of the last of them are at hand
+  pub record TurnsMoved (new : List ℕ) (here j : ℕ) : Type 0 where
     pub within : j ≤ e .size .count
-    pub moved : MovedBy change (payersAt payers) (turnPricePlace (e .slopes) orders) j old new
+    pub now-here : here ≡ payersPresent joining leaving j
+    pub moved : MovedBy change (presentAt joining leaving) (turnPricePlace (e .slopes) orders) j old new
 
-  pub turns-start : TurnsMoved old 0
-  turns-start = record { within = omega arith; moved = moved-none change (payersAt payers) (turnPricePlace (e .slopes) orders) old }
+  pub turns-start : TurnsMoved old 0 0
+  turns-start = record { within = omega arith; now-here = omega arith; moved = moved-none change (presentAt joining leaving) (turnPricePlace (e .slopes) orders) old }
 
-  module _ (new : List ℕ) {j : ℕ} (s : TurnsMoved new j) where
+  module _ (new : List ℕ) {here j : ℕ} (s : TurnsMoved new here j) where
     pub turns-long : length new ≡ length old
     turns-long = s .moved .size
 
-    pub turns-done : e .size .count ≤ j → MovedBy change (payersAt payers) (turnPricePlace (e .slopes) orders) (e .size .count) old new
+    pub turns-done : e .size .count ≤ j → MovedBy change (presentAt joining leaving) (turnPricePlace (e .slopes) orders) (e .size .count) old new
     turns-done h = let q : j ≡ e .size .count = omega (arith, s .within) in rw q at (s .moved)
 
-    module _ (h : j < e .size .count) where
-      pub turns-place : e .size .count ≤ mostTurns → j < payerPlaces
-      turns-place l = omega arith
+    module _ (h : j < e .size .count) (w : Summable (e .size .count) joining leaving) where
+      pub turns-place : j < payerPlaces
+      turns-place = sum-inside (e .size .count) joining leaving w (s .now-here) h
 
-      pub turns-read : e .size .count ≤ mostTurns → 2 * mostTurns + j < orderPlaces
-      turns-read l = omega arith
+      pub turns-read : 2 * mostTurns + j < orderPlaces
+      turns-read = omega (arith, w .few)
 
-      pub turns-few : FewPayers (e .size .count) payers → getD payers j 0 ≤ mostTurns
-      unfolding FewPayers
-      turns-few f = f j h
+      pub turns-joined : here + getD joining j 0 < 65536
+      turns-joined = sum-fits (e .size .count) joining leaving w (s .now-here) h
+
+      pub turns-left : getD leaving j 0 ≤ here + getD joining j 0
+      turns-left = sum-left (e .size .count) joining leaving w (s .now-here) h
+
+      pub turns-few : here + getD joining j 0 - getD leaving j 0 ≤ mostTurns
+      turns-few = sum-few (e .size .count) joining leaving w (s .now-here) h
 
       module _ (o : EachOnce (e .size .count) orders) {x : ℕ} (q : x ≡ driverPlace orders j) where
-        pub turns-fits : e .slopes ≤ mostSlopes → e .size .count ≤ mostTurns → Fits w64 (e .slopes + x)
-        turns-fits k l = omega (arith, q, o .inside j h)
+        pub turns-fits : e .slopes ≤ mostSlopes → Fits w64 (e .slopes + x)
+        turns-fits k = omega (arith, q, o .inside j h, w .few)
 
         module _ (l : length old ≡ e .slopes + e .size .count) where
           pub turns-inside : e .slopes + x < length new
           turns-inside = omega (arith, q, o .inside j h, turns-long)
 
-          pub turns-more : {new′ : List ℕ} → new′ ≡ set new (e .slopes + x) (movedPrice change (getD payers j 0) (getD new (e .slopes + x) 0)) → TurnsMoved new′ (j + 1)
+          pub turns-more : {new′ : List ℕ} → new′ ≡ set new (e .slopes + x) (movedPrice change (here + getD joining j 0 - getD leaving j 0) (getD new (e .slopes + x) 0)) →
+              TurnsMoved new′ (here + getD joining j 0 - getD leaving j 0) (j + 1)
           turns-more g =
-              rw (g, q) (record {
+              rw (g, q, sum-next (e .size .count) joining leaving w (s .now-here) h) (record {
                 within = omega arith;
-                moved = moved-more change (payersAt payers) (turnPricePlace (e .slopes) orders) old j new (omega (arith, o .inside j h)) (λ i m z. o .apart i j m h (omega arith)) (s .moved);
+                now-here = refl;
+                moved = moved-more change (presentAt joining leaving) (turnPricePlace (e .slopes) orders) old j new (omega (arith, o .inside j h)) (λ i m z. o .apart i j m h (omega arith)) (s .moved);
               })
 
-pub ruleset turns-moved-cases = (turns-start, turns-long, turns-done, turns-place, turns-read, turns-few, turns-fits, turns-inside, turns-more)
+pub ruleset turns-moved-cases = (turns-start, turns-long, turns-done, turns-place, turns-read, turns-joined, turns-left, turns-few, turns-fits, turns-inside, turns-more)
 
-module _ (e : Extent) (orders relaxed : List ℕ) (r : PaidRuns (e .size .count) orders) (payers : List ℕ) (ps : Payers (e .size .count) (choiceIn (e .size .count) relaxed) orders payers) where
-  pub turn-few : FewPayers (e .size .count) payers
-  unfolding FewPayers
-  turn-few k h = omega (arith, ps .values k h, payers-most (e .size .count) (choiceIn (e .size .count) relaxed) orders (k + 1), r .few)
+module _ (e : Extent) (orders relaxed : List ℕ) (r : PaidRuns (e .size .count) orders) (joining leaving : List ℕ) (js : Times (e .size .count) (choiceIn (e .size .count) relaxed) (paidFrom orders) joining)
+    (ls : Times (e .size .count) (choiceIn (e .size .count) relaxed) (paidTo orders) leaving) where
+  pub turn-sums : Summable (e .size .count) joining leaving
+  turn-sums = payers-summable (e .size .count) (choiceIn (e .size .count) relaxed) orders r joining leaving js ls
 
-  pub turn-moved : (change : ℕ) (old new : List ℕ) {c : ℕ} → c ≡ turnChange change → MovedBy c (payersAt payers) (turnPricePlace (e .slopes) orders) (e .size .count) old new
+  pub turn-moved : (change : ℕ) (old new : List ℕ) {c : ℕ} → c ≡ turnChange change → MovedBy c (presentAt joining leaving) (turnPricePlace (e .slopes) orders) (e .size .count) old new
       → MovedBy (turnChange change) (turnPayersIn e orders relaxed) (turnPricePlace (e .slopes) orders) (e .size .count) old new
-  turn-moved change old new q s = moved-same (turnChange change) (payersAt payers) (turnPricePlace (e .slopes) orders) old (turnPayersIn e orders relaxed) (e .size .count) new (ps .values) (rw q at s)
+  turn-moved change old new q s =
+      moved-same (turnChange change) (presentAt joining leaving) (turnPricePlace (e .slopes) orders) old (turnPayersIn e orders relaxed) (e .size .count) new
+      (payers-present (e .size .count) (choiceIn (e .size .count) relaxed) orders r joining leaving js ls) (rw q at s)
 
-pub turn-count : (e : Extent) (orders : List ℕ) → PaidRuns (e .size .count) orders → e .size .count ≤ mostTurns
-turn-count e orders r = r .few
+pub ruleset turn-cases = (runs-from, runs-to, turn-sums, turn-moved)
 
-pub ruleset turn-cases = (turn-few, turn-moved, turn-count)
+-- ---- the turns' prices where none has a payer
+
+module _ (change : ℕ) (e : Extent) (old : List ℕ) where
+  -- those of the first u turns are moved
+  pub record TurnsLowered (new : List ℕ) (u : ℕ) : Type 0 where
+    pub within : u ≤ e .size .count
+    pub moved : MovedBy change nobody (placeBehind (e .slopes)) u old new
+
+  pub lowered-start : TurnsLowered old 0
+  lowered-start = record { within = omega arith; moved = moved-none change nobody (placeBehind (e .slopes)) old }
+
+  module _ (new : List ℕ) {u : ℕ} (s : TurnsLowered new u) where
+    pub lowered-done : e .size .count ≤ u → MovedBy change nobody (placeBehind (e .slopes)) (e .size .count) old new
+    lowered-done h = let q : u ≡ e .size .count = omega (arith, s .within) in rw q at (s .moved)
+
+    module _ (h : u < e .size .count) where
+      pub lowered-fits : e .slopes ≤ mostSlopes → e .size .count ≤ mostTurns → Fits w64 (e .slopes + u)
+      lowered-fits k l = omega arith
+
+      module _ (l : length old ≡ e .slopes + e .size .count) where
+        pub lowered-inside : e .slopes + u < length new
+        lowered-inside = omega (arith, s .moved .size)
+
+        pub lowered-more : {new′ : List ℕ} → new′ ≡ set new (e .slopes + u) (getD new (e .slopes + u) 0 - change) → TurnsLowered new′ (u + 1)
+        unfolding movedPrice
+        lowered-more g = rw g (record { within = omega arith; moved = moved-more change nobody (placeBehind (e .slopes)) old u new (omega arith) (λ i m z. omega arith) (s .moved) })
+
+pub ruleset lowered-cases = (lowered-start, lowered-done, lowered-fits, lowered-inside, lowered-more)
 
 -- ---- all prices
 
@@ -259,27 +296,32 @@ module _ (T : Turns) (slopes : ℕ) (S : List Bool) (change : ℕ) (prices : Lis
       ∙ getD-append-add (tab slopes slopeMoved) (tab (T .count) turnMoved) u 0
       ∙ tab-at (T .count) turnMoved 0 u h
 
-  module _ (orders mid new : List ℕ) (o : Ordered T orders) (l : length prices ≡ slopes + T .count)
-      (a : MovedBy change (λ k. slopePayers T S (k + 1)) ownPlace slopes prices mid)
-      (b : MovedBy (turnChange change) (λ j. payersBefore (T .count) S orders (j + 1)) (turnPricePlace slopes orders) (T .count) mid new) where
-    slope-is : (k : ℕ) → k < slopes → getD new k 0 ≡ movedPrice change (slopePayers T S (k + 1)) (getD prices k 0)
-    slope-is k h = b .others k (λ j m e. omega arith) ∙ a .done k h
-
-    turn-is : (u : ℕ) → u < T .count → getD new (slopes + u) 0 ≡ movedPrice (turnChange change) (turnPayers T S u) (getD prices (slopes + u) 0)
-    turn-is u h =
-        let (j, m, q) = turn-place T orders o u h in
-        (rw (payers-are T orders o S j m, q) at (b .done j m)) ∙ ap (movedPrice (turnChange change) (turnPayers T S u)) (a .others (slopes + u) (λ i k e. omega arith))
-
-    all-moved : new ≡ movedPrices T slopes S change prices
-    all-moved = ext-getD 0 new (movedPrices T slopes S change prices) (b .size ∙ a .size ∙ l ∙ sym moved-length) (λ i m. at i m (decLt i slopes))
+  module _ (mid new : List ℕ) (l : length prices ≡ slopes + T .count) (a : MovedBy change (λ k. slopePayers T S (k + 1)) ownPlace slopes prices mid) where
+    -- the slopes' prices first, then the turns'
+    all-moved : length new ≡ length mid → ((k : ℕ) → k < slopes → getD new k 0 ≡ getD mid k 0) →
+        ((u : ℕ) → u < T .count → getD new (slopes + u) 0 ≡ movedPrice (turnChange change) (turnPayers T S u) (getD mid (slopes + u) 0)) → new ≡ movedPrices T slopes S change prices
+    all-moved size front turns = ext-getD 0 new (movedPrices T slopes S change prices) (size ∙ a .size ∙ l ∙ sym moved-length) (λ i m. at i m (decLt i slopes))
       where
         at : (i : ℕ) → i < length new → Dec (i < slopes) → getD new i 0 ≡ getD (movedPrices T slopes S change prices) i 0
-        at i m (yes h) = slope-is i h ∙ sym (moved-slope i h)
+        at i m (yes h) = front i h ∙ a .done i h ∙ sym (moved-slope i h)
         at i m (no h) =
             let u = i - slopes in
             let q : i ≡ slopes + u = omega arith in
-            let k : u < T .count = omega (arith, b .size, a .size) in
-            ap (λ (x : ℕ). getD new x 0) q ∙ turn-is u k ∙ sym (moved-turn u k) ∙ ap (λ (x : ℕ). getD (movedPrices T slopes S change prices) x 0) (sym q)
+            let k : u < T .count = omega (arith, size, a .size) in
+            ap (λ (x : ℕ). getD new x 0) q
+            ∙ turns u k
+            ∙ ap (movedPrice (turnChange change) (turnPayers T S u)) (a .others (slopes + u) (λ i k e. omega arith))
+            ∙ sym (moved-turn u k)
+            ∙ ap (λ (x : ℕ). getD (movedPrices T slopes S change prices) x 0) (sym q)
+
+    all-driven : (orders : List ℕ) → Ordered T orders → MovedBy (turnChange change) (λ j. payersBefore (T .count) S orders (j + 1)) (turnPricePlace slopes orders) (T .count) mid new → new ≡ movedPrices T slopes S change prices
+    all-driven orders o b =
+        all-moved (b .size) (λ k h. b .others k (λ j m e. omega arith)) (λ u h. let (j, m, q) = turn-place T orders o u h in rw (payers-are T orders o S j m, q) at (b .done j m))
+
+    all-lowered : NoDrivers T → MovedBy (turnChange change) nobody (placeBehind slopes) (T .count) mid new → new ≡ movedPrices T slopes S change prices
+    all-lowered none b =
+        all-moved (b .size) (λ k h. b .others k (λ j m e. omega arith))
+        (λ u h. b .done u h ∙ ap (λ (k : ℕ). movedPrice (turnChange change) k (getD mid (slopes + u) 0)) (sym (no-payers T S u (none u h))))
 
 module _ (e : Extent) (cols orders relaxed : List ℕ) (change : ℕ) (prices : List ℕ) (w : Priced e cols prices) (mid : List ℕ) where
   module _ (a : MovedBy change (slopePayersIn e cols relaxed) ownPlace (e .slopes) prices mid) where
@@ -289,7 +331,13 @@ module _ (e : Extent) (cols orders relaxed : List ℕ) (change : ℕ) (prices : 
     pub prices-moved : (new : List ℕ) → Ordered (turnsIn e cols) orders → MovedBy (turnChange change) (turnPayersIn e orders relaxed) (turnPricePlace (e .slopes) orders) (e .size .count) mid new
         → new ≡ movedPrices (turnsIn e cols) (e .slopes) (choiceIn (e .size .count) relaxed) change prices
     unfolding turnsBy
-    prices-moved new o b = all-moved (turnsBy (e .size) cols) (e .slopes) (choiceIn (e .size .count) relaxed) change prices orders mid new o (w .list) a b
+    prices-moved new o b = all-driven (turnsBy (e .size) cols) (e .slopes) (choiceIn (e .size .count) relaxed) change prices mid new (w .list) a orders o b
+
+    pub prices-lowered : (new : List ℕ) {r c d : ℕ} → r ≤ 0 → DriversUpTo (turnsBy (e .size) cols) (e .size .count) r → c ≡ turnChange change → d ≡ c → MovedBy d nobody (placeBehind (e .slopes)) (e .size .count) mid new
+        → new ≡ movedPrices (turnsIn e cols) (e .slopes) (choiceIn (e .size .count) relaxed) change prices
+    unfolding turnsBy
+    prices-lowered new z u q p b =
+        all-lowered (turnsBy (e .size) cols) (e .slopes) (choiceIn (e .size .count) relaxed) change prices mid new (w .list) a (none-named e cols z u) (rw (p ∙ q) at b)
 
 -- moved prices are a list of the same turns and slopes
 pub moved-priced : (e : Extent) (cols prices : List ℕ) (S : List Bool) (change : ℕ) → Priced e cols prices → Priced e cols (movedPrices (turnsIn e cols) (e .slopes) S change prices)
@@ -306,4 +354,4 @@ moved-priced e cols prices S change w =
 pub few-slopes : (e : Extent) (cols prices : List ℕ) → Priced e cols prices → e .slopes ≤ mostSlopes
 few-slopes e cols prices w = w .few-slopes
 
-pub ruleset prices-cases = (few-slopes, mid-list, prices-moved)
+pub ruleset prices-cases = (few-slopes, mid-list, prices-moved, prices-lowered)

@@ -11,15 +11,14 @@ use lib.ListN.{length, getD, set, replicate, length-set, length-replicate, getD-
 use lib.Seq.{getD-set-same, getD-set-other}
 use borrow.Author.Tests.{lt-ltb, le-ltb, le-leb, lt-leb, eq-eqb, ne-eqb}
 use Rattle.lists.specs.Lists.{sum, below}
-use Rattle.lists.proofs.Sums.{sum-add, sum-mono, sum-zero, sum-same, sum-split, sum-ones, all-of, all-below}
+use Rattle.lists.proofs.Sums.{sum-add, sum-mono, sum-zero, sum-same, sum-ones, all-of}
 use Rattle.lists.specs.Counting.{sumBefore}
 use Rattle.sheet.specs.Kind.{mostTurns}
 use Rattle.model.specs.Choice.{has, chosen}
-use Rattle.choice_map.specs.Choice.{chosenIn, choiceIn, nextChosen, Clean}
-use Rattle.choice_map.proofs.Clean.{choice-has, clean-bits, clear-bits}
-use Rattle.choice_map.proofs.NextChosen.{next-from, next-clear, next-chosen}
+use Rattle.choice_map.specs.Choice.{chosenIn, choiceIn, Clean}
+use Rattle.choice_map.proofs.Clean.{choice-has, clean-bits}
 use Rattle.prices.specs.Held.{paidFrom, paidTo}
-use Rattle.shift_moves.specs.Moves.{payerPlaces, numberBehind, timesChosen, timesBefore, payersBefore, payersPresent, SmallNumbers, Times, PaidRuns, Summable, Present, Payers}
+use Rattle.shift_moves.specs.Moves.{payerPlaces, numberBehind, timesChosen, timesBefore, payersBefore, payersPresent, presentAt, SmallNumbers, Times, PaidRuns, Summable}
 
 -- ---- a count is no more than what is counted
 
@@ -45,57 +44,35 @@ payers-most n S orders m = sum-most (has S) (λ t. ltb (paidFrom orders t) m && 
 
 -- ---- counting the turns of a map by their numbers
 
--- the turns of the map before t are counted, and t is the next of them
+-- the turns of the map before t are counted
 pub record TimesTo (n : ℕ) (map numbers : List ℕ) (at : ℕ) (times : List ℕ) (t : ℕ) : Type 0 where
-  pub within : t ≤ 8 * length map
-  pub here : t < n → chosenIn map t ≡ true
+  pub within : t ≤ n
   pub places : length times ≡ payerPlaces
   pub values : (k : ℕ) → k ≤ mostTurns → getD times k 0 ≡ timesBefore map (numberBehind numbers at) t k
 
-module _ (map : List ℕ) (f : ℕ → ℕ) (k : ℕ) where
-  -- turns that are not chosen may be passed over
-  times-skip : (a b : ℕ) → a ≤ b → ((u : ℕ) → a ≤ u → u < b → chosenIn map u ≡ false) → timesBefore map f b k ≡ timesBefore map f a k
-  unfolding timesBefore
-  times-skip a b l h =
-      let e : b ≡ a + (b - a) = omega arith in
-      let p : timesBefore map f b k ≡ timesBefore map f (a + (b - a)) k = ap (λ (m : ℕ). timesBefore map f m k) e in
-      let rest : sum (λ u. cond (chosenIn map (a + u)) (cond (eqb (f (a + u)) k) 1 0) 0) (below (b - a)) ≡ 0 =
-      sum-zero (λ u. cond (chosenIn map (a + u)) (cond (eqb (f (a + u)) k) 1 0) 0) (all-below (b - a) (λ u m. rw (h (a + u) (omega arith) (omega arith)))) in
-      omega (arith, p, rest, sum-split (λ u. cond (chosenIn map u) (cond (eqb (f u) k) 1 0) 0) a (b - a))
+pub no-zero : (s : Bool) → _≡_ {A = ℕ} (cond s 0 0) 0
+no-zero true = refl
+no-zero false = refl
 
-  times-one : (t : ℕ) → chosenIn map t ≡ true → timesBefore map f (t + 1) k ≡ cond (eqb (f t) k) 1 0 + timesBefore map f t k
-  unfolding timesBefore
-  times-one t e = rw (add-one t, e)
+times-step : (map : List ℕ) (f : ℕ → ℕ) (t k : ℕ) → timesBefore map f (t + 1) k ≡ cond (chosenIn map t) (cond (eqb (f t) k) 1 0) 0 + timesBefore map f t k
+unfolding timesBefore
+times-step map f t k = rw (add-one t)
 
-module _ (n : ℕ) (relaxed numbers : List ℕ) (at : ℕ) (c : Clean n relaxed) where
+module _ (n : ℕ) (relaxed numbers : List ℕ) (at : ℕ) where
   abbrev f : ℕ → ℕ
   f = numberBehind numbers at
 
-  next-here : (t : ℕ) {u : ℕ} → u ≡ nextChosen relaxed t → u < n → chosenIn relaxed u ≡ true
-  next-here t e l = let h : nextChosen relaxed t < 8 * length relaxed = omega (arith, e, clean-bits c) in rw e (next-chosen relaxed t h)
-
-  pub times-start : {t : ℕ} {times : List ℕ} → t ≡ nextChosen relaxed 0 → t ≤ 8 * length relaxed → times ≡ replicate payerPlaces 0 → TimesTo n relaxed numbers at times t
+  pub times-start : {times : List ℕ} → times ≡ replicate payerPlaces 0 → TimesTo n relaxed numbers at times 0
   unfolding timesBefore
-  times-start {t} e l q =
-      record {
-        within = l;
-        here = next-here 0 e;
-        places = rw q (length-replicate {A = ℕ} payerPlaces 0);
-        values = λ k m. rw q (getD-replicate {A = ℕ} payerPlaces k 0 0 (omega arith) ∙ sym (times-skip relaxed f k 0 t (omega arith) (λ u a b. next-clear relaxed 0 u a (omega (arith, e)))));
-      }
+  times-start q =
+      record { within = omega arith; places = rw q (length-replicate {A = ℕ} payerPlaces 0); values = λ k m. rw q (getD-replicate {A = ℕ} payerPlaces k 0 0 (omega arith)) }
+
+  pub times-bit : {t : ℕ} → Clean n relaxed → t < n → t < 8 * length relaxed
+  times-bit c h = omega (arith, clean-bits c)
 
   module _ (w : SmallNumbers n numbers at) {t : ℕ} (h : t < n) where
     pub times-read : at + t < length numbers
     times-read = omega (arith, w .within)
-
-    pub times-next : t + 1 ≤ 8 * length relaxed
-    times-next = omega (arith, clean-bits c)
-
-    pub times-few : length relaxed ≤ 65536
-    times-few = omega (arith, c .size, w .few)
-
-    pub times-less : {u : ℕ} → u ≡ nextChosen relaxed (t + 1) → 8 * length relaxed - u < 8 * length relaxed - t
-    times-less e = omega (arith, e, next-from relaxed (t + 1), clean-bits c)
 
     module _ {k : ℕ} (g : k ≡ getD numbers (at + t) 0) where
       pub times-inside : k ≤ mostTurns
@@ -105,34 +82,31 @@ module _ (n : ℕ) (relaxed numbers : List ℕ) (at : ℕ) (c : Clean n relaxed)
         pub times-room : getD times k 0 < mostTurns
         times-room = omega (arith, s .values k times-inside, before-most relaxed f t k, w .few)
 
-        pub times-more : {u : ℕ} {times′ : List ℕ} → u ≡ nextChosen relaxed (t + 1) → u ≤ 8 * length relaxed → times′ ≡ set times k (getD times k 0 + 1) → TimesTo n relaxed numbers at times′ u
-        times-more {u} e l q =
-            rw q (record {
-              within = l;
-              here = next-here (t + 1) e;
-              places = length-set times k (getD times k 0 + 1) ∙ s .places;
-              values = λ m b. one m b (ℕ-discrete m k) ∙ sym (times-skip relaxed f m (t + 1) u (omega (arith, e, next-from relaxed (t + 1))) (λ v a d. next-clear relaxed (t + 1) v a (omega (arith, e))));
-            })
+        pub times-more : {b : Bool} {x : ℕ} {times′ : List ℕ} → b ≡ chosenIn relaxed t → x ≡ cond b 1 0 → times′ ≡ set times k (getD times k 0 + x) → TimesTo n relaxed numbers at times′ (t + 1)
+        times-more {b} {x} e d q =
+            rw q (record { within = omega arith; places = length-set times k (getD times k 0 + x) ∙ s .places; values = λ m l. one m l (ℕ-discrete m k) ∙ sym (times-step relaxed f t m) })
           where
-            one : (m : ℕ) → m ≤ mostTurns → Dec (m ≡ k) → getD (set times k (getD times k 0 + 1)) m 0 ≡ timesBefore relaxed f (t + 1) m
-            one m b (yes z) =
-                rw (z, getD-set-same times k (getD times k 0 + 1) 0 (omega (arith, s .places, times-inside)), times-one relaxed f k t (s .here h), eq-eqb (getD numbers (at + t) 0) k (sym g))
-                (omega (arith, s .values k times-inside))
-            one m b (no z) =
-                rw (getD-set-other times k m (getD times k 0 + 1) 0 z, times-one relaxed f m t (s .here h), ne-eqb (getD numbers (at + t) 0) m (λ y. z (sym y ∙ sym g)))
-                (omega (arith, s .values m b))
+            adds : x ≡ cond (chosenIn relaxed t) 1 0
+            adds = d ∙ ap (λ (c : Bool). cond c 1 0) e
+
+            one : (m : ℕ) → m ≤ mostTurns → Dec (m ≡ k) → getD (set times k (getD times k 0 + x)) m 0 ≡ cond (chosenIn relaxed t) (cond (eqb (f t) m) 1 0) 0 + timesBefore relaxed f t m
+            one m l (yes z) =
+                rw (z, getD-set-same times k (getD times k 0 + x) 0 (omega (arith, s .places, times-inside)), eq-eqb (getD numbers (at + t) 0) k (sym g)) (omega (arith, s .values k times-inside, adds))
+            one m l (no z) =
+                rw (getD-set-other times k m (getD times k 0 + x) 0 z, ne-eqb (getD numbers (at + t) 0) m (λ y. z (sym y ∙ sym g))) (omega (arith, s .values m l, no-zero (chosenIn relaxed t)))
 
   pub times-done : (times : List ℕ) {t : ℕ} → n ≤ t → TimesTo n relaxed numbers at times t → Times n (choiceIn n relaxed) (numberBehind numbers at) times
   unfolding timesChosen timesBefore chosen
   times-done times {t} h s =
+      let e : t ≡ n = omega (arith, s .within) in
       record {
         places = s .places;
         values = λ k m. s .values k m
-            ∙ times-skip relaxed f k n t h (λ u a b. clear-bits n relaxed (c .clear) u a (omega (arith, s .within, c .size)))
+            ∙ ap (λ (u : ℕ). timesBefore relaxed f u k) e
             ∙ sum-same (λ u. cond (chosenIn relaxed u) (cond (eqb (f u) k) 1 0) 0) (λ u. cond (has (choiceIn n relaxed) u) (cond (eqb (f u) k) 1 0) 0) n (λ u l. ap (λ (b : Bool). cond b (cond (eqb (f u) k) 1 0) 0) (sym (choice-has n relaxed u l)));
       }
 
-pub ruleset times-cases = (times-start, times-read, times-next, times-few, times-less, times-inside, times-room, times-more, times-done)
+pub ruleset times-cases = (times-start, times-bit, times-read, times-inside, times-room, times-more, times-done)
 
 -- ---- along the drivers' order
 
@@ -152,10 +126,6 @@ run-step a b m l = go (decLt a m) (ℕ-discrete a m) (decLt b m) (ℕ-discrete b
 if-chosen : (s : Bool) (a b c d : ℕ) → a + b ≡ c + d → cond s a 0 + cond s b 0 ≡ cond s c 0 + cond s d 0
 if-chosen true a b c d e = e
 if-chosen false a b c d e = refl
-
-no-zero : (s : Bool) → _≡_ {A = ℕ} (cond s 0 0) 0
-no-zero true = refl
-no-zero false = refl
 
 module _ (n : ℕ) (S : List Bool) (orders : List ℕ) (r : PaidRuns n orders) where
   payers-none : payersBefore n S orders 0 ≡ 0
@@ -186,14 +156,13 @@ module _ (n : ℕ) (S : List Bool) (orders : List ℕ) (r : PaidRuns n orders) w
     payers-summable =
         record {
           few = r .few;
-          places = js .places;
           left = λ m l. omega (arith, sums-are m l);
           small = λ m l. omega (arith, sums-are m l, payers-most n S orders m, r .few);
           joined = λ m l. omega (arith, js .values m (omega (arith, r .few)), times-most n S (paidFrom orders) m, r .few);
         }
 
-    pub payers-present : (payers : List ℕ) → Present joining leaving payers n → Payers n S orders payers
-    payers-present payers p = record { values = λ j l. omega (arith, p .values j l, sums-are (j + 1) (omega arith)) }
+    pub payers-present : (j : ℕ) → j < n → presentAt joining leaving j ≡ payersBefore n S orders (j + 1)
+    payers-present j l = omega (arith, sums-are (j + 1) (omega arith))
 
 module _ (n : ℕ) (orders : List ℕ) (r : PaidRuns n orders) where
   pub runs-from : SmallNumbers n orders (3 * mostTurns)
@@ -202,57 +171,23 @@ module _ (n : ℕ) (orders : List ℕ) (r : PaidRuns n orders) where
   pub runs-to : SmallNumbers n orders (4 * mostTurns)
   runs-to = record { few = r .few; within = omega (arith, r .places, r .few); small = λ t l. omega (arith, r .within t l, r .few) }
 
-pub ruleset payer-cases = (runs-from, runs-to, payers-summable, payers-present)
-
 -- ---- summing up
 
--- the payers of the first i places are put, and those of the place before the next are at hand
-pub record Along (n : ℕ) (joining leaving payers : List ℕ) (here i : ℕ) : Type 0 where
-  pub within : i ≤ n
-  pub present : Present joining leaving payers i
-  pub now-here : here ≡ payersPresent joining leaving i
+module _ (n : ℕ) (joining leaving : List ℕ) (w : Summable n joining leaving) {here j : ℕ} (e : here ≡ payersPresent joining leaving j) (h : j < n) where
+  pub sum-inside : j < payerPlaces
+  sum-inside = omega (arith, w .few)
 
-module _ (n : ℕ) (joining leaving : List ℕ) (w : Summable n joining leaving) where
-  pub along-start : Along n joining leaving joining 0 0
-  along-start = record { within = omega arith; present = record { places = w .places; values = λ j l. absurd (omega arith); others = λ j l. refl }; now-here = omega arith }
+  pub sum-fits : here + getD joining j 0 < 65536
+  sum-fits = omega (arith, e, w .small j (omega arith), w .joined j h)
 
-  module _ (payers : List ℕ) {here i : ℕ} (s : Along n joining leaving payers here i) where
-    module _ (h : i < n) where
-      pub along-inside : i < payerPlaces
-      along-inside = omega (arith, w .few)
+  next-sums : (sumBefore joining (j + 1) ≡ getD joining j 0 + sumBefore joining j) × (sumBefore leaving (j + 1) ≡ getD leaving j 0 + sumBefore leaving j)
+  next-sums = (rw (add-one j), rw (add-one j))
 
-      joined-here : getD payers i 0 ≡ getD joining i 0
-      joined-here = s .present .others i (omega arith)
+  pub sum-left : getD leaving j 0 ≤ here + getD joining j 0
+  sum-left = let (a, b) = next-sums in omega (arith, e, w .left j (omega arith), w .left (j + 1) (omega arith))
 
-      pub along-fits : here + getD payers i 0 < 65536
-      along-fits = omega (arith, s .now-here, joined-here, w .small i (omega arith), w .joined i h)
+  pub sum-next : here + getD joining j 0 - getD leaving j 0 ≡ presentAt joining leaving j
+  sum-next = let (a, b) = next-sums in omega (arith, e, w .left j (omega arith))
 
-      next-sums : (sumBefore joining (i + 1) ≡ getD joining i 0 + sumBefore joining i) × (sumBefore leaving (i + 1) ≡ getD leaving i 0 + sumBefore leaving i)
-      next-sums = (rw (add-one i), rw (add-one i))
-
-      pub along-left : getD leaving i 0 ≤ here + getD payers i 0
-      along-left = let (a, b) = next-sums in omega (arith, s .now-here, joined-here, w .left i (omega arith), w .left (i + 1) (omega arith))
-
-      pub along-more : Along n joining leaving (set payers i (here + getD payers i 0 - getD leaving i 0)) (here + getD payers i 0 - getD leaving i 0) (i + 1)
-      along-more =
-          record {
-            within = omega arith;
-            present = record {
-              places = length-set payers i (here + getD payers i 0 - getD leaving i 0) ∙ s .present .places;
-              values = λ j l. value j l (ℕ-discrete j i);
-              others = λ j l. getD-set-other payers i j (here + getD payers i 0 - getD leaving i 0) 0 (omega arith) ∙ s .present .others j (omega arith);
-            };
-            now-here = now-next;
-          }
-        where
-          now-next : here + getD payers i 0 - getD leaving i 0 ≡ payersPresent joining leaving (i + 1)
-          now-next = let (a, b) = next-sums in omega (arith, s .now-here, joined-here, w .left i (omega arith))
-
-          value : (j : ℕ) → j < i + 1 → Dec (j ≡ i) → getD (set payers i (here + getD payers i 0 - getD leaving i 0)) j 0 ≡ payersPresent joining leaving (j + 1)
-          value j l (yes q) = rw q (getD-set-same payers i (here + getD payers i 0 - getD leaving i 0) 0 (omega (arith, s .present .places, w .few)) ∙ now-next)
-          value j l (no q) = getD-set-other payers i j (here + getD payers i 0 - getD leaving i 0) 0 q ∙ s .present .values j (omega arith)
-
-    pub along-done : n ≤ i → Present joining leaving payers n
-    along-done h = let q : i ≡ n = omega (arith, s .within) in rw q at (s .present)
-
-pub ruleset along-cases = (along-start, along-inside, along-fits, along-left, along-more, along-done)
+  pub sum-few : here + getD joining j 0 - getD leaving j 0 ≤ mostTurns
+  sum-few = omega (arith, sum-next, w .small (j + 1) (omega arith))

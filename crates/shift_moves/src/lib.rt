@@ -11,8 +11,8 @@ ghost use Rattle.sheet.specs.Kind.{mostTurns, mostSlopes};
 ghost use Rattle.choice_map.specs.Choice.{choiceIn, Clean};
 ghost use Rattle.prices.specs.Held.{mostPrice, turnsIn, Ordered, Priced};
 ghost use Rattle.refine_spec.specs.Shift.{highestPrice, movedPrice, turnChange, movedPrices};
-ghost use Rattle.shift_moves.specs.Moves.{payerPlaces, numberBehind, payersAt, payersAfter, slopePayersIn, turnPayersIn, ownPlace, turnPricePlace};
-ghost use Rattle.shift_moves.specs.Moves.{SmallNumbers, Times, PaidRuns, Summable, Present, Payers, FewPayers, EachOnce, MovedBy};
+ghost use Rattle.shift_moves.specs.Moves.{payerPlaces, numberBehind, presentAt, nobody, payersAfter, slopePayersIn, turnPayersIn, ownPlace, placeBehind, turnPricePlace};
+ghost use Rattle.shift_moves.specs.Moves.{SmallNumbers, Times, PaidRuns, Summable, FewPayers, EachOnce, MovedBy};
 use instance::MOST_TURNS;
 use instance::PLACES;
 use prices::DRIVERS;
@@ -20,6 +20,7 @@ use prices::Extent;
 use prices::FROMS;
 use prices::ORDERS;
 use prices::TOS;
+use prices::driver_bound;
 
 // The greatest number that a price list can hold.
 const MOST_PRICE: u32 = 65535;
@@ -42,6 +43,13 @@ fn as_place(x: u16) -> usize
     x as usize
 }
 
+fn narrow(x: u32) -> u16
+    requires { ⌜ x ≤ mostPrice ⌝ }
+    ensures { λ r. ⌜ r ≡ x ⌝ }
+{
+    x as u16
+}
+
 fn greater(x: u32, y: u32) -> u32
     ensures { λ r. ⌜ r ≡ max x y ⌝ }
 {
@@ -59,6 +67,13 @@ fn left_after(x: u32, y: u32) -> u32
     ensures { λ r. ⌜ r ≡ x - y ⌝ }
 {
     if x < y { 0 } else { x - y }
+}
+
+// The same in 16 bits, so that a loop of it takes many prices at once.
+fn lowered(price: u16, change: u16) -> u16
+    ensures { λ r. ⌜ r ≡ price - change ⌝ }
+{
+    if price < change { 0 } else { price - change }
 }
 
 // The change of a turn's price.
@@ -100,53 +115,35 @@ fn move_price(change: u32, payers: u16, prices: &mut [u16], i: usize)
     prices[i] = moved_price(change, payers, price);
 }
 
-// One payer more at place k.
-fn add_payer(payers: &mut [u16; PAYERS], k: usize)
-    requires { ⌜ (k ≤ mostTurns) × (getD (now payers) k 0 < mostTurns) ⌝ }
-    ensures { λ _. ⌜ now (payers .exit) ≡ set (now (payers .entry)) k (getD (now (payers .entry)) k 0 + 1) ⌝ }
+// 1 for a turn that is chosen, else 0.
+fn one_if(chosen: bool) -> u16
+    ensures { λ r. ⌜ (r ≡ cond chosen 1 0) × (r ≤ 1) ⌝ }
 {
-    let x = payers[k];
-    payers[k] = x + 1;
+    if chosen { 1 } else { 0 }
 }
 
-// For each number, how many turns of the relaxed set have it in the column that starts at a place.
+// One payer more at place k, or none.
+fn add_payer(payers: &mut [u16; PAYERS], k: usize, more: u16)
+    requires { ⌜ (k ≤ mostTurns) × (getD (now payers) k 0 < mostTurns) × (more ≤ 1) ⌝ }
+    ensures { λ _. ⌜ now (payers .exit) ≡ set (now (payers .entry)) k (getD (now (payers .entry)) k 0 + more) ⌝ }
+{
+    let x = payers[k];
+    payers[k] = x + more;
+}
+
+// For each number, how many turns of the relaxed set have it in the column that starts at a place. Each turn adds 1
+// or 0: a branch per turn would be mispredicted.
 fn count_numbers(n: usize, relaxed: &[u8], numbers: &[u16], at: usize, times: &mut [u16; PAYERS])
     requires { ⌜ Clean n (now relaxed) × SmallNumbers n (now numbers) at × (now times ≡ replicate payerPlaces 0) ⌝ }
     ensures { λ _. ⌜ Times n (choiceIn n (now (relaxed .entry))) (numberBehind (now (numbers .entry)) at) (now (times .exit)) ⌝ }
 {
-    let mut t = choice_map::next_chosen(relaxed, 0);
+    let mut t = 0;
     while t < n {
         let k = as_place(numbers[at + t]);
-        add_payer(&mut *times, k);
-        t = choice_map::next_chosen(relaxed, t + 1);
+        let more = one_if(choice_map::is_chosen(relaxed, t));
+        add_payer(&mut *times, k, more);
+        t += 1;
     }
-}
-
-// The payers at each place, from those that join and those that leave there.
-fn sum_payers(n: usize, payers: &mut [u16; PAYERS], leaving: &[u16; PAYERS])
-    requires { ⌜ Summable n (now payers) (now leaving) ⌝ }
-    ensures { λ _. ⌜ Present (now (payers .entry)) (now (leaving .entry)) (now (payers .exit)) n ⌝ }
-{
-    let mut here: u16 = 0;
-    let mut j = 0;
-    while j < n {
-        let met = here + payers[j];
-        here = met - leaving[j];
-        payers[j] = here;
-        j += 1;
-    }
-}
-
-// The payers of the turn at each place of the drivers' order.
-fn count_payers(n: usize, orders: &[u16; ORDERS], relaxed: &[u8], payers: &mut [u16; PAYERS])
-    requires { ⌜ Clean n (now relaxed) × PaidRuns n (now orders) × (now payers ≡ replicate payerPlaces 0) ⌝ }
-    ensures { λ _. ⌜ Payers n (choiceIn n (now (relaxed .entry))) (now (orders .entry)) (now (payers .exit)) ⌝ }
-{
-    let all = &orders[..];
-    let mut leaving = [0u16; PAYERS];
-    count_numbers(n, relaxed, all, FROMS, &mut *payers);
-    count_numbers(n, relaxed, all, TOS, &mut leaving);
-    sum_payers(n, &mut *payers, &leaving);
 }
 
 // Moves the prices of the slopes. Place s of the payers is for slope s.
@@ -161,24 +158,50 @@ fn move_slope_prices(slopes: usize, payers: &[u16; PAYERS], change: u32, prices:
     }
 }
 
-// Moves the prices of the turns, where those that pay are known by the place in the drivers' order.
+// Moves the prices of the turns. Summed up along the drivers' order, those that join and leave at each place give
+// its payers.
 fn move_turn_prices(
     e: Extent,
     orders: &[u16; ORDERS],
-    payers: &[u16; PAYERS],
+    joining: &[u16; PAYERS],
+    leaving: &[u16; PAYERS],
     change: u32,
     prices: &mut [u16],
 )
-    requires { ⌜ (e .slopes ≤ mostSlopes) × (e .size .count ≤ mostTurns) × (length (now prices) ≡ e .slopes + e .size .count) ⌝ }
-    requires { ⌜ EachOnce (e .size .count) (now orders) × (change ≤ mostWorth) × FewPayers (e .size .count) (now payers) ⌝ }
-    ensures { λ _. ⌜ MovedBy change (payersAt (now (payers .entry))) (turnPricePlace (e .slopes) (now (orders .entry))) (e .size .count)
-        (now (prices .entry)) (now (prices .exit)) ⌝ }
+    requires { ⌜ (e .slopes ≤ mostSlopes) × (length (now prices) ≡ e .slopes + e .size .count) × (change ≤ mostWorth) ⌝ }
+    requires { ⌜ EachOnce (e .size .count) (now orders) × Summable (e .size .count) (now joining) (now leaving) ⌝ }
+    ensures { λ _. ⌜ MovedBy change (presentAt (now (joining .entry)) (now (leaving .entry))) (turnPricePlace (e .slopes) (now (orders .entry)))
+        (e .size .count) (now (prices .entry)) (now (prices .exit)) ⌝ }
 {
+    let mut here: u16 = 0;
     let mut j = 0;
     while j < e.size.count {
+        let met = here + joining[j];
+        here = met - leaving[j];
         let at = e.slopes + as_place(orders[DRIVERS + j]);
-        move_price(change, payers[j], &mut *prices, at);
+        move_price(change, here, &mut *prices, at);
         j += 1;
+    }
+}
+
+// Lowers the price at place i, to 0 at the lowest.
+fn lower_price(change: u16, prices: &mut [u16], i: usize)
+    requires { ⌜ i < length (now prices) ⌝ }
+    ensures { λ _. ⌜ now (prices .exit) ≡ set (now (prices .entry)) i (getD (now (prices .entry)) i 0 - change) ⌝ }
+{
+    let price = prices[i];
+    prices[i] = lowered(price, change);
+}
+
+// Moves the prices of the turns where no turn names a driver: all of them fall.
+fn lower_turn_prices(e: Extent, change: u16, prices: &mut [u16])
+    requires { ⌜ (e .slopes ≤ mostSlopes) × (e .size .count ≤ mostTurns) × (length (now prices) ≡ e .slopes + e .size .count) ⌝ }
+    ensures { λ _. ⌜ MovedBy change nobody (placeBehind (e .slopes)) (e .size .count) (now (prices .entry)) (now (prices .exit)) ⌝ }
+{
+    let mut u = 0;
+    while u < e.size.count {
+        lower_price(change, &mut *prices, e.slopes + u);
+        u += 1;
     }
 }
 
@@ -198,9 +221,20 @@ fn move_turns(e: Extent, orders: &[u16; ORDERS], relaxed: &[u8], change: u32, pr
     ensures { λ _. ⌜ MovedBy (turnChange change) (turnPayersIn e (now (orders .entry)) (now (relaxed .entry)))
         (turnPricePlace (e .slopes) (now (orders .entry))) (e .size .count) (now (prices .entry)) (now (prices .exit)) ⌝ }
 {
-    let mut payers = [0u16; PAYERS];
-    count_payers(e.size.count, orders, relaxed, &mut payers);
-    move_turn_prices(e, orders, &payers, turn_change(change), &mut *prices);
+    let n = e.size.count;
+    let all = &orders[..];
+    let mut joining = [0u16; PAYERS];
+    let mut leaving = [0u16; PAYERS];
+    count_numbers(n, relaxed, all, FROMS, &mut joining);
+    count_numbers(n, relaxed, all, TOS, &mut leaving);
+    move_turn_prices(
+        e,
+        orders,
+        &joining,
+        &leaving,
+        turn_change(change),
+        &mut *prices,
+    );
 }
 
 // Moves every price by how many turns of the relaxed set pay it.
@@ -218,5 +252,9 @@ pub fn move_prices(
         (choiceIn (e .size .count) (now (relaxed .entry))) change (now (prices .entry)) ⌝ }
 {
     move_slopes(e, cols, relaxed, change, &mut *prices);
-    move_turns(e, orders, relaxed, change, &mut *prices);
+    if 0 < driver_bound(e.size, cols) {
+        move_turns(e, orders, relaxed, change, &mut *prices);
+        return;
+    }
+    lower_turn_prices(e, narrow(turn_change(change)), &mut *prices);
 }

@@ -1,8 +1,7 @@
--- Invariant: the turns of the set before t are counted, and t is the next of them, or no turn. Measure: the bits left.
+-- Invariant: the turns before t are counted if they are in the set. Measure: the turns left.
 use borrow.Author.Needs.{needs}
+use Prim.Native.Nat.{_-_}
 use Rattle.shift_moves.proofs.PayerCases.{TimesTo, times-cases}
-use Prim.Native.Nat.{_-_, _*_}
-use lib.ListN.{length}
 use Rattle.shift_moves.proofs.count_numbers.Statement.{statement}
 use Rattle.shift_moves.proofs.count_numbers.Tie as tie
 
@@ -10,7 +9,7 @@ abbrev Inv-loop : tie.InvT-loop
 Inv-loop n relaxed numbers at times₀ t₀ times t = TimesTo n relaxed numbers at times t
 
 abbrev μ-loop : tie.MeasureT-loop
-μ-loop n relaxed numbers at times₀ t₀ times t = 8 * length relaxed - t
+μ-loop n relaxed numbers at times₀ t₀ times t = n - t
 
 pub count-numbers-spec : {M : Type 1} → statement M
 count-numbers-spec =
@@ -18,15 +17,15 @@ count-numbers-spec =
     (tie.spec
     Inv-loop
     μ-loop
-    (λ c κs. search (needs, times-cases))
     (λ c. search (needs, times-cases))
     (λ c. search (needs, times-cases))
     (λ c. search (needs, times-cases))
     (λ c. search (needs, times-cases))
     (λ c κs. search (needs, times-cases))
     (λ c κs. search (needs, times-cases))
-    (λ c. search (needs, times-cases))
     (λ c κs. search (needs, times-cases))
+    (λ c κs. search (needs, times-cases))
+    (λ c. search (needs, times-cases))
     (λ c. search (needs, times-cases))
     (λ c. search (needs, times-cases))
     (λ c. search (needs, times-cases)))

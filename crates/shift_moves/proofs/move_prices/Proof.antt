@@ -6,4 +6,15 @@ use Rattle.shift_moves.proofs.move_prices.Tie as tie
 
 pub move-prices-spec : {M : Type 1} → statement M
 move-prices-spec =
-    tie.close (tie.spec (λ c κs. search needs) (λ c κs. search (needs, prices-cases, order-once, order-runs)) (λ c. search needs) (λ c. search (needs, prices-cases)))
+    tie.close
+    (tie.spec
+    (λ c κs. search needs)
+    (λ c κs. search needs)
+    (λ c κs. search (needs, prices-cases, order-once, order-runs))
+    (λ c. search needs)
+    (λ c. search (needs, prices-cases))
+    (λ c κs. search needs)
+    (λ c κs. search needs)
+    (λ c κs. search needs)
+    (λ c. search needs)
+    (λ c. search (needs, prices-cases)))
