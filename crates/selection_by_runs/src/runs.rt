@@ -12,6 +12,7 @@ use super::ENDS;
 use super::LOWS;
 use super::RUNS;
 use instance::MOST_TURNS;
+use instance::PLACES;
 use instance::Size;
 use prices::DRIVERS;
 use prices::ORDERS;
@@ -94,7 +95,7 @@ fn put_columns(n: usize, orders: &[u16; ORDERS], at: usize, runs: &mut [u16; RUN
 }
 
 // The columns of both orders.
-pub fn put_runs(p: Size, cols: &[u16; RUNS], orders: &[u16; ORDERS], runs: &mut [u16; RUNS])
+pub fn put_runs(p: Size, cols: &[u16; PLACES], orders: &[u16; ORDERS], runs: &mut [u16; RUNS])
     requires { ⌜ Held p (now cols) × Ordered (turnsBy p (now cols)) (now orders) × (length (now runs) ≡ columnPlaces) ⌝ }
     ensures { λ _. ⌜ RunsOf (turnsBy p (now (cols .entry))) (now (runs .exit)) ⌝ }
 {
