@@ -11,8 +11,8 @@ use Rattle.sheet.specs.Kind.{mostTurns, mostSlopes}
 use Rattle.model.specs.Turns.{Turns, oneGroomer}
 use Rattle.instance.specs.Columns.{turnsBy}
 use Rattle.best_spec.specs.Table.{laterFirst, turnOrder, inTheWay, blocked, bestWorth, marked, bestChoice}
-use Rattle.best_table.specs.Held.{placeBefore, wayFrom, InTurnOrder, Befores, Counts, Chained, Filled, Readable, Skips}
-use Rattle.best_table.proofs.BestCases.{turns-chained, filled-entries, filled-skips, turns-readable, way-best, first-entry}
+use Rattle.best_table.specs.Held.{placeBefore, wholeWay, InTurnOrder, Befores, Counts, Chained, Filled, Readable, Firsts}
+use Rattle.best_table.proofs.BestCases.{turns-chained, filled-entries, filled-firsts, turns-readable, way-best, first-entry}
 use Rattle.price_spec.specs.Prices.{priceSum}
 use Rattle.prices.specs.declared.Extent.{Extent}
 use Rattle.prices.specs.Held.{countedTurns, turnsIn, mostPrice, CountsTo, Ordered, Priced}
@@ -65,24 +65,24 @@ module _ (e : Extent) (cols prices : List ℕ) (few : e .size .count ≤ mostTur
     unfolding turnsBy countedTurns
     table-chained = turns-chained C orders o′ counts few (befores-counted (turnsIn e cols) (e .slopes) prices orders b) (counts-are (turnsIn e cols) (e .slopes) prices counts few c)
 
-    module _ (worths skips : List ℕ) (f : Filled (e .size .count) orders counts 0 worths skips) where
-      pub table-skips : Skips C 0 skips
+    module _ (worths firsts : List ℕ) (f : Filled (e .size .count) orders counts 0 worths firsts) where
+      pub table-firsts : Firsts C firsts
       unfolding turnsBy countedTurns
-      table-skips = filled-skips C orders o′ counts few (befores-counted (turnsIn e cols) (e .slopes) prices orders b) (counts-are (turnsIn e cols) (e .slopes) prices counts few c) worths skips f
+      table-firsts = filled-firsts C orders o′ counts few (befores-counted (turnsIn e cols) (e .slopes) prices orders b) (counts-are (turnsIn e cols) (e .slopes) prices counts few c) worths firsts f
 
       pub table-first : getD worths 0 0 ≡ bestWorth C
       unfolding turnsBy countedTurns
       table-first =
-          first-entry C worths (filled-entries C orders o′ counts few (befores-counted (turnsIn e cols) (e .slopes) prices orders b) (counts-are (turnsIn e cols) (e .slopes) prices counts few c) worths skips f)
+          first-entry C worths (filled-entries C orders o′ counts few (befores-counted (turnsIn e cols) (e .slopes) prices orders b) (counts-are (turnsIn e cols) (e .slopes) prices counts few c) worths firsts f)
 
-  module _ (skips : List ℕ) (s : Skips C 0 skips) where
-    pub table-readable : Readable (e .size .count) orders skips
+  module _ (b : Befores (turnsIn e cols) orders (e .size .count)) (firsts : List ℕ) (s : Firsts C firsts) where
+    pub table-readable : Readable (e .size .count) orders firsts
     unfolding turnsBy countedTurns
-    table-readable = turns-readable C orders o′ skips few s
+    table-readable = turns-readable C orders o′ firsts few (befores-counted (turnsIn e cols) (e .slopes) prices orders b) s
 
-    pub table-best : {S S′ : List Bool} → S ≡ replicate (e .size .count) false → S′ ≡ marked S (wayFrom orders skips (e .size .count) (e .size .count) 0) → S′ ≡ bestChoice C
+    pub table-best : {S S′ : List Bool} → S ≡ replicate (e .size .count) false → S′ ≡ marked S (wholeWay orders firsts (e .size .count)) → S′ ≡ bestChoice C
     unfolding turnsBy countedTurns
-    table-best q r = way-best C orders o′ skips few s q r
+    table-best q r = way-best C orders o′ firsts few (befores-counted (turnsIn e cols) (e .slopes) prices orders b) s q r
 
 -- ---- as the code leaves it
 
@@ -106,21 +106,21 @@ module _ (e : Extent) (cols orders prices : List ℕ) (w : Priced e cols prices)
     pub look-chained : Chained (e .size .count) orders counts
     look-chained = table-chained e cols prices (w .few) orders in-order in-befores counts c
 
-    module _ (worths skips : List ℕ) (f : Filled (e .size .count) orders counts 0 worths skips) where
-      pub look-skips : Skips (countedTurns (turnsIn e cols) (e .slopes) prices) 0 skips
-      look-skips = table-skips e cols prices (w .few) orders in-order in-befores counts c worths skips f
+    module _ (worths firsts : List ℕ) (f : Filled (e .size .count) orders counts 0 worths firsts) where
+      pub look-firsts : Firsts (countedTurns (turnsIn e cols) (e .slopes) prices) firsts
+      look-firsts = table-firsts e cols prices (w .few) orders in-order in-befores counts c worths firsts f
 
       pub look-sum : {a : ℕ} → a ≡ priceSum (turnsIn e cols) (e .slopes) prices → a + getD worths 0 0 ≡ priceSum (turnsIn e cols) (e .slopes) prices + bestWorth (countedTurns (turnsIn e cols) (e .slopes) prices)
-      look-sum q = rw (q, table-first e cols prices (w .few) orders in-order in-befores counts c worths skips f)
+      look-sum q = rw (q, table-first e cols prices (w .few) orders in-order in-befores counts c worths firsts f)
 
       pub look-fits : {a : ℕ} → a ≤ (mostSlopes + mostTurns) * mostPrice → Fits w32 (a + getD worths 0 0)
       look-fits l = omega (arith, f .most 0 (omega arith) (omega arith), w .few)
 
-  module _ (skips : List ℕ) (s : Skips (countedTurns (turnsIn e cols) (e .slopes) prices) 0 skips) where
-    pub look-readable : Readable (e .size .count) orders skips
-    look-readable = table-readable e cols prices (w .few) orders in-order skips s
+  module _ (firsts : List ℕ) (s : Firsts (countedTurns (turnsIn e cols) (e .slopes) prices) firsts) where
+    pub look-readable : Readable (e .size .count) orders firsts
+    look-readable = table-readable e cols prices (w .few) orders in-order in-befores firsts s
 
-    pub look-best : {S S′ : List Bool} → S ≡ replicate (e .size .count) false → S′ ≡ marked S (wayFrom orders skips (e .size .count) (e .size .count) 0) → S′ ≡ bestChoice (countedTurns (turnsIn e cols) (e .slopes) prices)
-    look-best q r = table-best e cols prices (w .few) orders in-order skips s q r
+    pub look-best : {S S′ : List Bool} → S ≡ replicate (e .size .count) false → S′ ≡ marked S (wholeWay orders firsts (e .size .count)) → S′ ≡ bestChoice (countedTurns (turnsIn e cols) (e .slopes) prices)
+    look-best q r = table-best e cols prices (w .few) orders in-order in-befores firsts s q r
 
-pub ruleset look-cases = (look-chained, look-skips, look-sum, look-fits, look-readable, look-best)
+pub ruleset look-cases = (look-chained, look-firsts, look-sum, look-fits, look-readable, look-best)

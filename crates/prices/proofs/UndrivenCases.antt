@@ -81,13 +81,13 @@ module _ (e : Extent) (cols prices : List ℕ) (none : NoDrivers (turnsIn e cols
 
   -- ---- the limit
 
-  module _ (w : Priced e cols prices) (orders counts worths skips : List ℕ) (o : InTurnOrder (turnsIn e cols) orders) (b : Befores (turnsIn e cols) orders (e .size .count)) (c : CountsTo (turnsIn e cols) (e .slopes) prices counts (e .size .count)) where
+  module _ (w : Priced e cols prices) (orders counts worths firsts : List ℕ) (o : InTurnOrder (turnsIn e cols) orders) (b : Befores (turnsIn e cols) orders (e .size .count)) (c : CountsTo (turnsIn e cols) (e .slopes) prices counts (e .size .count)) where
     pub undriven-chained : Chained (e .size .count) orders counts
     undriven-chained = table-chained e cols prices (w .few) orders o b counts c
 
-    module _ (f : Filled (e .size .count) orders counts 0 worths skips) {a : ℕ} where
+    module _ (f : Filled (e .size .count) orders counts 0 worths firsts) {a : ℕ} where
       pub undriven-limit : a ≡ slopesSum prices (e .slopes) → a + getD worths 0 0 ≡ priceSum (turnsIn e cols) (e .slopes) prices + bestWorth (countedTurns (turnsIn e cols) (e .slopes) prices)
-      undriven-limit q = rw (q, prices-slopes (turnsIn e cols) (e .slopes) prices none, table-first e cols prices (w .few) orders o b counts c worths skips f)
+      undriven-limit q = rw (q, prices-slopes (turnsIn e cols) (e .slopes) prices none, table-first e cols prices (w .few) orders o b counts c worths firsts f)
 
       pub undriven-fits : a ≤ mostSlopes * mostPrice → Fits w32 (a + getD worths 0 0)
       undriven-fits l = omega (arith, f .most 0 (omega arith) (omega arith), w .few)

@@ -3,10 +3,9 @@ ghost use mathlib.Core.Path.{_≡_};
 ghost use mathlib.Core.Bool.{false};
 ghost use Prim.Native.Nat.{_+_};
 ghost use lib.ListN.{length, replicate};
-ghost use Rattle.sheet.specs.Kind.{mostTurns};
 ghost use Rattle.choice_map.specs.Choice.{choiceIn, Clean};
 ghost use Rattle.best_spec.specs.Table.{bestWorth, bestChoice};
-ghost use Rattle.best_table.specs.Held.{entryPlaces, Skips};
+ghost use Rattle.best_table.specs.Held.{entryPlaces, Firsts};
 ghost use Rattle.price_spec.specs.Prices.{priceSum};
 ghost use Rattle.prices.specs.Held.{countedTurns, turnsIn, Priced, Ordered};
 use super::Extent;
@@ -25,17 +24,17 @@ fn limit_with(
     orders: &[u16; ORDERS],
     prices: &[u16],
     worths: &mut [u32; ENTRIES],
-    skips: &mut [u16; MOST_TURNS],
+    firsts: &mut [u16; ENTRIES],
 ) -> u32
     requires { ⌜ Priced e (now cols) (now prices) × Ordered (turnsIn e (now cols)) (now orders) ⌝ }
-    requires { ⌜ (length (now worths) ≡ entryPlaces) × (length (now skips) ≡ mostTurns) ⌝ }
+    requires { ⌜ (length (now worths) ≡ entryPlaces) × (length (now firsts) ≡ entryPlaces) ⌝ }
     ensures { λ r. ⌜ r ≡ priceSum (turnsIn e (now (cols .entry))) (e .slopes) (now (prices .entry))
         + bestWorth (countedTurns (turnsIn e (now (cols .entry))) (e .slopes) (now (prices .entry))) ⌝ }
-    ensures { λ _. ⌜ Skips (countedTurns (turnsIn e (now (cols .entry))) (e .slopes) (now (prices .entry))) 0 (now (skips .exit)) ⌝ }
+    ensures { λ _. ⌜ Firsts (countedTurns (turnsIn e (now (cols .entry))) (e .slopes) (now (prices .entry))) (now (firsts .exit)) ⌝ }
 {
     let mut counts = [0u16; MOST_TURNS];
     let sum = put_counts(e, cols, orders, prices, &mut counts);
-    fill_table(e.size.count, orders, &counts, &mut *worths, &mut *skips);
+    fill_table(e.size.count, orders, &counts, &mut *worths, &mut *firsts);
     sum + worths[0]
 }
 
@@ -55,9 +54,9 @@ pub fn look(
         × (choiceIn (e .size .count) (now (map .exit)) ≡ bestChoice (countedTurns (turnsIn e (now (cols .entry))) (e .slopes) (now (prices .entry)))) ⌝ }
 {
     let mut worths = [0u32; ENTRIES];
-    let mut skips = [0u16; MOST_TURNS];
-    let limit = limit_with(e, cols, orders, prices, &mut worths, &mut skips);
-    read_back(e.size.count, orders, &skips, &mut *map);
+    let mut firsts = [0u16; ENTRIES];
+    let limit = limit_with(e, cols, orders, prices, &mut worths, &mut firsts);
+    read_back(e.size.count, orders, &firsts, &mut *map);
     limit
 }
 
@@ -68,6 +67,6 @@ pub fn limit_at(e: Extent, cols: &[u16; PLACES], orders: &[u16; ORDERS], prices:
         + bestWorth (countedTurns (turnsIn e (now (cols .entry))) (e .slopes) (now (prices .entry))) ⌝ }
 {
     let mut worths = [0u32; ENTRIES];
-    let mut skips = [0u16; MOST_TURNS];
-    limit_with(e, cols, orders, prices, &mut worths, &mut skips)
+    let mut firsts = [0u16; ENTRIES];
+    limit_with(e, cols, orders, prices, &mut worths, &mut firsts)
 }

@@ -87,7 +87,7 @@ pub fn limit_undriven(
     let mut counts = [0u16; MOST_TURNS];
     put_slope_counts(e, cols, prices, &mut counts);
     let mut worths = [0u32; ENTRIES];
-    let mut skips = [0u16; MOST_TURNS];
-    fill_table(e.size.count, &*orders, &counts, &mut worths, &mut skips);
+    let mut firsts = [0u16; ENTRIES];
+    fill_table(e.size.count, &*orders, &counts, &mut worths, &mut firsts);
     slope_prices(prices, e.slopes) + worths[0]
 }
