@@ -1,3 +1,4 @@
 pub mod Supplies
 pub mod Allowed
+pub mod Frees
 pub mod Charges

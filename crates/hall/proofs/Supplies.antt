@@ -6,14 +6,15 @@ use mathlib.Core.List.{List}
 use Prim.Native.Nat.{ℕ, zero, suc, _+_, _-_, _≤_, _<_}
 use native.Mathlib.Omega.{arith}
 use native.Mathlib.Decide.{decLt, ℕ-discrete}
+use native.Mathlib.Numerals.{add-one}
 use lib.Dec.{leb, eqb}
 use lib.ListN.{length, getD, set, replicate, length-set, length-replicate}
 use lib.Seq.{getD-set-same, getD-set-other}
 use mir.Syntax.{w8}
 use mir.Val.{Fits}
-use borrow.Author.Tests.{eq-eqb, ne-eqb, le-leb, lt-leb, leb-true}
+use borrow.Author.Tests.{le-leb, lt-leb, leb-true, not-true, not-false}
 use Rattle.lists.specs.Lists.{every}
-use Rattle.lists.proofs.Bools.{and-2, fails, every-of, every-at, every-fails}
+use Rattle.lists.proofs.Bools.{and-2, fails, every-of, every-at, every-not, every-fails}
 use Rattle.turn.specs.Turn.{shiftMinutes}
 use Rattle.model.specs.Choice.{has, chosen}
 use Rattle.model.proofs.Choices.{none-chosen, chosen-put, chosen-put-most}
@@ -27,7 +28,7 @@ use Rattle.hall_spec.proofs.Windows.{vehicle-is, is-vehicle, charges-in, in-cha
 use Rattle.hall_spec.proofs.Allowing.{free-vehicle}
 use Rattle.hall_steps.specs.declared.among.Among.{Among}
 use Rattle.hall_steps.specs.Bounds.{HallHeld}
-use Rattle.hall.specs.Supply.{usedPlaces, lastsRow, allowedRow, RowInHall, RoomFor, Drawn, WithWindow, Supplied}
+use Rattle.hall.specs.Supply.{usedPlaces, partMinutes, freeRow, lastsFor, lastsRow, allowedRow, RowInHall, RoomFor, Drawn, WithWindow, Supplied}
 
 -- ---- tests
 
@@ -44,51 +45,101 @@ unfolding every
 every-same p q zero h = refl
 every-same p q (suc n) h = rw (h n (omega arith), every-same p q n (λ t l. h t (omega arith)))
 
--- ---- the supply lasts, as far as the loop has come
+-- ---- the supply lasts at some minutes
 
-unfoldable pub lastsTo : List ℕ → ℕ → ℕ → ℕ → Bool
-lastsTo used start room m = every (λ i. leb (getD used (start + i) 0) room) (m - start)
+module _ (used : List ℕ) (from room : ℕ) where
+  pub for-start : true ≡ lastsFor used from room 0
+  unfolding lastsFor every
+  for-start = refl
+
+  pub for-more : (k : ℕ) {all : Bool} → all ≡ lastsFor used from room k → (leb (getD used (from + k) 0) room && all) ≡ lastsFor used from room (k + 1)
+  unfolding lastsFor every
+  for-more k e = rw (add-one k, ← e)
+
+  pub for-done : (k n : ℕ) {all : Bool} → n ≤ k → k ≤ n → all ≡ lastsFor used from room k → all ≡ lastsFor used from room n
+  for-done k n h l e = let q : k ≡ n = omega arith in rw q at e
+
+pub ruleset for-cases = (for-start, for-more, for-done)
+
+-- ---- part by part
 
 module _ (used : List ℕ) (start room : ℕ) where
-  pub lasts-start : true ≡ lastsTo used start room start
-  unfolding lastsTo every
-  lasts-start = let z : start - start ≡ 0 = omega arith in rw z
+  abbrev test : ℕ → ℕ → Bool
+  test = λ from i. leb (getD used (from + i) 0) room
 
-  pub lasts-more : (m : ℕ) {all : Bool} → start ≤ m → all ≡ lastsTo used start room m → (leb (getD used m 0) room && all) ≡ lastsTo used start room (m + 1)
-  unfolding lastsTo every
-  lasts-more m {all} l e =
-      let k : m + 1 - start ≡ suc (m - start) = omega arith in
-      let q : start + (m - start) ≡ m = omega arith in
-      rw (k, q, ← e)
+  -- minute i from the start on is minute k from another one on
+  same-minute : (from i k : ℕ) → start + i ≡ from + k → test from k ≡ test start i
+  same-minute from i k e = ap (λ (x : ℕ). leb (getD used x 0) room) (sym e)
+
+  -- a part that has a minute without room
+  part-short : (from n end : ℕ) → start ≤ from → from + n ≤ end → lastsFor used from room n ≡ false → lastsFor used start room (end - start) ≡ false
+  unfolding lastsFor
+  part-short from n end h l e =
+      let (k, m, g) = every-not (test from) n e in
+      every-fails (test start) (end - start) (from - start + k) (omega arith) (sym (same-minute from (from - start + k) k (omega arith)) ∙ g)
+
+  -- minutes up to one, and a part that goes on from there or before
+  part-joined : (m from n end : ℕ) → start ≤ from → from ≤ m → from + n ≡ end → lastsFor used start room (m - start) ≡ true → lastsFor used from room n ≡ true → lastsFor used start room (end - start) ≡ true
+  unfolding lastsFor
+  part-joined m from n end h k q e f = every-of (test start) (end - start) (λ i l. go i l (decLt i (m - start)))
+    where
+      go : (i : ℕ) → i < end - start → Dec (i < m - start) → test start i ≡ true
+      go i l (yes b) = every-at (test start) (m - start) e i b
+      go i l (no b) = sym (same-minute from i (start + i - from) (omega arith)) ∙ every-at (test from) n f (start + i - from) (omega arith)
+
+  pub long-start : lastsFor used start room (start - start) ≡ true
+  unfolding lastsFor every
+  long-start = let z : start - start ≡ 0 = omega arith in rw z
+
+  module _ (end m : ℕ) (h : start ≤ m) {b : Bool} where
+    pub long-not : {last : ℕ} → last ≡ end - partMinutes → start + partMinutes ≤ end → m < last → b ≡ lastsFor used m room partMinutes → not b ≡ true → false ≡ lastsFor used start room (end - start)
+    long-not o w l e f = sym (part-short m partMinutes end h (omega arith) (sym e ∙ not-true b f))
+
+    module _ (g : lastsFor used start room (m - start) ≡ true) where
+      pub long-more : b ≡ lastsFor used m room partMinutes → not b ≡ false → lastsFor used start room (m + partMinutes - start) ≡ true
+      long-more e f = part-joined m m partMinutes (m + partMinutes) h (omega arith) (omega arith) g (sym e ∙ not-false b f)
+
+      pub long-done : (last : ℕ) → last ≡ end - partMinutes → start + partMinutes ≤ end → last ≤ m → b ≡ lastsFor used last room partMinutes → b ≡ lastsFor used start room (end - start)
+      long-done last o w l e = go b refl
+        where
+          go : (c : Bool) → b ≡ c → b ≡ lastsFor used start room (end - start)
+          go true f = f ∙ sym (part-joined m last partMinutes end (omega arith) l (omega arith) g (sym e ∙ f))
+          go false f = f ∙ sym (part-short last partMinutes end (omega arith) (omega arith) (sym e ∙ f))
+
+pub ruleset long-cases = (long-start, long-not, long-more, long-done)
 
 module _ (units : ℕ) (used : List ℕ) (r : Row) where
   pub room-in-8 : RowInHall units r → Fits w8 (units - r .groomer)
   room-in-8 h = omega (arith, h .units-to)
 
-  pub lasts-done : (m : ℕ) {all : Bool} → RowInHall units r → r .end ≤ m → m ≤ r .end → all ≡ lastsTo used (r .start) (units - r .groomer) m → all ≡ lastsRow units used r
-  unfolding lastsTo lastsRow
-  lasts-done m h k l e =
-      let q : m ≡ r .end = omega arith in
-      (rw q at e) ∙ every-same (λ i. leb (getD used (r .start + i) 0) (units - r .groomer)) (λ i. leb (getD used (r .start + i) 0 + r .groomer) units) (r .end - r .start)
+  pub lasts-is : {q : Bool} → RowInHall units r → q ≡ lastsFor used (r .start) (units - r .groomer) (r .end - r .start) → q ≡ lastsRow units used r
+  unfolding lastsFor lastsRow
+  lasts-is h e =
+      e ∙ every-same (λ i. leb (getD used (r .start + i) 0) (units - r .groomer)) (λ i. leb (getD used (r .start + i) 0 + r .groomer) units) (r .end - r .start)
       (λ i b. room-is (getD used (r .start + i) 0) (r .groomer) units (h .draw))
 
-  pub allowed-not : (getD used (shiftMinutes + r .slope) 0 ≡ 0 → ⊥) → false ≡ allowedRow units used r
-  unfolding allowedRow
-  allowed-not h = rw (ne-eqb (getD used (shiftMinutes + r .slope) 0) 0 h)
+  module _ {b : Bool} (f : b ≡ freeRow used r) where
+    pub allowed-not : b ≡ false → false ≡ allowedRow units used r
+    unfolding allowedRow
+    allowed-not h = let z : freeRow used r ≡ false = sym f ∙ h in rw z
 
-  pub allowed-lasts : {q : Bool} → getD used (shiftMinutes + r .slope) 0 ≡ 0 → q ≡ lastsRow units used r → q ≡ allowedRow units used r
-  unfolding allowedRow
-  allowed-lasts h e = rw (eq-eqb (getD used (shiftMinutes + r .slope) 0) 0 h) e
+    pub allowed-lasts : {q : Bool} → b ≡ true → q ≡ lastsRow units used r → q ≡ allowedRow units used r
+    unfolding allowedRow
+    allowed-lasts h e = let z : freeRow used r ≡ true = sym f ∙ h in rw z e
+
+pub free-row : (used : List ℕ) (r : Row) → eqb (getD used (shiftMinutes + r .slope) 0) 0 ≡ freeRow used r
+unfolding freeRow
+free-row used r = refl
 
 -- what the test says, minute by minute
 pub lasts-room : (units : ℕ) (used : List ℕ) (r : Row) → allowedRow units used r ≡ true → RoomFor units used r
-unfolding allowedRow lastsRow RoomFor
+unfolding allowedRow freeRow lastsRow RoomFor
 lasts-room units used r e m h l =
     let q : r .start + (m - r .start) ≡ m = omega arith in
     let test : ℕ → Bool = λ i. leb (getD used (r .start + i) 0 + r .groomer) units in
     rw q at (leb-true (getD used (r .start + (m - r .start)) 0 + r .groomer) units (every-at test (r .end - r .start) (and-2 (eqb (getD used (shiftMinutes + r .slope) 0) 0) (every test (r .end - r .start)) e) (m - r .start) (omega arith)))
 
-pub ruleset lasts-cases = (room-in-8, lasts-start, lasts-more, lasts-done, allowed-not, allowed-lasts)
+pub ruleset lasts-cases = (room-in-8, lasts-is, free-row, allowed-not, allowed-lasts)
 
 -- ---- a row draws
 
@@ -157,15 +208,15 @@ module _ (H : Hall) (S : List Bool) (used : List ℕ) (s : Supplied H S used) (j
   abbrev row : Row
   row = turnRow (H .windows) j
 
-  lasts-is : H .windows .end j ≤ shiftMinutes → lastsRow (H .units) used row ≡ supplyLasts H S j
+  row-lasts : H .windows .end j ≤ shiftMinutes → lastsRow (H .units) used row ≡ supplyLasts H S j
   unfolding lastsRow supplyLasts turnRow
-  lasts-is h =
+  row-lasts h =
       every-same (λ i. leb (getD used (H .windows .start j + i) 0 + draw H j) (H .units)) (λ i. leb (drawnAt H S (H .windows .start j + i) + draw H j) (H .units)) (H .windows .end j - H .windows .start j)
       (λ i k. ap (λ (x : ℕ). leb (x + draw H j) (H .units)) (s .minutes (H .windows .start j + i) (omega arith)))
 
   pub row-stays : H .windows .end j ≤ shiftMinutes → allowedRow (H .units) used row ≡ staysAllowed H S j
-  unfolding allowedRow staysAllowed turnRow
-  row-stays h = rw (s .vehicles j l) (ap (λ (b : Bool). vehicleFree H S j && b) (lasts-is h))
+  unfolding allowedRow freeRow staysAllowed turnRow
+  row-stays h = rw (s .vehicles j l) (ap (λ (b : Bool). vehicleFree H S j && b) (row-lasts h))
 
   module _ (k : length S ≡ windowCount H) (free : vehicleFree H S j ≡ true) where
     unchosen : has S j ≡ false

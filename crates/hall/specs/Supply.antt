@@ -9,11 +9,28 @@ use lib.Dec.{leb, eqb}
 use Rattle.lists.specs.Lists.{every}
 use Rattle.turn.specs.Turn.{shiftMinutes}
 use Rattle.instance.specs.declared.ways.Row.{Row}
+use Rattle.instance.specs.Columns.{rowIn}
 use Rattle.hall_spec.specs.Hall.{mostUnits, mostVehicles, Hall, windowCount, vehicle, drawnAt, vehicleFree}
 
 -- the places: the minutes of a shift, then vehicles by their numbers from 0
 abbrev pub usedPlaces : ℕ
 usedPlaces = shiftMinutes + mostVehicles + 1
+
+-- so many minutes are looked at together
+abbrev pub partMinutes : ℕ
+partMinutes = 32
+
+-- at n minutes from one on no more is used than that
+unfoldable pub lastsFor : List ℕ → ℕ → ℕ → ℕ → Bool
+lastsFor used from room n = every (λ i. leb (getD used (from + i) 0) room) n
+
+-- a row's vehicle is not there
+unfoldable pub freeRow : List ℕ → Row → Bool
+freeRow used r = eqb (getD used (shiftMinutes + r .slope) 0) 0
+
+-- nor is that of the row of window t
+unfoldable pub freeIn : List ℕ → List ℕ → ℕ → Bool
+freeIn cols used t = freeRow used (rowIn cols t)
 
 -- at each of a row's minutes its draw is left
 unfoldable pub lastsRow : ℕ → List ℕ → Row → Bool
@@ -21,7 +38,7 @@ lastsRow units used r = every (λ i. leb (getD used (r .start + i) 0 + r .groome
 
 -- and its vehicle is not there
 unfoldable pub allowedRow : ℕ → List ℕ → Row → Bool
-allowedRow units used r = eqb (getD used (shiftMinutes + r .slope) 0) 0 && lastsRow units used r
+allowedRow units used r = freeRow used r && lastsRow units used r
 
 -- ---- as statements
 

@@ -1,25 +1,28 @@
 // Choosing windows: those of a list of numbers, from its last to its first, each with which the set stays
 // allowed. It is the garage's way of choosing with another test of what fits.
 ghost use mathlib.Core.Path.{_≡_};
-ghost use mathlib.Core.Bool.{false};
+ghost use mathlib.Core.Bool.{false, cond};
 ghost use Prim.Native.Nat.{_*_, _≤_, _<_};
-ghost use lib.ListN.{length, replicate};
+ghost use lib.ListN.{length, take, replicate};
 ghost use Rattle.model.specs.Choice.{choose, chooseEach};
 ghost use Rattle.sheet.specs.Kind.{mostTurns};
 ghost use Rattle.choice_map.specs.Choice.{choiceIn, Clean};
 ghost use Rattle.board.specs.Board.{stepSize, stepsIn};
 ghost use Rattle.selection.specs.Bounds.{StepsOf};
 ghost use Rattle.selection.specs.Asked.{NumbersOf};
+ghost use Rattle.best_spec.specs.Groomers.{keep};
 ghost use Rattle.hall_spec.specs.Hall.{staysAllowed};
 ghost use Rattle.hall_spec.specs.Plan.{fitsAmong, chooseAmong};
 ghost use Rattle.hall_steps.specs.Among.{hallAmong, ofKind};
 ghost use Rattle.hall_steps.specs.Bounds.{HallHeld};
 ghost use Rattle.hall.specs.OneKind.{meant};
-ghost use Rattle.hall.specs.Supply.{Supplied};
+ghost use Rattle.hall.specs.Supply.{freeIn, Supplied};
 use super::supply::USED;
 use super::supply::is_allowed;
+use super::supply::is_free;
 use super::supply::use_row;
 use hall_steps::Among;
+use instance::MOST_TURNS;
 use instance::PLACES;
 use instance::row_at;
 use selection::ASKED;
@@ -63,6 +66,98 @@ fn add_if_meant(
     }
 }
 
+// The windows of a list of numbers that are of the kind, or any, from its last to its first, beside those chosen
+// before.
+fn choose_beside(
+    a: Among,
+    any: bool,
+    cols: &[u16; PLACES],
+    list: &[u16],
+    map: &mut [u8],
+    used: &mut [u8; USED],
+)
+    requires { ⌜ HallHeld (a .units) (a .size) (now cols) × NumbersOf (a .size .count) (now list) × Clean (a .size .count) (now map) ⌝ }
+    requires { ⌜ Supplied (hallAmong a (now cols)) (choiceIn (a .size .count) (now map)) (now used) ⌝ }
+    ensures { λ _. ⌜ choiceIn (a .size .count) (now (map .exit))
+        ≡ chooseEach (fitsAmong (hallAmong a (now (cols .entry))) (meant a any (now (cols .entry)))) (now (list .entry))
+        (choiceIn (a .size .count) (now (map .entry))) ⌝ }
+    ensures { λ _. ⌜ Clean (a .size .count) (now (map .exit)) ⌝ }
+    ensures { λ _. ⌜ Supplied (hallAmong a (now (cols .entry))) (choiceIn (a .size .count) (now (map .exit))) (now (used .exit)) ⌝ }
+{
+    let mut left = list.len();
+    while 0 < left {
+        left -= 1;
+        let j = list[left] as usize;
+        add_if_meant(a, any, cols, &mut *map, &mut *used, j);
+    }
+}
+
+fn index(x: u16) -> usize
+    ensures { λ r. ⌜ r ≡ x ⌝ }
+{
+    x as usize
+}
+
+fn one_if(b: bool) -> usize
+    ensures { λ r. ⌜ (r ≡ cond b 1 0) × (r ≤ 1) ⌝ }
+{
+    if b { 1 } else { 0 }
+}
+
+// The windows of a list whose vehicles are not among those of the chosen ones, in the same order, to the front of a
+// place; returns how many they are. Each window is put there, and the next over it unless its vehicle is free: so
+// there is no branch to guess.
+fn put_free(
+    a: Among,
+    cols: &[u16; PLACES],
+    used: &[u8; USED],
+    list: &[u16],
+    free: &mut [u16; MOST_TURNS],
+) -> usize
+    requires { ⌜ HallHeld (a .units) (a .size) (now cols) × NumbersOf (a .size .count) (now list) ⌝ }
+    requires { ⌜ (length (now list) ≤ mostTurns) × (length (now free) ≡ mostTurns) ⌝ }
+    ensures { λ r. ⌜ take r (now (free .exit)) ≡ keep (freeIn (now (cols .entry)) (now (used .entry))) (now (list .entry)) ⌝ }
+    ensures { λ r. ⌜ (r ≤ length (now (list .entry))) × (length (now (free .exit)) ≡ mostTurns) ⌝ }
+{
+    let mut count = 0;
+    let mut i = 0;
+    while i < list.len() {
+        let t = list[i];
+        free[count] = t;
+        count += one_if(is_free(a.units, used, row_at(cols, index(t))));
+        i += 1;
+    }
+    count
+}
+
+// The same as choose_beside on a list no longer than all windows. Most of its windows are of vehicles that have one
+// already: these are left out at once.
+fn choose_free(
+    a: Among,
+    any: bool,
+    cols: &[u16; PLACES],
+    list: &[u16],
+    map: &mut [u8],
+    used: &mut [u8; USED],
+)
+    requires { ⌜ HallHeld (a .units) (a .size) (now cols) × NumbersOf (a .size .count) (now list) × Clean (a .size .count) (now map) ⌝ }
+    requires { ⌜ Supplied (hallAmong a (now cols)) (choiceIn (a .size .count) (now map)) (now used) × (length (now list) ≤ mostTurns) ⌝ }
+    ensures { λ _. ⌜ choiceIn (a .size .count) (now (map .exit))
+        ≡ chooseEach (fitsAmong (hallAmong a (now (cols .entry))) (meant a any (now (cols .entry)))) (now (list .entry))
+        (choiceIn (a .size .count) (now (map .entry))) ⌝ }
+    ensures { λ _. ⌜ Clean (a .size .count) (now (map .exit)) ⌝ }
+{
+    let mut free = [0u16; MOST_TURNS];
+    let count = put_free(a, cols, &*used, list, &mut free);
+    choose_beside(a, any, cols, &free[..count], &mut *map, &mut *used);
+}
+
+fn fewer(x: usize, y: usize) -> usize
+    ensures { λ r. ⌜ (r ≤ x) × (r ≤ y) ⌝ }
+{
+    if x < y { x } else { y }
+}
+
 // The windows of a list of numbers that are of the kind, or any, from its last to its first, into a map that
 // has none chosen.
 fn choose_each(a: Among, any: bool, cols: &[u16; PLACES], list: &[u16], map: &mut [u8])
@@ -73,12 +168,9 @@ fn choose_each(a: Among, any: bool, cols: &[u16; PLACES], list: &[u16], map: &mu
     ensures { λ _. ⌜ Clean (a .size .count) (now (map .exit)) ⌝ }
 {
     let mut used = [0u8; USED];
-    let mut left = list.len();
-    while 0 < left {
-        left -= 1;
-        let j = list[left] as usize;
-        add_if_meant(a, any, cols, &mut *map, &mut used, j);
-    }
+    let later = fewer(list.len(), a.size.count);
+    choose_beside(a, any, cols, &list[later..], &mut *map, &mut used);
+    choose_free(a, any, cols, &list[..later], &mut *map, &mut used);
 }
 
 // All windows of a list of numbers, whatever their kind.

@@ -1,44 +1,25 @@
--- Invariant: the map has what choosing from the list's last number down to number left makes, and the supply says what it uses. Measure: the numbers left.
-use Rattle.model.specs.Choice.{chooseEach}
-use Rattle.choice_map.specs.Choice.{choiceIn, Clean}
-use Rattle.selection.proofs.Fitting.{turn-inside}
-use Rattle.hall_spec.specs.Plan.{fitsAmong}
-use Rattle.hall_steps.specs.Among.{hallAmong}
-use Rattle.hall.specs.OneKind.{meant}
-use Rattle.hall.specs.Supply.{Supplied}
-use lib.ListN.{length, drop, replicate}
-use mathlib.Core.Bool.{false}
-use mathlib.Core.Path.{_≡_}
-use Prim.Native.Nat.{_-_, _≤_}
-use native.Mathlib.Omega.{arith}
 use borrow.Author.Needs.{needs}
-use Rattle.hall.proofs.Allowed.{list-cases}
+use Rattle.hall.proofs.Frees.{parts-cases, parts-chosen}
 use Rattle.hall.proofs.choosing.choose_each.Statement.{statement}
 use Rattle.hall.proofs.choosing.choose_each.Tie as tie
 
-abbrev Inv-loop : tie.InvT-loop
-Inv-loop a any cols list map₀ used₀ left₀ map used left =
-    (left ≤ length list) × Clean (a .size .count) map × Supplied (hallAmong a cols) (choiceIn (a .size .count) map) used × (choiceIn (a .size .count) map ≡ chooseEach (fitsAmong (hallAmong a cols) (meant a any cols)) (drop left list) (replicate (a .size .count) false))
+choose-beside-requires : tie.Need-choose-beside-requires
+choose-beside-requires c κs = ((search needs, search parts-cases, search needs), search parts-cases)
 
-abbrev μ-loop : tie.MeasureT-loop
-μ-loop a any cols list map₀ used₀ left₀ map used left = left
-
-cast-j : tie.Need-cast-j Inv-loop μ-loop
-cast-j c = omega (arith, c .shared-slice-known2 .given (c .before .before .loop .left - 1))
+choose-free-requires : tie.Need-choose-free-requires
+choose-free-requires c κs = ((search needs, search parts-cases, search needs), (search needs, search parts-cases))
 
 pub choose-each-spec : {M : Type 1} → statement M
 choose-each-spec =
     tie.close
     (tie.spec
-    Inv-loop
-    μ-loop
-    (λ c. (search needs, search needs, search list-cases, search list-cases))
+    (λ c κs. search needs)
     (λ c. search needs)
     (λ c. search needs)
     (λ c. search needs)
-    cast-j
-    (λ c κs. search (needs, turn-inside))
     (λ c. search needs)
-    (λ c. (search needs, search needs, search needs, search list-cases))
+    choose-beside-requires
+    (λ c. search (needs, parts-cases))
+    choose-free-requires
     (λ c. search needs)
-    (λ c. (search list-cases, search needs)))
+    (λ c. (search parts-chosen, search needs)))
