@@ -33,10 +33,10 @@ use Rattle.hall_price_spec.specs.Prices.{minutePrice}
 use Rattle.hall_price_spec.specs.Hall.{highestMinutePrice, movedMinute, movedMinutes}
 use Rattle.hall_look.specs.declared.HallSize.{HallSize}
 use Rattle.hall_look.specs.Look.{mostPrice, hallFor, HallPosed, WindowRow}
-use Rattle.hall_moves.specs.Moves.{mostDrawn, mostMove, movePlaces, moveBy, movedWith, MovesTo, FewDrawn, RoomForMore, DrawnBy}
+use Rattle.hall_moves.specs.Moves.{mostDrawn, noMove, mostMove, movePlaces, moveBy, movedBy, MovesTo, EachTo, FewMoves, PricesFit, FewDrawn, RoomForMore, DrawnBy}
 use Rattle.hall_look.proofs.LookCases.{few-windows, window-inside, window-row}
 
--- ---- by how much a price moves
+-- ---- a price's move
 
 module _ (units change drawn : ℕ) {u d : ℕ} (e : u ≡ units) (f : d ≡ drawn) (l : change ≤ mostWorth) where
   module _ (h : units < drawn) (few : drawn ≤ mostDrawn) (m : units ≤ mostUnits) where
@@ -49,11 +49,14 @@ module _ (units change drawn : ℕ) {u d : ℕ} (e : u ≡ units) (f : d ≡ dra
     pub rise-up-fits : Fits w32 (change * (d - u) + (u - 1))
     rise-up-fits = omega (arith, rise-most)
 
-    pub rise-is : (change * (d - u) + (u - 1)) / u ≡ moveBy change units drawn
+    pub rise-move-fits : Fits w32 (noMove + (change * (d - u) + (u - 1)) / u)
+    rise-move-fits = omega (arith, rise-most, div-le-self (change * (d - u) + (u - 1)) u)
+
+    pub rise-is : noMove + (change * (d - u) + (u - 1)) / u ≡ moveBy change units drawn
     unfolding moveBy roundedUp
     rise-is = rw (lt-ltb units drawn h, e, f)
 
-    pub rise-small : (change * (d - u) + (u - 1)) / u ≤ mostMove
+    pub rise-small : noMove + (change * (d - u) + (u - 1)) / u ≤ mostMove
     rise-small = omega (arith, rise-most, div-le-self (change * (d - u) + (u - 1)) u)
 
   module _ (h : drawn ≤ units) (m : units ≤ mostUnits) where
@@ -63,14 +66,17 @@ module _ (units change drawn : ℕ) {u d : ℕ} (e : u ≡ units) (f : d ≡ dra
     pub fall-fits : Fits w32 (change * (u - d))
     fall-fits = omega (arith, fall-most)
 
-    pub fall-is : change * (u - d) / u ≡ moveBy change units drawn
+    pub fall-within : change * (u - d) / u ≤ noMove
+    fall-within = omega (arith, fall-most, div-le-self (change * (u - d)) u)
+
+    pub fall-is : noMove - change * (u - d) / u ≡ moveBy change units drawn
     unfolding moveBy
     fall-is = rw (le-ltb units drawn h, e, f)
 
-    pub fall-small : change * (u - d) / u ≤ mostMove
-    fall-small = omega (arith, fall-most, div-le-self (change * (u - d)) u)
+    pub fall-small : noMove - change * (u - d) / u ≤ mostMove
+    fall-small = omega arith
 
-pub ruleset move-by-cases = (rise-fits, rise-up-fits, rise-is, rise-small, fall-fits, fall-is, fall-small)
+pub ruleset move-by-cases = (rise-fits, rise-up-fits, rise-move-fits, rise-is, rise-small, fall-fits, fall-within, fall-is, fall-small)
 
 -- ---- the same for each draw in a list
 
@@ -115,45 +121,60 @@ pub ruleset listed-cases = (listed-place, listed-is, listed-small)
 
 -- ---- one price
 
-module _ (units drawn : ℕ) (price by : ℕ) {p : ℕ} (e : p ≡ price) where
-  pub up-is : {r : ℕ} → units < drawn → r ≡ min (p + by) highestMinutePrice → r ≡ cond (ltb units drawn) (min highestMinutePrice (price + by)) (price - by)
-  up-is h k = rw (lt-ltb units drawn h) (omega (arith, e))
-
-  pub down-is : {r : ℕ} → drawn ≤ units → r ≡ p - by → r ≡ cond (ltb units drawn) (min highestMinutePrice (price + by)) (price - by)
-  down-is h k = rw (le-ltb units drawn h) (omega (arith, e))
-
-  pub up-fits : {r : ℕ} → r ≡ min (p + by) highestMinutePrice → Fits w16 r
-  up-fits k = omega arith
-
-  pub down-fits : {r : ℕ} → p ≤ mostPrice → r ≡ p - by → Fits w16 r
-  down-fits l k = omega arith
-
-  pub sum-fits : p ≤ mostPrice → by ≤ mostMove → Fits w32 (p + by)
-  sum-fits l k = omega arith
-
-pub ruleset price-cases = (up-is, down-is, up-fits, down-fits, sum-fits)
-
-moved-is : (change units drawn price : ℕ) {by : ℕ} → by ≡ moveBy change units drawn → cond (ltb units drawn) (min highestMinutePrice (price + by)) (price - by) ≡ movedMinute change units drawn price
+moved-is : (change units drawn price : ℕ) {by : ℕ} → units ≤ mostUnits → change ≤ mostWorth → price ≤ mostPrice → by ≡ moveBy change units drawn → min highestMinutePrice (price + by - noMove) ≡ movedMinute change units drawn price
 unfolding moveBy movedMinute
-moved-is change units drawn price e = rw e (go (ltb units drawn))
+moved-is change units drawn price {by} u c p e = go (decLt units drawn)
   where
-    go : (b : Bool) → cond b (min highestMinutePrice (price + cond b (roundedUp (change * (drawn - units)) units) (change * (units - drawn) / units))) (price - cond b (roundedUp (change * (drawn - units)) units) (change * (units - drawn) / units))
-        ≡ cond b (min highestMinutePrice (price + roundedUp (change * (drawn - units)) units)) (price - change * (units - drawn) / units)
-    go true = refl
-    go false = refl
+    go : Dec (units < drawn) → min highestMinutePrice (price + by - noMove) ≡ cond (ltb units drawn) (min highestMinutePrice (price + roundedUp (change * (drawn - units)) units)) (price - change * (units - drawn) / units)
+    go (yes h) = let k : by ≡ noMove + roundedUp (change * (drawn - units)) units = e ∙ rw (lt-ltb units drawn h) in rw (lt-ltb units drawn h) (omega (arith, k))
+    go (no h) =
+        let l : drawn ≤ units = omega arith in
+        let k : by ≡ noMove - change * (units - drawn) / units = e ∙ rw (le-ltb units drawn l) in
+        rw (le-ltb units drawn l) (omega (arith, k, fall-within units change drawn refl refl c l u))
+
+-- ---- the move of each minute
+
+module _ (units change : ℕ) (drawn : List ℕ) (by : List ℕ) where
+  pub each-start : length by ≡ shiftMinutes → EachTo units change drawn by 0
+  each-start l = record { places = l; values = λ m h. absurd (omega arith) }
+
+  module _ {k : ℕ} (s : EachTo units change drawn by k) where
+    pub each-long : length by ≡ shiftMinutes
+    each-long = s .places
+
+    pub each-drawn : k < shiftMinutes → FewDrawn drawn → getD drawn k 0 ≤ mostDrawn
+    unfolding FewDrawn
+    each-drawn h f = f k h
+
+    pub each-more : {x : ℕ} → k < shiftMinutes → x ≡ moveBy change units (getD drawn k 0) → EachTo units change drawn (set by k x) (k + 1)
+    each-more {x} h e = record { places = length-set by k x ∙ s .places; values = λ m l. at m l (ℕ-discrete m k) }
+      where
+        at : (m : ℕ) → m < k + 1 → Dec (m ≡ k) → getD (set by k x) m 0 ≡ moveBy change units (getD drawn m 0)
+        at m l (yes q) = rw q (getD-set-same by k x 0 (omega (arith, s .places)) ∙ e)
+        at m l (no q) = getD-set-other by k m x 0 q ∙ s .values m (omega arith)
+
+    pub each-done : shiftMinutes ≤ k → EachTo units change drawn by shiftMinutes
+    each-done h = record { places = s .places; values = λ m l. s .values m (omega arith) }
+
+pub ruleset each-cases = (each-start, each-long, each-drawn, each-more, each-done)
 
 -- ---- all prices
 
-module _ (units change : ℕ) (drawn old : List ℕ) where
+module _ (by old : List ℕ) where
   -- those of the first m minutes are moved
   pub record MovedTo (new : List ℕ) (m : ℕ) : Type 0 where
     pub within : m ≤ shiftMinutes
     pub size : length new ≡ length old
-    pub done : (i : ℕ) → i < m → getD new i 0 ≡ movedMinute change units (getD drawn i 0) (getD old i 0)
+    pub fit : (i : ℕ) → i < m → getD old i 0 ≤ mostPrice
+    pub done : (i : ℕ) → i < m → getD new i 0 ≡ min highestMinutePrice (getD old i 0 + getD by i 0 - noMove)
     pub others : (i : ℕ) → m ≤ i → getD new i 0 ≡ getD old i 0
 
   pub moved-start : MovedTo old 0
-  moved-start = record { within = omega arith; size = refl; done = λ i l. absurd (omega arith); others = λ i l. refl }
+  moved-start = record { within = omega arith; size = refl; fit = λ i l. absurd (omega arith); done = λ i l. absurd (omega arith); others = λ i l. refl }
+
+  pub moved-few : (m : ℕ) → m < shiftMinutes → FewMoves by → getD by m 0 ≤ mostMove
+  unfolding FewMoves
+  moved-few m h f = f m h
 
   module _ (l : length old ≡ shiftMinutes) {new : List ℕ} {m : ℕ} (s : MovedTo new m) where
     pub moved-long : length new ≡ shiftMinutes
@@ -162,33 +183,36 @@ module _ (units change : ℕ) (drawn old : List ℕ) where
     pub moved-inside : m < shiftMinutes → m < length new
     moved-inside h = omega (arith, moved-long)
 
-    pub moved-few : m < shiftMinutes → FewDrawn drawn → getD drawn m 0 ≤ mostDrawn
-    unfolding FewDrawn
-    moved-few h f = f m h
-
-    pub moved-more : {by x : ℕ} → m < shiftMinutes → by ≡ moveBy change units (getD drawn m 0) → x ≡ cond (ltb units (getD drawn m 0)) (min highestMinutePrice (getD new m 0 + by)) (getD new m 0 - by) → MovedTo (set new m x) (m + 1)
-    moved-more h g f =
-        let x = movedMinute change units (getD drawn m 0) (getD new m 0) in
-        let e = f ∙ moved-is change units (getD drawn m 0) (getD new m 0) g in
-        rw e (record {
+    pub moved-more : {p x : ℕ} → m < shiftMinutes → p ≡ getD new m 0 → p ≤ mostPrice → x ≡ min highestMinutePrice (p + getD by m 0 - noMove) → MovedTo (set new m x) (m + 1)
+    moved-more {x = x} h e a f =
+        record {
           within = omega arith;
           size = length-set new m x ∙ s .size;
+          fit = λ i k. fits i k (ℕ-discrete i m);
           done = λ i k. at i k (ℕ-discrete i m);
           others = λ i k. getD-set-other new m i x 0 (omega arith) ∙ s .others i (omega arith);
-        })
+        }
       where
-        at : (i : ℕ) → i < m + 1 → Dec (i ≡ m) → getD (set new m (movedMinute change units (getD drawn m 0) (getD new m 0))) i 0 ≡ movedMinute change units (getD drawn i 0) (getD old i 0)
-        at i k (yes q) = rw q (getD-set-same new m (movedMinute change units (getD drawn m 0) (getD new m 0)) 0 (moved-inside h) ∙ ap (movedMinute change units (getD drawn m 0)) (s .others m (omega arith)))
-        at i k (no q) = getD-set-other new m i (movedMinute change units (getD drawn m 0) (getD new m 0)) 0 q ∙ s .done i (omega arith)
+        fits : (i : ℕ) → i < m + 1 → Dec (i ≡ m) → getD old i 0 ≤ mostPrice
+        fits i k (yes q) = rw q (omega (arith, e, a, s .others m (omega arith)))
+        fits i k (no q) = s .fit i (omega arith)
 
-    pub moved-done : shiftMinutes ≤ m → new ≡ movedWith units change drawn old
-    unfolding movedWith minutePrice
+        at : (i : ℕ) → i < m + 1 → Dec (i ≡ m) → getD (set new m x) i 0 ≡ min highestMinutePrice (getD old i 0 + getD by i 0 - noMove)
+        at i k (yes q) = rw q (getD-set-same new m x 0 (moved-inside h) ∙ f ∙ ap (λ (y : ℕ). min highestMinutePrice (y + getD by m 0 - noMove)) (e ∙ s .others m (omega arith)))
+        at i k (no q) = getD-set-other new m i x 0 q ∙ s .done i (omega arith)
+
+    pub moved-done : shiftMinutes ≤ m → new ≡ movedBy by old
+    unfolding movedBy minutePrice
     moved-done h =
-        let f : ℕ → ℕ = λ i. movedMinute change units (getD drawn i 0) (getD old i 0) in
+        let f : ℕ → ℕ = λ i. min highestMinutePrice (getD old i 0 + getD by i 0 - noMove) in
         ext-getD 0 new (tab shiftMinutes f) (moved-long ∙ sym (tab-length shiftMinutes f))
         (λ i k. s .done i (omega (arith, moved-long)) ∙ sym (tab-at shiftMinutes f 0 i (omega (arith, moved-long))))
 
-pub ruleset moved-minutes-cases = (moved-start, moved-long, moved-inside, moved-few, moved-more, moved-done)
+    pub moved-fit : shiftMinutes ≤ m → PricesFit old
+    unfolding PricesFit
+    moved-fit h i k = s .fit i (omega arith)
+
+pub ruleset moved-minutes-cases = (moved-start, moved-few, moved-long, moved-inside, moved-more, moved-done, moved-fit)
 
 -- ---- a window draws
 
@@ -378,12 +402,17 @@ pub ruleset set-drawn-cases = (window-inside, window-row, set-few, set-start, se
 
 -- ---- the whole
 
-module _ (h : HallSize) (cols : List ℕ) (S : List Bool) (drawn : List ℕ) (d : DrawnBy (hallFor h cols) S drawn) where
-  pub minutes-moved : (change : ℕ) (prices : List ℕ) {new : List ℕ} → new ≡ movedWith (h .units) change drawn prices → new ≡ movedMinutes (hallFor h cols) S change prices
-  unfolding movedWith movedMinutes
-  minutes-moved change prices e =
-      e
-      ∙ tab-same shiftMinutes (λ m. movedMinute change (h .units) (getD drawn m 0) (minutePrice prices m)) (λ m. movedMinute change (h .units) (drawnAt (hallFor h cols) S m) (minutePrice prices m))
-      (λ m l. ap (λ (x : ℕ). movedMinute change (h .units) x (minutePrice prices m)) (d .values m l))
+module _ (h : HallSize) (cols : List ℕ) (S : List Bool) (drawn : List ℕ) (q : HallPosed h cols) (change : ℕ) (c : change ≤ mostWorth) (d : DrawnBy (hallFor h cols) S drawn) {by : List ℕ} (s : EachTo (h .units) change drawn by shiftMinutes) where
+  pub minutes-few : FewMoves by
+  unfolding FewMoves FewDrawn
+  minutes-few m l = omega (arith, s .values m l, move-small (h .units) change (getD drawn m 0) (q .held .units-to) (d .few m l) c)
 
-pub ruleset minutes-cases = (minutes-moved)
+  pub minutes-moved : (prices : List ℕ) {new : List ℕ} → PricesFit prices → new ≡ movedBy by prices → new ≡ movedMinutes (hallFor h cols) S change prices
+  unfolding movedBy movedMinutes minutePrice PricesFit
+  minutes-moved prices p e =
+      e
+      ∙ tab-same shiftMinutes (λ m. min highestMinutePrice (getD prices m 0 + getD by m 0 - noMove)) (λ m. movedMinute change (h .units) (drawnAt (hallFor h cols) S m) (getD prices m 0))
+      (λ m l. moved-is change (h .units) (getD drawn m 0) (getD prices m 0) (q .held .units-to) c (p m l) (s .values m l)
+      ∙ ap (λ (x : ℕ). movedMinute change (h .units) x (getD prices m 0)) (d .values m l))
+
+pub ruleset minutes-cases = (minutes-few, minutes-moved)

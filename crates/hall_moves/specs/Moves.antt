@@ -2,7 +2,7 @@
 use mathlib.Core.Path.{_≡_}
 use mathlib.Core.Bool.{Bool, cond}
 use mathlib.Core.List.{List}
-use Prim.Native.Nat.{ℕ, _+_, _-_, _*_, _/_, _≤_, _<_}
+use Prim.Native.Nat.{ℕ, _+_, _-_, _*_, _/_, _≤_, _<_, min}
 use lib.Dec.{ltb}
 use lib.ListN.{length, getD}
 use Rattle.lists.specs.Lists.{tab}
@@ -11,34 +11,52 @@ use Rattle.sheet.specs.Kind.{mostTurns}
 use Rattle.hall_spec.specs.Hall.{mostUnits, Hall, drawnAt}
 use Rattle.hall_spec.specs.Plan.{roundedUp}
 use Rattle.hall_price_spec.specs.Prices.{minutePrice}
-use Rattle.hall_price_spec.specs.Hall.{movedMinute}
+use Rattle.hall_price_spec.specs.Hall.{highestMinutePrice}
+use Rattle.hall_look.specs.Look.{mostPrice}
 
 -- the most that windows draw at a minute: all of them, and all units each
 abbrev pub mostDrawn : ℕ
 mostDrawn = mostTurns * mostUnits
 
--- by how much the price of a minute moves at which so much is drawn: up where that is more than the units, else down
-unfoldable pub moveBy : ℕ → ℕ → ℕ → ℕ
-moveBy change units drawn = cond (ltb units drawn) (roundedUp (change * (drawn - units)) units) (change * (units - drawn) / units)
+-- a move is held as a number: this one is none, what is above it is up, what is below it down
+abbrev pub noMove : ℕ
+noMove = mostWorth * mostUnits
 
--- never by more than this
+-- the move of the price of a minute at which so much is drawn: up where that is more than the units, else down
+unfoldable pub moveBy : ℕ → ℕ → ℕ → ℕ
+moveBy change units drawn = cond (ltb units drawn) (noMove + roundedUp (change * (drawn - units)) units) (noMove - change * (units - drawn) / units)
+
+-- never more than this
 abbrev pub mostMove : ℕ
-mostMove = mostWorth * mostDrawn + mostUnits
+mostMove = noMove + mostWorth * mostDrawn + mostUnits
 
 -- a place for each draw up to four times the most units
 abbrev pub movePlaces : ℕ
 movePlaces = 4 * mostUnits + 1
 
--- all prices after a round, where so many units are there and a list has what is drawn at each minute
-unfoldable pub movedWith : ℕ → ℕ → List ℕ → List ℕ → List ℕ
-movedWith units change drawn prices = tab shiftMinutes (λ m. movedMinute change units (getD drawn m 0) (minutePrice prices m))
+-- all prices after the moves of a list
+unfoldable pub movedBy : List ℕ → List ℕ → List ℕ
+movedBy by prices = tab shiftMinutes (λ m. min highestMinutePrice (minutePrice prices m + getD by m 0 - noMove))
 
 -- ---- as statements
 
--- by how much a price moves, for each draw below k
+-- the move for each draw below k
 pub record MovesTo (units change : ℕ) (moves : List ℕ) (k : ℕ) : Type 0 where
   pub places : length moves ≡ movePlaces
   pub values : (d : ℕ) → d < k → getD moves d 0 ≡ moveBy change units d
+
+-- the moves of the first k minutes, where a list has what is drawn at each
+pub record EachTo (units change : ℕ) (drawn by : List ℕ) (k : ℕ) : Type 0 where
+  pub places : length by ≡ shiftMinutes
+  pub values : (m : ℕ) → m < k → getD by m 0 ≡ moveBy change units (getD drawn m 0)
+
+-- no minute's move is more than the most
+unfoldable pub FewMoves : List ℕ → Type 0
+FewMoves by = (m : ℕ) → m < shiftMinutes → getD by m 0 ≤ mostMove
+
+-- the prices are 16-bit numbers
+unfoldable pub PricesFit : List ℕ → Type 0
+PricesFit prices = (m : ℕ) → m < shiftMinutes → getD prices m 0 ≤ mostPrice
 
 -- at no minute more is drawn than windows can draw
 unfoldable pub FewDrawn : List ℕ → Type 0

@@ -1,8 +1,6 @@
 // How a round moves the price of each minute, by what the relaxed set draws then.
 ghost use mathlib.Core.Path.{_≡_};
-ghost use mathlib.Core.Bool.{cond};
 ghost use Prim.Native.Nat.{_+_, _-_, _≤_, _<_, min};
-ghost use lib.Dec.{ltb};
 ghost use lib.ListN.{length, replicate};
 ghost use Rattle.turn.specs.Turn.{shiftMinutes, mostWorth};
 ghost use Rattle.choice_map.specs.Choice.{choiceIn, Clean};
@@ -10,7 +8,7 @@ ghost use Rattle.hall_spec.specs.Hall.{mostUnits};
 ghost use Rattle.hall.specs.Supply.{Drawn};
 ghost use Rattle.hall_price_spec.specs.Hall.{highestMinutePrice, movedMinutes};
 ghost use Rattle.hall_look.specs.Look.{mostPrice, hallFor, HallPosed, WindowRow};
-ghost use Rattle.hall_moves.specs.Moves.{mostDrawn, mostMove, movePlaces, moveBy, movedWith, MovesTo, FewDrawn, RoomForMore, DrawnBy};
+ghost use Rattle.hall_moves.specs.Moves.{mostDrawn, noMove, mostMove, movePlaces, moveBy, movedBy, MovesTo, EachTo, FewMoves, PricesFit, FewDrawn, RoomForMore, DrawnBy};
 use hall_look::HallSize;
 use hall_look::MINUTES;
 use instance::PLACES;
@@ -25,7 +23,7 @@ fn wide(x: u16) -> u32
     x as u32
 }
 
-// By how much a price moves is computed once a round for each draw up to four times the units of any hall.
+// A move is computed once a round for each draw up to four times the units of any hall.
 const MOST_LISTED: usize = 192;
 
 const MOVES: usize = MOST_LISTED + 1;
@@ -43,16 +41,20 @@ fn left_after(x: u32, y: u32) -> u32
     if x < y { 0 } else { x - y }
 }
 
-// By how much the price of a minute moves at which so much is drawn.
+// A move is held as a number, so that prices move alike whether up or down: this one is none, what is above it is up,
+// what is below it down. No price falls by more.
+const NO_MOVE: u32 = 2880000;
+
+// The move of the price of a minute at which so much is drawn.
 fn move_by(units: u16, change: u32, drawn: u16) -> u32
     requires { ⌜ (1 ≤ units) × (units ≤ mostUnits) × (drawn ≤ mostDrawn) × (change ≤ mostWorth) ⌝ }
     ensures { λ r. ⌜ (r ≡ moveBy change units drawn) × (r ≤ mostMove) ⌝ }
 {
     let all = wide(units);
     if drawn > units {
-        return (change * (wide(drawn) - all) + (all - 1)) / all;
+        return NO_MOVE + (change * (wide(drawn) - all) + (all - 1)) / all;
     }
-    change * (all - wide(drawn)) / all
+    NO_MOVE - change * (all - wide(drawn)) / all
 }
 
 // Puts that move for each draw of the list.
@@ -79,37 +81,42 @@ fn listed_move(units: u16, change: u32, moves: &[u32; MOVES], drawn: u16) -> u32
     move_by(units, change, drawn)
 }
 
-// A price that moves by so much: up where more than the units is drawn, else down.
-fn moved_minute(units: u16, drawn: u16, by: u32, price: u16) -> u16
-    requires { ⌜ by ≤ mostMove ⌝ }
-    ensures { λ r. ⌜ r ≡ cond (ltb units drawn) (min highestMinutePrice (price + by)) (price - by) ⌝ }
+// A price after a move, neither below 0 nor above the highest.
+fn moved_minute(by: u32, price: u32) -> u16
+    requires { ⌜ (by ≤ mostMove) × (price ≤ mostPrice) ⌝ }
+    ensures { λ r. ⌜ r ≡ min highestMinutePrice (price + by - noMove) ⌝ }
 {
-    let before = wide(price);
-    let raised = smaller(before + by, HIGHEST_MINUTE_PRICE);
-    let lowered = left_after(before, by);
-    if drawn > units {
-        return raised as u16;
-    }
-    lowered as u16
+    smaller(left_after(price + by, NO_MOVE), HIGHEST_MINUTE_PRICE) as u16
 }
 
-// Moves all prices, where it is known what is drawn at each minute.
-fn move_each(
+// The move of each minute, where it is known what is drawn then.
+fn put_each(
     units: u16,
     change: u32,
     moves: &[u32; MOVES],
     drawn: &[u16; MINUTES],
-    prices: &mut [u16],
+    by: &mut [u32; MINUTES],
 )
-    requires { ⌜ (1 ≤ units) × (units ≤ mostUnits) × (change ≤ mostWorth) × FewDrawn (now drawn) × (length (now prices) ≡ shiftMinutes) ⌝ }
+    requires { ⌜ (1 ≤ units) × (units ≤ mostUnits) × (change ≤ mostWorth) × FewDrawn (now drawn) × (length (now by) ≡ shiftMinutes) ⌝ }
     requires { ⌜ MovesTo units change (now moves) movePlaces ⌝ }
-    ensures { λ _. ⌜ now (prices .exit) ≡ movedWith units change (now (drawn .entry)) (now (prices .entry)) ⌝ }
+    ensures { λ _. ⌜ EachTo units change (now (drawn .entry)) (now (by .exit)) shiftMinutes ⌝ }
 {
     let mut m = 0;
     while m < MINUTES {
-        let price = prices[m];
-        let by = listed_move(units, change, moves, drawn[m]);
-        prices[m] = moved_minute(units, drawn[m], by, price);
+        by[m] = listed_move(units, change, moves, drawn[m]);
+        m += 1;
+    }
+}
+
+// Moves all prices. The moves are looked up before, so that this loop vectorises.
+fn move_each(by: &[u32; MINUTES], prices: &mut [u16])
+    requires { ⌜ FewMoves (now by) × (length (now prices) ≡ shiftMinutes) ⌝ }
+    ensures { λ _. ⌜ (now (prices .exit) ≡ movedBy (now (by .entry)) (now (prices .entry))) × PricesFit (now (prices .entry)) ⌝ }
+{
+    let mut m = 0;
+    while m < MINUTES {
+        let price = wide(prices[m]);
+        prices[m] = moved_minute(by[m], price);
         m += 1;
     }
 }
@@ -158,5 +165,7 @@ pub fn move_minutes(
     put_drawn(h, cols, relaxed, &mut drawn);
     let mut moves = [0u32; MOVES];
     put_moves(h.units, change, &mut moves);
-    move_each(h.units, change, &moves, &drawn, &mut *prices);
+    let mut by = [0u32; MINUTES];
+    put_each(h.units, change, &moves, &drawn, &mut by);
+    move_each(&by, &mut *prices);
 }

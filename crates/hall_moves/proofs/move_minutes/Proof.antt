@@ -6,4 +6,10 @@ use Rattle.hall_moves.proofs.move_minutes.Tie as tie
 pub move-minutes-spec : {M : Type 1} → statement M
 move-minutes-spec =
     tie.close
-    (tie.spec (λ c κs. search needs) (λ c κs. search needs) (λ c κs. search needs) (λ c. search needs) (λ c. search (needs, minutes-cases)))
+    (tie.spec
+    (λ c κs. search needs)
+    (λ c κs. search needs)
+    (λ c κs. search needs)
+    (λ c κs. search (needs, minutes-cases))
+    (λ c. search needs)
+    (λ c. search (needs, minutes-cases)))
