@@ -79,7 +79,8 @@ fn choose_beside(
     requires { ⌜ HallHeld (a .units) (a .size) (now cols) × NumbersOf (a .size .count) (now list) × Clean (a .size .count) (now map) ⌝ }
     requires { ⌜ Supplied (hallAmong a (now cols)) (choiceIn (a .size .count) (now map)) (now used) ⌝ }
     ensures { λ _. ⌜ choiceIn (a .size .count) (now (map .exit))
-        ≡ chooseEach (fitsAmong (hallAmong a (now (cols .entry))) (meant a any (now (cols .entry)))) (now (list .entry)) (choiceIn (a .size .count) (now (map .entry))) ⌝ }
+        ≡ chooseEach (fitsAmong (hallAmong a (now (cols .entry))) (meant a any (now (cols .entry)))) (now (list .entry))
+        (choiceIn (a .size .count) (now (map .entry))) ⌝ }
     ensures { λ _. ⌜ Clean (a .size .count) (now (map .exit)) ⌝ }
     ensures { λ _. ⌜ Supplied (hallAmong a (now (cols .entry))) (choiceIn (a .size .count) (now (map .exit))) (now (used .exit)) ⌝ }
 {
@@ -142,7 +143,8 @@ fn choose_free(
     requires { ⌜ HallHeld (a .units) (a .size) (now cols) × NumbersOf (a .size .count) (now list) × Clean (a .size .count) (now map) ⌝ }
     requires { ⌜ Supplied (hallAmong a (now cols)) (choiceIn (a .size .count) (now map)) (now used) × (length (now list) ≤ mostTurns) ⌝ }
     ensures { λ _. ⌜ choiceIn (a .size .count) (now (map .exit))
-        ≡ chooseEach (fitsAmong (hallAmong a (now (cols .entry))) (meant a any (now (cols .entry)))) (now (list .entry)) (choiceIn (a .size .count) (now (map .entry))) ⌝ }
+        ≡ chooseEach (fitsAmong (hallAmong a (now (cols .entry))) (meant a any (now (cols .entry)))) (now (list .entry))
+        (choiceIn (a .size .count) (now (map .entry))) ⌝ }
     ensures { λ _. ⌜ Clean (a .size .count) (now (map .exit)) ⌝ }
 {
     let mut free = [0u16; MOST_TURNS];
