@@ -24,12 +24,12 @@ use Rattle.instance.specs.Columns.{rowIn, turnsBy}
 use Rattle.instance.proofs.Rows.{count-is, slope-at}
 use Rattle.price_spec.specs.Prices.{slopePrice, turnPrice}
 use Rattle.prices.specs.declared.Extent.{Extent}
-use Rattle.prices.specs.Held.{mostPrice, turnsIn, orderPlaces, driverPlace, paidFrom, paidTo, DriversUpTo, Ordered, Priced}
+use Rattle.prices.specs.Held.{mostPrice, turnsIn, orderPlaces, driverPlace, DriversUpTo, Ordered, Priced}
 use Rattle.prices.proofs.UndrivenCases.{none-named}
 use Rattle.refine_spec.specs.Shift.{highestPrice, slopePayers, turnPayers, movedPrice, turnChange, movedPrices}
-use Rattle.shift_moves.specs.Moves.{payerPlaces, numberBehind, timesChosen, payersBefore, payersPresent, presentAt, nobody, payersAfter, slopePayersIn, turnPayersIn, ownPlace, placeBehind, turnPricePlace, SmallNumbers, Times, PaidRuns, Summable, FewPayers, EachOnce, MovedBy}
+use Rattle.shift_moves.specs.Moves.{payerPlaces, numberBehind, timesChosen, payersBefore, nobody, payersAt, payersAfter, slopePayersIn, turnPayersIn, ownPlace, placeBehind, turnPricePlace, SmallNumbers, Times, PaidRuns, Payers, FewPayers, EachOnce, MovedBy}
 use Rattle.shift_moves.proofs.DriversOrder.{turn-place, payers-are, no-payers}
-use Rattle.shift_moves.proofs.PayerCases.{times-most, runs-from, runs-to, payers-summable, payers-present, sum-inside, sum-fits, sum-left, sum-next, sum-few}
+use Rattle.shift_moves.proofs.PayerCases.{times-most, payers-most}
 
 -- ---- the change
 
@@ -176,70 +176,63 @@ pub ruleset slope-cases = (slope-numbers, slope-few, slope-moved, slope-within)
 
 -- ---- the turns' prices
 
-module _ (change : ℕ) (e : Extent) (orders joining leaving old : List ℕ) where
-  -- those of the turns at the first j places of the drivers' order are moved, and the payers of the last of them are at hand
-  pub record TurnsMoved (new : List ℕ) (here j : ℕ) : Type 0 where
+module _ (change : ℕ) (e : Extent) (orders payers old : List ℕ) where
+  -- those of the turns at the first j places of the drivers' order are moved
+  pub record TurnsMoved (new : List ℕ) (j : ℕ) : Type 0 where
     pub within : j ≤ e .size .count
-    pub now-here : here ≡ payersPresent joining leaving j
-    pub moved : MovedBy change (presentAt joining leaving) (turnPricePlace (e .slopes) orders) j old new
+    pub moved : MovedBy change (payersAt payers) (turnPricePlace (e .slopes) orders) j old new
 
-  pub turns-start : TurnsMoved old 0 0
-  turns-start = record { within = omega arith; now-here = omega arith; moved = moved-none change (presentAt joining leaving) (turnPricePlace (e .slopes) orders) old }
+  pub turns-start : TurnsMoved old 0
+  turns-start = record { within = omega arith; moved = moved-none change (payersAt payers) (turnPricePlace (e .slopes) orders) old }
 
-  module _ (new : List ℕ) {here j : ℕ} (s : TurnsMoved new here j) where
+  module _ (new : List ℕ) {j : ℕ} (s : TurnsMoved new j) where
     pub turns-long : length new ≡ length old
     turns-long = s .moved .size
 
-    pub turns-done : e .size .count ≤ j → MovedBy change (presentAt joining leaving) (turnPricePlace (e .slopes) orders) (e .size .count) old new
+    pub turns-done : e .size .count ≤ j → MovedBy change (payersAt payers) (turnPricePlace (e .slopes) orders) (e .size .count) old new
     turns-done h = let q : j ≡ e .size .count = omega (arith, s .within) in rw q at (s .moved)
 
-    module _ (h : j < e .size .count) (w : Summable (e .size .count) joining leaving) where
-      pub turns-place : j < payerPlaces
-      turns-place = sum-inside (e .size .count) joining leaving w (s .now-here) h
+    module _ (h : j < e .size .count) where
+      pub turns-place : e .size .count ≤ mostTurns → j < payerPlaces
+      turns-place l = omega arith
 
-      pub turns-read : 2 * mostTurns + j < orderPlaces
-      turns-read = omega (arith, w .few)
+      pub turns-read : e .size .count ≤ mostTurns → 2 * mostTurns + j < orderPlaces
+      turns-read l = omega arith
 
-      pub turns-joined : here + getD joining j 0 < 65536
-      turns-joined = sum-fits (e .size .count) joining leaving w (s .now-here) h
-
-      pub turns-left : getD leaving j 0 ≤ here + getD joining j 0
-      turns-left = sum-left (e .size .count) joining leaving w (s .now-here) h
-
-      pub turns-few : here + getD joining j 0 - getD leaving j 0 ≤ mostTurns
-      turns-few = sum-few (e .size .count) joining leaving w (s .now-here) h
+      pub turns-few : FewPayers (e .size .count) payers → getD payers j 0 ≤ mostTurns
+      unfolding FewPayers
+      turns-few f = f j h
 
       module _ (o : EachOnce (e .size .count) orders) {x : ℕ} (q : x ≡ driverPlace orders j) where
-        pub turns-fits : e .slopes ≤ mostSlopes → Fits w64 (e .slopes + x)
-        turns-fits k = omega (arith, q, o .inside j h, w .few)
+        pub turns-fits : e .slopes ≤ mostSlopes → e .size .count ≤ mostTurns → Fits w64 (e .slopes + x)
+        turns-fits k l = omega (arith, q, o .inside j h)
 
         module _ (l : length old ≡ e .slopes + e .size .count) where
           pub turns-inside : e .slopes + x < length new
           turns-inside = omega (arith, q, o .inside j h, turns-long)
 
-          pub turns-more : {new′ : List ℕ} → new′ ≡ set new (e .slopes + x) (movedPrice change (here + getD joining j 0 - getD leaving j 0) (getD new (e .slopes + x) 0)) →
-              TurnsMoved new′ (here + getD joining j 0 - getD leaving j 0) (j + 1)
+          pub turns-more : {new′ : List ℕ} → new′ ≡ set new (e .slopes + x) (movedPrice change (getD payers j 0) (getD new (e .slopes + x) 0)) → TurnsMoved new′ (j + 1)
           turns-more g =
-              rw (g, q, sum-next (e .size .count) joining leaving w (s .now-here) h) (record {
+              rw (g, q) (record {
                 within = omega arith;
-                now-here = refl;
-                moved = moved-more change (presentAt joining leaving) (turnPricePlace (e .slopes) orders) old j new (omega (arith, o .inside j h)) (λ i m z. o .apart i j m h (omega arith)) (s .moved);
+                moved = moved-more change (payersAt payers) (turnPricePlace (e .slopes) orders) old j new (omega (arith, o .inside j h)) (λ i m z. o .apart i j m h (omega arith)) (s .moved);
               })
 
-pub ruleset turns-moved-cases = (turns-start, turns-long, turns-done, turns-place, turns-read, turns-joined, turns-left, turns-few, turns-fits, turns-inside, turns-more)
+pub ruleset turns-moved-cases = (turns-start, turns-long, turns-done, turns-place, turns-read, turns-few, turns-fits, turns-inside, turns-more)
 
-module _ (e : Extent) (orders relaxed : List ℕ) (r : PaidRuns (e .size .count) orders) (joining leaving : List ℕ) (js : Times (e .size .count) (choiceIn (e .size .count) relaxed) (paidFrom orders) joining)
-    (ls : Times (e .size .count) (choiceIn (e .size .count) relaxed) (paidTo orders) leaving) where
-  pub turn-sums : Summable (e .size .count) joining leaving
-  turn-sums = payers-summable (e .size .count) (choiceIn (e .size .count) relaxed) orders r joining leaving js ls
+module _ (e : Extent) (orders relaxed : List ℕ) (r : PaidRuns (e .size .count) orders) (payers : List ℕ) (ps : Payers (e .size .count) (choiceIn (e .size .count) relaxed) orders payers) where
+  pub turn-few : FewPayers (e .size .count) payers
+  unfolding FewPayers
+  turn-few k h = omega (arith, ps .values k h, payers-most (e .size .count) (choiceIn (e .size .count) relaxed) orders (k + 1), r .few)
 
-  pub turn-moved : (change : ℕ) (old new : List ℕ) {c : ℕ} → c ≡ turnChange change → MovedBy c (presentAt joining leaving) (turnPricePlace (e .slopes) orders) (e .size .count) old new
+  pub turn-moved : (change : ℕ) (old new : List ℕ) {c : ℕ} → c ≡ turnChange change → MovedBy c (payersAt payers) (turnPricePlace (e .slopes) orders) (e .size .count) old new
       → MovedBy (turnChange change) (turnPayersIn e orders relaxed) (turnPricePlace (e .slopes) orders) (e .size .count) old new
-  turn-moved change old new q s =
-      moved-same (turnChange change) (presentAt joining leaving) (turnPricePlace (e .slopes) orders) old (turnPayersIn e orders relaxed) (e .size .count) new
-      (payers-present (e .size .count) (choiceIn (e .size .count) relaxed) orders r joining leaving js ls) (rw q at s)
+  turn-moved change old new q s = moved-same (turnChange change) (payersAt payers) (turnPricePlace (e .slopes) orders) old (turnPayersIn e orders relaxed) (e .size .count) new (ps .values) (rw q at s)
 
-pub ruleset turn-cases = (runs-from, runs-to, turn-sums, turn-moved)
+pub turn-count : (e : Extent) (orders : List ℕ) → PaidRuns (e .size .count) orders → e .size .count ≤ mostTurns
+turn-count e orders r = r .few
+
+pub ruleset turn-cases = (turn-few, turn-moved, turn-count)
 
 -- ---- the turns' prices where none has a payer
 

@@ -18,7 +18,7 @@ use Rattle.model.specs.Choice.{has, chosen}
 use Rattle.choice_map.specs.Choice.{chosenIn, choiceIn, Clean}
 use Rattle.choice_map.proofs.Clean.{choice-has, clean-bits}
 use Rattle.prices.specs.Held.{paidFrom, paidTo}
-use Rattle.shift_moves.specs.Moves.{payerPlaces, numberBehind, timesChosen, timesBefore, payersBefore, payersPresent, presentAt, SmallNumbers, Times, PaidRuns, Summable}
+use Rattle.shift_moves.specs.Moves.{payerPlaces, numberBehind, timesChosen, timesBefore, payersBefore, payersPresent, SmallNumbers, Times, PaidRuns, Summable, Present, Payers}
 
 -- ---- a count is no more than what is counted
 
@@ -156,13 +156,14 @@ module _ (n : ℕ) (S : List Bool) (orders : List ℕ) (r : PaidRuns n orders) w
     payers-summable =
         record {
           few = r .few;
+          places = js .places;
           left = λ m l. omega (arith, sums-are m l);
           small = λ m l. omega (arith, sums-are m l, payers-most n S orders m, r .few);
           joined = λ m l. omega (arith, js .values m (omega (arith, r .few)), times-most n S (paidFrom orders) m, r .few);
         }
 
-    pub payers-present : (j : ℕ) → j < n → presentAt joining leaving j ≡ payersBefore n S orders (j + 1)
-    payers-present j l = omega (arith, sums-are (j + 1) (omega arith))
+    pub payers-present : (payers : List ℕ) → Present joining leaving payers n → Payers n S orders payers
+    payers-present payers p = record { values = λ j l. omega (arith, p .values j l, sums-are (j + 1) (omega arith)) }
 
 module _ (n : ℕ) (orders : List ℕ) (r : PaidRuns n orders) where
   pub runs-from : SmallNumbers n orders (3 * mostTurns)
@@ -171,23 +172,57 @@ module _ (n : ℕ) (orders : List ℕ) (r : PaidRuns n orders) where
   pub runs-to : SmallNumbers n orders (4 * mostTurns)
   runs-to = record { few = r .few; within = omega (arith, r .places, r .few); small = λ t l. omega (arith, r .within t l, r .few) }
 
+pub ruleset payer-cases = (runs-from, runs-to, payers-summable, payers-present)
+
 -- ---- summing up
 
-module _ (n : ℕ) (joining leaving : List ℕ) (w : Summable n joining leaving) {here j : ℕ} (e : here ≡ payersPresent joining leaving j) (h : j < n) where
-  pub sum-inside : j < payerPlaces
-  sum-inside = omega (arith, w .few)
+-- the payers of the first i places are put, and those of the place before the next are at hand
+pub record Along (n : ℕ) (joining leaving payers : List ℕ) (here i : ℕ) : Type 0 where
+  pub within : i ≤ n
+  pub present : Present joining leaving payers i
+  pub now-here : here ≡ payersPresent joining leaving i
 
-  pub sum-fits : here + getD joining j 0 < 65536
-  sum-fits = omega (arith, e, w .small j (omega arith), w .joined j h)
+module _ (n : ℕ) (joining leaving : List ℕ) (w : Summable n joining leaving) where
+  pub along-start : Along n joining leaving joining 0 0
+  along-start = record { within = omega arith; present = record { places = w .places; values = λ j l. absurd (omega arith); others = λ j l. refl }; now-here = omega arith }
 
-  next-sums : (sumBefore joining (j + 1) ≡ getD joining j 0 + sumBefore joining j) × (sumBefore leaving (j + 1) ≡ getD leaving j 0 + sumBefore leaving j)
-  next-sums = (rw (add-one j), rw (add-one j))
+  module _ (payers : List ℕ) {here i : ℕ} (s : Along n joining leaving payers here i) where
+    module _ (h : i < n) where
+      pub along-inside : i < payerPlaces
+      along-inside = omega (arith, w .few)
 
-  pub sum-left : getD leaving j 0 ≤ here + getD joining j 0
-  sum-left = let (a, b) = next-sums in omega (arith, e, w .left j (omega arith), w .left (j + 1) (omega arith))
+      joined-here : getD payers i 0 ≡ getD joining i 0
+      joined-here = s .present .others i (omega arith)
 
-  pub sum-next : here + getD joining j 0 - getD leaving j 0 ≡ presentAt joining leaving j
-  sum-next = let (a, b) = next-sums in omega (arith, e, w .left j (omega arith))
+      pub along-fits : here + getD payers i 0 < 65536
+      along-fits = omega (arith, s .now-here, joined-here, w .small i (omega arith), w .joined i h)
 
-  pub sum-few : here + getD joining j 0 - getD leaving j 0 ≤ mostTurns
-  sum-few = omega (arith, sum-next, w .small (j + 1) (omega arith))
+      next-sums : (sumBefore joining (i + 1) ≡ getD joining i 0 + sumBefore joining i) × (sumBefore leaving (i + 1) ≡ getD leaving i 0 + sumBefore leaving i)
+      next-sums = (rw (add-one i), rw (add-one i))
+
+      pub along-left : getD leaving i 0 ≤ here + getD payers i 0
+      along-left = let (a, b) = next-sums in omega (arith, s .now-here, joined-here, w .left i (omega arith), w .left (i + 1) (omega arith))
+
+      pub along-more : Along n joining leaving (set payers i (here + getD payers i 0 - getD leaving i 0)) (here + getD payers i 0 - getD leaving i 0) (i + 1)
+      along-more =
+          record {
+            within = omega arith;
+            present = record {
+              places = length-set payers i (here + getD payers i 0 - getD leaving i 0) ∙ s .present .places;
+              values = λ j l. value j l (ℕ-discrete j i);
+              others = λ j l. getD-set-other payers i j (here + getD payers i 0 - getD leaving i 0) 0 (omega arith) ∙ s .present .others j (omega arith);
+            };
+            now-here = now-next;
+          }
+        where
+          now-next : here + getD payers i 0 - getD leaving i 0 ≡ payersPresent joining leaving (i + 1)
+          now-next = let (a, b) = next-sums in omega (arith, s .now-here, joined-here, w .left i (omega arith))
+
+          value : (j : ℕ) → j < i + 1 → Dec (j ≡ i) → getD (set payers i (here + getD payers i 0 - getD leaving i 0)) j 0 ≡ payersPresent joining leaving (j + 1)
+          value j l (yes q) = rw q (getD-set-same payers i (here + getD payers i 0 - getD leaving i 0) 0 (omega (arith, s .present .places, w .few)) ∙ now-next)
+          value j l (no q) = getD-set-other payers i j (here + getD payers i 0 - getD leaving i 0) 0 q ∙ s .present .values j (omega arith)
+
+    pub along-done : n ≤ i → Present joining leaving payers n
+    along-done h = let q : i ≡ n = omega (arith, s .within) in rw q at (s .present)
+
+pub ruleset along-cases = (along-start, along-inside, along-fits, along-left, along-more, along-done)

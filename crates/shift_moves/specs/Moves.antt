@@ -39,15 +39,14 @@ payersBefore n S orders m = chosen n S (λ t. cond (ltb (paidFrom orders t) m &&
 abbrev pub payersPresent : List ℕ → List ℕ → ℕ → ℕ
 payersPresent joining leaving m = sumBefore joining m - sumBefore leaving m
 
--- the payers at place j of the drivers' order: those that joined there or before, less those that left
-abbrev pub presentAt : List ℕ → List ℕ → ℕ → ℕ
-presentAt joining leaving j = payersPresent joining leaving (j + 1)
-
 -- where no turn names a driver, no turn's price has a payer
 abbrev pub nobody : ℕ → ℕ
 nobody u = 0
 
--- the payers at the place behind place k of a table
+-- the payers at a place of a table, and those at the place behind it
+abbrev pub payersAt : List ℕ → ℕ → ℕ
+payersAt payers j = getD payers j 0
+
 abbrev pub payersAfter : List ℕ → ℕ → ℕ
 payersAfter payers k = getD payers (k + 1) 0
 
@@ -94,9 +93,20 @@ pub record PaidRuns (n : ℕ) (orders : List ℕ) : Type 0 where
 -- payers that join and leave, in numbers that can be summed up
 pub record Summable (n : ℕ) (joining leaving : List ℕ) : Type 0 where
   pub few : n ≤ mostTurns
+  pub places : length joining ≡ payerPlaces
   pub left : (m : ℕ) → m ≤ n → sumBefore leaving m ≤ sumBefore joining m
   pub small : (m : ℕ) → m ≤ n → payersPresent joining leaving m ≤ mostTurns
   pub joined : (m : ℕ) → m < n → getD joining m 0 ≤ mostTurns
+
+-- at the first i places stand the payers of each, at the others who joins there
+pub record Present (joining leaving payers : List ℕ) (i : ℕ) : Type 0 where
+  pub places : length payers ≡ payerPlaces
+  pub values : (j : ℕ) → j < i → getD payers j 0 ≡ payersPresent joining leaving (j + 1)
+  pub others : (j : ℕ) → i ≤ j → getD payers j 0 ≡ getD joining j 0
+
+-- the payers of the first n places of the drivers' order
+pub record Payers (n : ℕ) (S : List Bool) (orders payers : List ℕ) : Type 0 where
+  pub values : (j : ℕ) → j < n → getD payers j 0 ≡ payersBefore n S orders (j + 1)
 
 -- no more payers at the first n places than there can be turns
 unfoldable pub FewPayers : ℕ → List ℕ → Type 0

@@ -11,8 +11,8 @@ ghost use Rattle.sheet.specs.Kind.{mostTurns, mostSlopes};
 ghost use Rattle.choice_map.specs.Choice.{choiceIn, Clean};
 ghost use Rattle.prices.specs.Held.{mostPrice, turnsIn, Ordered, Priced};
 ghost use Rattle.refine_spec.specs.Shift.{highestPrice, movedPrice, turnChange, movedPrices};
-ghost use Rattle.shift_moves.specs.Moves.{payerPlaces, numberBehind, presentAt, nobody, payersAfter, slopePayersIn, turnPayersIn, ownPlace, placeBehind, turnPricePlace};
-ghost use Rattle.shift_moves.specs.Moves.{SmallNumbers, Times, PaidRuns, Summable, FewPayers, EachOnce, MovedBy};
+ghost use Rattle.shift_moves.specs.Moves.{payerPlaces, numberBehind, payersAt, payersAfter, slopePayersIn, turnPayersIn, ownPlace, turnPricePlace};
+ghost use Rattle.shift_moves.specs.Moves.{nobody, placeBehind, SmallNumbers, Times, PaidRuns, Summable, Present, Payers, FewPayers, EachOnce, MovedBy};
 use instance::MOST_TURNS;
 use instance::PLACES;
 use prices::DRIVERS;
@@ -146,6 +146,33 @@ fn count_numbers(n: usize, relaxed: &[u8], numbers: &[u16], at: usize, times: &m
     }
 }
 
+// The payers at each place, from those that join and those that leave there.
+fn sum_payers(n: usize, payers: &mut [u16; PAYERS], leaving: &[u16; PAYERS])
+    requires { ⌜ Summable n (now payers) (now leaving) ⌝ }
+    ensures { λ _. ⌜ Present (now (payers .entry)) (now (leaving .entry)) (now (payers .exit)) n ⌝ }
+{
+    let mut here: u16 = 0;
+    let mut j = 0;
+    while j < n {
+        let met = here + payers[j];
+        here = met - leaving[j];
+        payers[j] = here;
+        j += 1;
+    }
+}
+
+// The payers of the turn at each place of the drivers' order.
+fn count_payers(n: usize, orders: &[u16; ORDERS], relaxed: &[u8], payers: &mut [u16; PAYERS])
+    requires { ⌜ Clean n (now relaxed) × PaidRuns n (now orders) × (now payers ≡ replicate payerPlaces 0) ⌝ }
+    ensures { λ _. ⌜ Payers n (choiceIn n (now (relaxed .entry))) (now (orders .entry)) (now (payers .exit)) ⌝ }
+{
+    let all = &orders[..];
+    let mut leaving = [0u16; PAYERS];
+    count_numbers(n, relaxed, all, FROMS, &mut *payers);
+    count_numbers(n, relaxed, all, TOS, &mut leaving);
+    sum_payers(n, &mut *payers, &leaving);
+}
+
 // Moves the prices of the slopes. Place s of the payers is for slope s.
 fn move_slope_prices(slopes: usize, payers: &[u16; PAYERS], change: u32, prices: &mut [u16])
     requires { ⌜ (slopes ≤ mostSlopes) × (slopes ≤ length (now prices)) × (change ≤ mostWorth) × FewPayers (slopes + 1) (now payers) ⌝ }
@@ -158,28 +185,24 @@ fn move_slope_prices(slopes: usize, payers: &[u16; PAYERS], change: u32, prices:
     }
 }
 
-// Moves the prices of the turns. Summed up along the drivers' order, those that join and leave at each place give
-// its payers.
+// Moves the prices of the turns, where those that pay are known by the place in the drivers' order. Summing the payers
+// up is a loop of its own: in one loop with this it was slower.
 fn move_turn_prices(
     e: Extent,
     orders: &[u16; ORDERS],
-    joining: &[u16; PAYERS],
-    leaving: &[u16; PAYERS],
+    payers: &[u16; PAYERS],
     change: u32,
     prices: &mut [u16],
 )
-    requires { ⌜ (e .slopes ≤ mostSlopes) × (length (now prices) ≡ e .slopes + e .size .count) × (change ≤ mostWorth) ⌝ }
-    requires { ⌜ EachOnce (e .size .count) (now orders) × Summable (e .size .count) (now joining) (now leaving) ⌝ }
-    ensures { λ _. ⌜ MovedBy change (presentAt (now (joining .entry)) (now (leaving .entry))) (turnPricePlace (e .slopes) (now (orders .entry)))
-        (e .size .count) (now (prices .entry)) (now (prices .exit)) ⌝ }
+    requires { ⌜ (e .slopes ≤ mostSlopes) × (e .size .count ≤ mostTurns) × (length (now prices) ≡ e .slopes + e .size .count) ⌝ }
+    requires { ⌜ EachOnce (e .size .count) (now orders) × (change ≤ mostWorth) × FewPayers (e .size .count) (now payers) ⌝ }
+    ensures { λ _. ⌜ MovedBy change (payersAt (now (payers .entry))) (turnPricePlace (e .slopes) (now (orders .entry))) (e .size .count)
+        (now (prices .entry)) (now (prices .exit)) ⌝ }
 {
-    let mut here: u16 = 0;
     let mut j = 0;
     while j < e.size.count {
-        let met = here + joining[j];
-        here = met - leaving[j];
         let at = e.slopes + as_place(orders[DRIVERS + j]);
-        move_price(change, here, &mut *prices, at);
+        move_price(change, payers[j], &mut *prices, at);
         j += 1;
     }
 }
@@ -221,20 +244,9 @@ fn move_turns(e: Extent, orders: &[u16; ORDERS], relaxed: &[u8], change: u32, pr
     ensures { λ _. ⌜ MovedBy (turnChange change) (turnPayersIn e (now (orders .entry)) (now (relaxed .entry)))
         (turnPricePlace (e .slopes) (now (orders .entry))) (e .size .count) (now (prices .entry)) (now (prices .exit)) ⌝ }
 {
-    let n = e.size.count;
-    let all = &orders[..];
-    let mut joining = [0u16; PAYERS];
-    let mut leaving = [0u16; PAYERS];
-    count_numbers(n, relaxed, all, FROMS, &mut joining);
-    count_numbers(n, relaxed, all, TOS, &mut leaving);
-    move_turn_prices(
-        e,
-        orders,
-        &joining,
-        &leaving,
-        turn_change(change),
-        &mut *prices,
-    );
+    let mut payers = [0u16; PAYERS];
+    count_payers(e.size.count, orders, relaxed, &mut payers);
+    move_turn_prices(e, orders, &payers, turn_change(change), &mut *prices);
 }
 
 // Moves every price by how many turns of the relaxed set pay it.

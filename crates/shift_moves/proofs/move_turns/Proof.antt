@@ -7,8 +7,7 @@ pub move-turns-spec : {M : Type 1} → statement M
 move-turns-spec =
     tie.close
     (tie.spec
-    (λ c κs. search (needs, turn-cases))
-    (λ c κs. search (needs, turn-cases))
+    (λ c κs. search needs)
     (λ c κs. search needs)
     (λ c κs. search (needs, turn-cases))
     (λ c. search needs)
