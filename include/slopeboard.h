@@ -115,7 +115,7 @@ enum {
  * are not in registers and with what the ABI lets a function write below the stack pointer. What memcpy and memset
  * need beyond their return address comes on top. */
 #define SLOPEBOARD_STACK_ASSIGN 10736
-#define SLOPEBOARD_STACK_BEST 14000
+#define SLOPEBOARD_STACK_BEST 14016
 #define SLOPEBOARD_STACK_CHARGE 24848
 #define SLOPEBOARD_STACK_CHARGE_LIMIT 13744
 #define SLOPEBOARD_STACK_CHARGE_REFINE 27080
@@ -125,7 +125,7 @@ enum {
 #define SLOPEBOARD_STACK_IMPROVE 17792
 #define SLOPEBOARD_STACK_IS_CHOSEN 8
 #define SLOPEBOARD_STACK_KEEP 5392
-#define SLOPEBOARD_STACK_LIMIT 20592
+#define SLOPEBOARD_STACK_LIMIT 20608
 #define SLOPEBOARD_STACK_LIST 23168
 #define SLOPEBOARD_STACK_OPEN 8
 #define SLOPEBOARD_STACK_PLAN 15488
