@@ -18,12 +18,13 @@ use Rattle.sheet.specs.Kind.{mostTurns}
 use Rattle.model.specs.Turns.{Turns, byDriver}
 use Rattle.model.proofs.Conflicts
 use Rattle.instance.specs.declared.ways.Row.{Row}
-use Rattle.instance.specs.Columns.{rowIn}
+use Rattle.instance.specs.declared.columns.Size.{Size}
+use Rattle.instance.specs.Columns.{rowIn, turnsBy}
 use Rattle.instance.proofs.Rows.{count-is, slope-at, worth-at}
 use Rattle.best_spec.specs.Table.{turnOrder}
 use Rattle.price_spec.specs.Prices.{slopePrice, turnPrice, paysTurn, paidBy, countsFor}
 use Rattle.prices.specs.declared.Extent.{Extent}
-use Rattle.prices.specs.Held.{byDrivers, turnsIn, placePrice, placesSum, paidFrom, paidTo, mostPrice, SumsTo, CountsTo, PaidRun, Ordered, Priced}
+use Rattle.prices.specs.Held.{byDrivers, turnsIn, placePrice, placesSum, paidFrom, paidTo, mostPrice, leftAfter, SumsTo, NumbersTo, PaymentsTo, CountsTo, PaidRun, Ordered, Priced}
 use Rattle.prices.proofs.SumCases.{drivers-sum}
 
 -- ---- a run's sum
@@ -137,22 +138,38 @@ pub count-is-left : (e : Extent) (cols prices : List ℕ) (t : ℕ) {a : Row} {p
 unfolding countsFor
 count-is-left e cols prices t h ea f g = g ∙ rw (f, worth-at (e .size) cols t h ea)
 
-module _ (e : Extent) (cols prices : List ℕ) where
-  pub counts-start : (counts : List ℕ) → length counts ≡ mostTurns → CountsTo (turnsIn e cols) (e .slopes) prices counts 0
-  counts-start counts l = record { places = l; values = λ t a. absurd (omega arith) }
+-- a list that gets a number for each turn
+module _ (number : ℕ → ℕ) (numbers : List ℕ) where
+  pub numbers-start : length numbers ≡ mostTurns → NumbersTo number numbers 0
+  numbers-start l = record { places = l; values = λ t a. absurd (omega arith) }
 
-  module _ (counts : List ℕ) (i : ℕ) (s : CountsTo (turnsIn e cols) (e .slopes) prices counts i) where
-    pub counts-more : {r : ℕ} → i < mostTurns → r ≡ countsFor (turnsIn e cols) (e .slopes) prices i → CountsTo (turnsIn e cols) (e .slopes) prices (set counts i r) (i + 1)
-    counts-more {r} h q = record { places = length-set counts i r ∙ s .places; values = λ t a. go t a (ℕ-discrete t i) }
+  module _ (i : ℕ) (s : NumbersTo number numbers i) where
+    pub numbers-more : {r : ℕ} → i < mostTurns → r ≡ number i → NumbersTo number (set numbers i r) (i + 1)
+    numbers-more {r} h q = record { places = length-set numbers i r ∙ s .places; values = λ t a. go t a (ℕ-discrete t i) }
       where
-        go : (t : ℕ) → t < i + 1 → Dec (t ≡ i) → getD (set counts i r) t 0 ≡ countsFor (turnsIn e cols) (e .slopes) prices t
-        go t a (yes d) = rw d (getD-set-same counts i r 0 (omega (arith, s .places)) ∙ q)
-        go t a (no d) = getD-set-other counts i t r 0 d ∙ s .values t (omega arith)
+        go : (t : ℕ) → t < i + 1 → Dec (t ≡ i) → getD (set numbers i r) t 0 ≡ number t
+        go t a (yes d) = rw d (getD-set-same numbers i r 0 (omega (arith, s .places)) ∙ q)
+        go t a (no d) = getD-set-other numbers i t r 0 d ∙ s .values t (omega arith)
 
-    pub counts-done : e .size .count ≤ i → i ≤ e .size .count → CountsTo (turnsIn e cols) (e .slopes) prices counts (e .size .count)
-    counts-done a b = let z : i ≡ e .size .count = omega arith in rw z at s
+    pub numbers-done : (n : ℕ) → n ≤ i → i ≤ n → NumbersTo number numbers n
+    numbers-done n a b = let z : i ≡ n = omega arith in rw z at s
 
-  pub counts-few : (i : ℕ) → i < e .size .count → Priced e cols prices → i < mostTurns
-  counts-few i h w = omega (arith, w .few)
+pub numbers-few : (e : Extent) (cols prices : List ℕ) (i : ℕ) → i < e .size .count → Priced e cols prices → i < mostTurns
+numbers-few e cols prices i h w = omega (arith, w .few)
 
-pub ruleset counts-cases = (counts-start, counts-more, counts-done, counts-few)
+pub ruleset numbers-cases = (numbers-start, numbers-more, numbers-done, numbers-few)
+
+-- what is left of the worths, of turns in columns
+pub left-few : (p : Size) (t : ℕ) → t < p .count → p .count ≤ mostTurns → t < mostTurns
+left-few p t h few = omega arith
+
+module _ (p : Size) (cols paid : List ℕ) where
+  pub left-is : (t : ℕ) {a : Row} {r : ℕ} → t < p .count → a ≡ rowIn cols t → r ≡ a .worth - getD paid t 0 → r ≡ leftAfter (turnsBy p cols) paid t
+  unfolding leftAfter
+  left-is t h ea g = g ∙ rw (worth-at p cols t h ea)
+
+-- it is the counts, where they pay what is due
+pub left-counts : (e : Extent) (cols prices paid counts : List ℕ) → PaymentsTo (turnsIn e cols) (e .slopes) prices paid (e .size .count) → NumbersTo (leftAfter (turnsIn e cols) paid) counts (e .size .count)
+    → CountsTo (turnsIn e cols) (e .slopes) prices counts (e .size .count)
+unfolding countsFor leftAfter
+left-counts e cols prices paid counts p l = record { places = l .places; values = λ t h. l .values t h ∙ rw (p .values t h) }

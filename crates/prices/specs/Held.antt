@@ -14,7 +14,7 @@ use Rattle.sheet.specs.Kind.{mostTurns, mostSlopes}
 use Rattle.instance.specs.declared.columns.Size.{Size}
 use Rattle.instance.specs.Columns.{columnPlaces, turnsBy}
 use Rattle.best_table.specs.Held.{placeBefore, entryPlaces}
-use Rattle.price_spec.specs.Prices.{slopePrice, turnPrice, paysTurn, countsFor}
+use Rattle.price_spec.specs.Prices.{slopePrice, turnPrice, paysTurn, paidBy, countsFor}
 use Rattle.prices.specs.declared.Extent.{Extent}
 
 -- the greatest 16-bit number
@@ -74,6 +74,10 @@ slopesSum prices n = sum (λ k. slopePrice prices (k + 1)) (below n)
 -- the orders with turn t at place i of the drivers' order, and its run
 abbrev pub withRun : List ℕ → ℕ → ℕ → ℕ → ℕ → List ℕ
 withRun orders i t from to = set (set (set orders (2 * mostTurns + i) t) (3 * mostTurns + t) from) (4 * mostTurns + t) to
+
+-- what is left of turn t's worth, of turns that pay so much
+unfoldable pub leftAfter : Turns → List ℕ → ℕ → ℕ
+leftAfter T paid t = T .worth t - getD paid t 0
 
 -- ---- as statements
 
@@ -140,10 +144,18 @@ pub record SummedTo (want : ℕ → ℕ) (n k sum : ℕ) : Type 0 where
   pub is : sum ≡ want k
   pub most : sum ≤ k * mostPrice
 
+-- the first i turns have their numbers, in a list for all turns that a sheet can have
+pub record NumbersTo (number : ℕ → ℕ) (numbers : List ℕ) (i : ℕ) : Type 0 where
+  pub places : length numbers ≡ mostTurns
+  pub values : (t : ℕ) → t < i → getD numbers t 0 ≡ number t
+
+-- the first i turns have what they pay
+abbrev pub PaymentsTo : Turns → ℕ → List ℕ → List ℕ → ℕ → Type 0
+PaymentsTo T slopes prices paid i = NumbersTo (paidBy T slopes prices) paid i
+
 -- the first i turns have their counts
-pub record CountsTo (T : Turns) (slopes : ℕ) (prices counts : List ℕ) (i : ℕ) : Type 0 where
-  pub places : length counts ≡ mostTurns
-  pub values : (t : ℕ) → t < i → getD counts t 0 ≡ countsFor T slopes prices t
+abbrev pub CountsTo : Turns → ℕ → List ℕ → List ℕ → ℕ → Type 0
+CountsTo T slopes prices counts i = NumbersTo (countsFor T slopes prices) counts i
 
 -- a turn pays the prices of the turns from one place of the drivers' order to before another, and no others; one without a driver has its run at the front
 pub record PaidRun (T : Turns) (t from to : ℕ) : Type 0 where

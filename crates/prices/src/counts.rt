@@ -3,8 +3,10 @@ ghost use mathlib.Core.Path.{_≡_};
 ghost use Prim.Native.Nat.{_+_, _-_, _*_, _≤_, _<_};
 ghost use lib.ListN.{length, getD};
 ghost use Rattle.sheet.specs.Kind.{mostTurns, mostSlopes};
-ghost use Rattle.price_spec.specs.Prices.{paidBy, countsFor, priceSum};
-ghost use Rattle.prices.specs.Held.{turnsIn, paidFrom, paidTo, mostPrice, Priced, Ordered, SumsTo, CountsTo};
+ghost use Rattle.instance.specs.Columns.{turnsBy};
+ghost use Rattle.price_spec.specs.Prices.{paidBy, priceSum};
+ghost use Rattle.prices.specs.Held.{turnsIn, paidFrom, paidTo, mostPrice, leftAfter, Priced, Ordered};
+ghost use Rattle.prices.specs.Held.{SumsTo, NumbersTo, PaymentsTo, CountsTo};
 use super::Extent;
 use super::ORDERS;
 use super::runs::FROMS;
@@ -17,6 +19,7 @@ use super::undriven::put_slope_counts;
 use best_table::ENTRIES;
 use instance::MOST_TURNS;
 use instance::PLACES;
+use instance::Size;
 use instance::row_at;
 
 // The sum of what is paid at the places of turn t's run.
@@ -59,41 +62,46 @@ fn paid_by(
     price_at(prices, row.slope as usize - 1) + run_sum(orders, sums, t)
 }
 
-// What turn t counts for.
-fn count_of(
+// What all turns pay.
+fn put_payments(
     e: Extent,
     cols: &[u16; PLACES],
     orders: &[u16; ORDERS],
     prices: &[u16],
     sums: &[u32; ENTRIES],
-    t: usize,
-) -> u16
-    requires { ⌜ (t < e .size .count) × Priced e (now cols) (now prices) × Ordered (turnsIn e (now cols)) (now orders) ⌝ }
-    requires { ⌜ SumsTo (turnsIn e (now cols)) (e .slopes) (now prices) (now sums) (e .size .count) ⌝ }
-    ensures { λ r. ⌜ r ≡ countsFor (turnsIn e (now (cols .entry))) (e .slopes) (now (prices .entry)) t ⌝ }
-{
-    let paid = paid_by(e, cols, orders, prices, sums, t);
-    let row = row_at(cols, t);
-    left_of(row.worth, paid)
-}
-
-// What all turns count for, with the sums.
-fn put_counts_with(
-    e: Extent,
-    cols: &[u16; PLACES],
-    orders: &[u16; ORDERS],
-    prices: &[u16],
-    sums: &[u32; ENTRIES],
-    counts: &mut [u16; MOST_TURNS],
+    paid: &mut [u32; MOST_TURNS],
 )
-    requires { ⌜ Priced e (now cols) (now prices) × Ordered (turnsIn e (now cols)) (now orders) × (length (now counts) ≡ mostTurns) ⌝ }
+    requires { ⌜ Priced e (now cols) (now prices) × Ordered (turnsIn e (now cols)) (now orders) × (length (now paid) ≡ mostTurns) ⌝ }
     requires { ⌜ SumsTo (turnsIn e (now cols)) (e .slopes) (now prices) (now sums) (e .size .count) ⌝ }
-    ensures { λ _. ⌜ CountsTo (turnsIn e (now (cols .entry))) (e .slopes) (now (prices .entry)) (now (counts .exit)) (e .size .count) ⌝ }
+    ensures { λ _. ⌜ PaymentsTo (turnsIn e (now (cols .entry))) (e .slopes) (now (prices .entry)) (now (paid .exit)) (e .size .count) ⌝ }
 {
     let n = e.size.count;
     let mut t = 0;
     while t < n {
-        counts[t] = count_of(e, cols, orders, prices, sums, t);
+        paid[t] = paid_by(e, cols, orders, prices, sums, t);
+        t += 1;
+    }
+}
+
+// What is left of turn t's worth.
+fn left_after(p: Size, cols: &[u16; PLACES], paid: &[u32; MOST_TURNS], t: usize) -> u16
+    requires { ⌜ (t < p .count) × (p .count ≤ mostTurns) ⌝ }
+    ensures { λ r. ⌜ r ≡ leftAfter (turnsBy p (now (cols .entry))) (now (paid .entry)) t ⌝ }
+{
+    let row = row_at(cols, t);
+    left_of(row.worth, paid[t])
+}
+
+// What is left of all turns' worths. It has a loop of its own: in one with the payments the compiler would make
+// a branch for each turn, and the branches would be mispredicted.
+fn put_left(p: Size, cols: &[u16; PLACES], paid: &[u32; MOST_TURNS], counts: &mut [u16; MOST_TURNS])
+    requires { ⌜ (p .count ≤ mostTurns) × (length (now counts) ≡ mostTurns) ⌝ }
+    ensures { λ _. ⌜ NumbersTo (leftAfter (turnsBy p (now (cols .entry))) (now (paid .entry))) (now (counts .exit)) (p .count) ⌝ }
+{
+    let n = p.count;
+    let mut t = 0;
+    while t < n {
+        counts[t] = left_after(p, cols, paid, t);
         t += 1;
     }
 }
@@ -112,7 +120,9 @@ fn put_driven_counts(
 {
     let mut sums = [0u32; ENTRIES];
     put_sums(e, cols, orders, prices, &mut sums);
-    put_counts_with(e, cols, orders, prices, &sums, &mut *counts);
+    let mut paid = [0u32; MOST_TURNS];
+    put_payments(e, cols, orders, prices, &sums, &mut paid);
+    put_left(e.size, cols, &paid, &mut *counts);
     let n = e.size.count;
     slope_prices(prices, e.slopes) + sums[n]
 }

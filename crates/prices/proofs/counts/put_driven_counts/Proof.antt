@@ -1,3 +1,4 @@
+use Rattle.prices.proofs.CountCases.{left-counts}
 use Rattle.prices.proofs.SumCases.{both-cases}
 use borrow.Author.Needs.{needs}
 use Rattle.prices.proofs.counts.put_driven_counts.Statement.{statement}
@@ -10,7 +11,8 @@ put-driven-counts-spec =
     (λ c κs. search needs)
     (λ c κs. search needs)
     (λ c κs. search needs)
+    (λ c κs. search needs)
     (λ c. search needs)
     (λ c. search needs)
     (λ c. search (needs, both-cases))
-    (λ c. (search needs, (search both-cases, search (needs, both-cases)))))
+    (λ c. (search (needs, left-counts), (search both-cases, search (needs, both-cases)))))

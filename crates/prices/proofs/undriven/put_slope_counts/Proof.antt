@@ -1,5 +1,5 @@
 -- Invariant: the turns before t have their counts. Measure: the turns left.
-use Rattle.prices.proofs.CountCases.{counts-cases}
+use Rattle.prices.proofs.CountCases.{numbers-cases}
 use Rattle.prices.specs.Held.{turnsIn, CountsTo}
 use Prim.Native.Nat.{_-_, _≤_}
 use borrow.Author.Needs.{needs}
@@ -18,11 +18,11 @@ put-slope-counts-spec =
     (tie.spec
     Inv-loop
     μ-loop
-    (λ c. (search needs, search (needs, counts-cases)))
+    (λ c. (search needs, search (needs, numbers-cases)))
     (λ c κs. (search needs, search needs, search needs))
-    (λ c. search (needs, counts-cases))
-    (λ c. search (needs, counts-cases))
-    (λ c. search (needs, counts-cases))
-    (λ c. search (needs, counts-cases))
-    (λ c. (search needs, search (needs, counts-cases)))
-    (λ c. search (needs, counts-cases)))
+    (λ c. search (needs, numbers-cases))
+    (λ c. search (needs, numbers-cases))
+    (λ c. search (needs, numbers-cases))
+    (λ c. search (needs, numbers-cases))
+    (λ c. (search needs, search (needs, numbers-cases)))
+    (λ c. search (needs, numbers-cases)))
