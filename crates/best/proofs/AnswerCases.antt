@@ -26,8 +26,8 @@ use Rattle.model.specs.Turns.{Turns}
 use Rattle.best_spec.specs.declared.BestAnswer.{BestAnswer}
 use Rattle.best_spec.specs.Table.{bestWorth, bestChoice}
 use Rattle.best_spec.specs.Single.{singleTurns}
-use Rattle.best_spec.specs.Exact.{bestCauses, found, bestIn, exactOf, singleCauses, bestRefused}
-use Rattle.best_table.specs.Held.{Ranged}
+use Rattle.best_spec.specs.Best.{bestCauses, found, bestIn, bestOf, singleCauses, bestRefused}
+use Rattle.best_table.specs.OrderAndTable.{Ranged}
 use Rattle.best_spec.proofs.Optimal.{best-length}
 use Rattle.best_spec.proofs.BestCauses.{single-numbered}
 use Rattle.refusal.specs.Outcome.{beside, unless, thenRoom}
@@ -103,11 +103,11 @@ pub ruleset problem-cases = (problem-small, problem-room, problem-done)
 
 module _ (s cols lent : List ℕ) {r : ReadAnswer} (e : Loaded s r cols) where
   -- a cause before the lent bytes is given
-  declines : (k : ℕ) → firstOf (singleCauses s) ≡ k → (k ≡ 0 → ⊥) → exactOf s lent ≡ beside (bestRefused k) lent
-  unfolding exactOf bestCauses
+  declines : (k : ℕ) → firstOf (singleCauses s) ≡ k → (k ≡ 0 → ⊥) → bestOf s lent ≡ beside (bestRefused k) lent
+  unfolding bestOf bestCauses
   declines = room-stopped (singleCauses s) (mapBytes (turnCount s)) (length lent) _ (λ k. beside (bestRefused k) lent)
 
-  pub best-fault : {x : BestAnswer} → (r .refusal ≡ 0 → ⊥) → x ≡ bestRefused (r .refusal) → beside x lent ≡ exactOf s lent
+  pub best-fault : {x : BestAnswer} → (r .refusal ≡ 0 → ⊥) → x ≡ bestRefused (r .refusal) → beside x lent ≡ bestOf s lent
   unfolding singleCauses
   best-fault f g = rw g (sym (declines (r .refusal) (first-stops (sheetCauses s) _ (r .refusal) (sym (e .refusal)) f) f))
 
@@ -130,17 +130,17 @@ module _ (s cols lent : List ℕ) {r : ReadAnswer} (e : Loaded s r cols) where
         single-is : singleTurns (sheetTurns s) ≡ b
         single-is = sym (g ∙ ap singleTurns turns-are)
 
-        pub best-two : {x : BestAnswer} → b ≡ false → x ≡ bestRefused notSingleTurns → beside x lent ≡ exactOf s lent
+        pub best-two : {x : BestAnswer} → b ≡ false → x ≡ bestRefused notSingleTurns → beside x lent ≡ bestOf s lent
         best-two z h = rw h (sym (declines notSingleTurns (later (single-is ∙ z)) (omega arith)))
 
         -- with one turn a slope and no drivers: only the lent bytes may be too few
-        whole : b ≡ true → bestIn (sheetTurns s) lent ≡ exactOf s lent
-        unfolding bestIn exactOf bestCauses
+        whole : b ≡ true → bestIn (sheetTurns s) lent ≡ bestOf s lent
+        unfolding bestIn bestOf bestCauses
         whole z =
             ap (λ (n : ℕ). unless (thenRoom [] (mapBytes n) (length lent)) (found (sheetTurns s) lent) (λ k. beside (bestRefused k) lent)) (sheet-count s sound)
             ∙ room-left (singleCauses s) (mapBytes (turnCount s)) (length lent) _ (λ k. beside (bestRefused k) lent) (single-numbered s) (later (single-is ∙ z))
 
-        pub best-found : {x : BestAnswer} {lent′ : List ℕ} → b ≡ true → beside x lent′ ≡ bestIn (turnsBy p cols) lent → beside x lent′ ≡ exactOf s lent
+        pub best-found : {x : BestAnswer} {lent′ : List ℕ} → b ≡ true → beside x lent′ ≡ bestIn (turnsBy p cols) lent → beside x lent′ ≡ bestOf s lent
         best-found z h = h ∙ ap (λ (T : Turns). bestIn T lent) turns-are ∙ whole z
 
 pub ruleset best-cases = (best-fault, loaded-held, best-ranged, best-two, best-found)

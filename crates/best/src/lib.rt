@@ -6,8 +6,8 @@ ghost use Rattle.choice_map.specs.Choice.{mapBytes, mapOf};
 ghost use Rattle.instance.specs.Columns.{turnsBy, Held};
 ghost use Rattle.best_spec.specs.Table.{bestWorth, bestChoice};
 ghost use Rattle.refusal.specs.Outcome.{beside};
-ghost use Rattle.best_spec.specs.Exact.{bestRefused, bestIn, exactOf};
-ghost use Rattle.best_table.specs.Held.{Ranged};
+ghost use Rattle.best_spec.specs.Best.{bestRefused, bestIn, bestOf};
+ghost use Rattle.best_table.specs.OrderAndTable.{Ranged};
 
 mod single;
 
@@ -65,7 +65,7 @@ fn answer(p: Size, cols: &[u16; PLACES], map: &mut [u8]) -> BestAnswer
 // Reads any bytes as a sheet, finds the best worth, and writes the map of the set that earns it into any
 // lent bytes.
 pub fn best(s: &[u8], map: &mut [u8]) -> BestAnswer
-    ensures { λ r. ⌜ beside r (now (map .exit)) ≡ exactOf (now (s .entry)) (now (map .entry)) ⌝ }
+    ensures { λ r. ⌜ beside r (now (map .exit)) ≡ bestOf (now (s .entry)) (now (map .entry)) ⌝ }
 {
     let mut cols = [0u16; PLACES];
     let r = instance::load(s, &mut cols);

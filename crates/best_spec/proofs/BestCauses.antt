@@ -24,7 +24,7 @@ use Rattle.sheet.proofs.ReadCauses.{more-tell, more-within}
 use Rattle.choice_map.specs.Choice.{mapBytes}
 use Rattle.instance_spec.specs.Problem.{sheetTurns}
 use Rattle.best_spec.specs.Single.{aloneBelow, singleTurn, singleTurns}
-use Rattle.best_spec.specs.Exact.{bestCauses, found, exactOf, BestCause, two-turns, names-driver, FirstBestCause, singleCauses, Earned, NotSingle}
+use Rattle.best_spec.specs.Best.{bestCauses, found, bestOf, BestCause, two-turns, names-driver, FirstBestCause, singleCauses, Earned, NotSingle}
 use Rattle.best_spec.proofs.Singles.{single-driverless, single-slopes, single-of}
 use Rattle.refusal.proofs.Words.{Tells, room-tells}
 use Rattle.refusal.proofs.Outcome.{number-first, number-iff, number-none, enough-iff}
@@ -71,18 +71,18 @@ module _ (s : List ℕ) where
       (more-tell s notSingleTurns (NotSingle T) (not (singleTurns T)) (not-single-iff T) refl) (mapBytes (turnCount s)) places
 
 module _ (s lent : List ℕ) where
-  pub best-number : exactOf s lent .answer .refusal ≡ firstOf (bestCauses s (length lent))
-  unfolding exactOf
+  pub best-number : bestOf s lent .answer .refusal ≡ firstOf (bestCauses s (length lent))
+  unfolding bestOf
   best-number = number-first (bestCauses s (length lent)) _ _ (λ (o : Earned). o .answer .refusal) refl (λ k. refl)
 
   -- the entry refuses with k exactly where the first cause has number k
-  pub best-refused-iff : (k : ℕ) → (k ≡ 0 → ⊥) → (exactOf s lent .answer .refusal ≡ k) ↔ FirstBestCause s (length lent) k
-  unfolding exactOf
+  pub best-refused-iff : (k : ℕ) → (k ≡ 0 → ⊥) → (bestOf s lent .answer .refusal ≡ k) ↔ FirstBestCause s (length lent) k
+  unfolding bestOf
   best-refused-iff = number-iff (bestCauses s (length lent)) _ _ (λ (o : Earned). o .answer .refusal) refl (λ k. refl) (best-tells s (length lent))
 
   -- where it refuses nothing the answer is the best of the sheet's turns
-  pub best-is-found : exactOf s lent .answer .refusal ≡ 0 → exactOf s lent ≡ found (sheetTurns s) lent
-  unfolding exactOf
+  pub best-is-found : bestOf s lent .answer .refusal ≡ 0 → bestOf s lent ≡ found (sheetTurns s) lent
+  unfolding bestOf
   best-is-found = number-none (bestCauses s (length lent)) _ _ (λ (o : Earned). o .answer .refusal) refl (λ k. refl)
 
   -- that is: the sheet is not refused, the shift is single, and the lent bytes hold a bit for each turn
@@ -96,13 +96,13 @@ module _ (s lent : List ℕ) where
       )
 
   -- no cause is there: the sheet is not refused, has no drivers and one turn a slope, and the lent bytes hold a bit for each turn
-  pub best-clear : exactOf s lent .answer .refusal ≡ 0 →
+  pub best-clear : bestOf s lent .answer .refusal ≡ 0 →
       (firstOf (sheetCauses s) ≡ 0) × NoDrivers (sheetTurns s) × OneTurnASlope (sheetTurns s) × (mapBytes (turnCount s) ≤ length lent)
   best-clear e = let (z, q, l) = clear-iff .0 (sym best-number ∙ e) in (z, single-driverless (sheetTurns s) q, single-slopes (sheetTurns s) q, l)
 
 -- the entry refuses nothing just if the sheet is accepted, has no drivers and one turn a slope, and the lent bytes hold a bit for each turn
 pub best-accepted-iff : {s : List ℕ} → Bytes s → (lent : List ℕ) →
-    (exactOf s lent .answer .refusal ≡ 0) ↔ (Accepted s × NoDrivers (sheetTurns s) × OneTurnASlope (sheetTurns s) × (mapBytes (turnCount s) ≤ length lent))
+    (bestOf s lent .answer .refusal ≡ 0) ↔ (Accepted s × NoDrivers (sheetTurns s) × OneTurnASlope (sheetTurns s) × (mapBytes (turnCount s) ≤ length lent))
 best-accepted-iff {s} b lent = (
   λ e. let (z, d, o, l) = best-clear s lent e in (accepted-iff b .0 z, d, o, l),
   λ (a, d, o, l). best-number s lent ∙ clear-iff s lent .1 (accepted-iff b .1 a, single-of (sheetTurns s) d o, l),

@@ -8,7 +8,7 @@ use lib.ListN.{length, drop}
 use borrow.Author.Tests.{ne-eqb}
 use Rattle.lists.specs.Lists.{All, none, more}
 use Rattle.model.specs.Turns.{Turns, oneGroomer}
-use Rattle.best_spec.specs.Table.{Best, noTurns, adding, inTheWay, blocked, bestOf}
+use Rattle.best_spec.specs.Table.{Best, noTurns, adding, inTheWay, blocked, bestOver}
 use Rattle.best_spec.proofs.Members.{all-drop}
 use Rattle.best_spec.proofs.Tables.{bestBefore, best-without, best-with, best-ind, blocked-most}
 
@@ -39,27 +39,27 @@ module _ (T : Turns) (ys : List ℕ) where
   drop-first (suc k) (u ∷ us) h = drop-first k us (omega arith)
 
   -- the best of what ends early enough, in both lists
-  before-first : (t : ℕ) → Other t → (us : List ℕ) → bestOf T (drop (blocked T t us) us ++ ys) ≡ together (bestBefore T t us) (bestOf T ys) → bestBefore T t (us ++ ys) ≡ together (bestBefore T t us) (bestOf T ys)
+  before-first : (t : ℕ) → Other t → (us : List ℕ) → bestOver T (drop (blocked T t us) us ++ ys) ≡ together (bestBefore T t us) (bestOver T ys) → bestBefore T t (us ++ ys) ≡ together (bestBefore T t us) (bestOver T ys)
   before-first t o us e = rw (blocked-first t o us, drop-first (blocked T t us) us (blocked-most T t us)) e
 
-  pub groomers-add : (xs : List ℕ) → All Other xs → bestOf T (xs ++ ys) ≡ together (bestOf T xs) (bestOf T ys)
-  groomers-add = best-ind T (λ xs b. All Other xs → bestOf T (xs ++ ys) ≡ together b (bestOf T ys)) (λ h. alone) without with
+  pub groomers-add : (xs : List ℕ) → All Other xs → bestOver T (xs ++ ys) ≡ together (bestOver T xs) (bestOver T ys)
+  groomers-add = best-ind T (λ xs b. All Other xs → bestOver T (xs ++ ys) ≡ together b (bestOver T ys)) (λ h. alone) without with
     where
-      alone : bestOf T ys ≡ together noTurns (bestOf T ys)
-      alone = let e : 0 + bestOf T ys .worth ≡ bestOf T ys .worth = omega arith in rw e
+      alone : bestOver T ys ≡ together noTurns (bestOver T ys)
+      alone = let e : 0 + bestOver T ys .worth ≡ bestOver T ys .worth = omega arith in rw e
 
-      without : (t : ℕ) (us : List ℕ) → T .worth t + bestBefore T t us .worth ≤ bestOf T us .worth → (All Other us → bestOf T (us ++ ys) ≡ together (bestOf T us) (bestOf T ys)) →
-          (All Other (drop (blocked T t us) us) → bestOf T (drop (blocked T t us) us ++ ys) ≡ together (bestBefore T t us) (bestOf T ys)) → All Other (t ∷ us) → bestOf T (t ∷ us ++ ys) ≡ together (bestOf T us) (bestOf T ys)
+      without : (t : ℕ) (us : List ℕ) → T .worth t + bestBefore T t us .worth ≤ bestOver T us .worth → (All Other us → bestOver T (us ++ ys) ≡ together (bestOver T us) (bestOver T ys)) →
+          (All Other (drop (blocked T t us) us) → bestOver T (drop (blocked T t us) us ++ ys) ≡ together (bestBefore T t us) (bestOver T ys)) → All Other (t ∷ us) → bestOver T (t ∷ us ++ ys) ≡ together (bestOver T us) (bestOver T ys)
       without t us l p q (more o os) =
           let a = p os in
           let b = before-first t o us (q (all-drop (blocked T t us) os)) in
           best-without T t (us ++ ys) (rw (a, b) (omega arith)) ∙ a
 
-      with : (t : ℕ) (us : List ℕ) → bestOf T us .worth < T .worth t + bestBefore T t us .worth → (All Other us → bestOf T (us ++ ys) ≡ together (bestOf T us) (bestOf T ys)) →
-          (All Other (drop (blocked T t us) us) → bestOf T (drop (blocked T t us) us ++ ys) ≡ together (bestBefore T t us) (bestOf T ys)) → All Other (t ∷ us) →
-          bestOf T (t ∷ us ++ ys) ≡ together (adding T t (bestBefore T t us)) (bestOf T ys)
+      with : (t : ℕ) (us : List ℕ) → bestOver T us .worth < T .worth t + bestBefore T t us .worth → (All Other us → bestOver T (us ++ ys) ≡ together (bestOver T us) (bestOver T ys)) →
+          (All Other (drop (blocked T t us) us) → bestOver T (drop (blocked T t us) us ++ ys) ≡ together (bestBefore T t us) (bestOver T ys)) → All Other (t ∷ us) →
+          bestOver T (t ∷ us ++ ys) ≡ together (adding T t (bestBefore T t us)) (bestOver T ys)
       with t us l p q (more o os) =
           let a = p os in
           let b = before-first t o us (q (all-drop (blocked T t us) os)) in
-          let e : T .worth t + (bestBefore T t us .worth + bestOf T ys .worth) ≡ T .worth t + bestBefore T t us .worth + bestOf T ys .worth = omega arith in
+          let e : T .worth t + (bestBefore T t us .worth + bestOver T ys .worth) ≡ T .worth t + bestBefore T t us .worth + bestOver T ys .worth = omega arith in
           best-with T t (us ++ ys) (rw (a, b) (omega arith)) ∙ rw (b, e)

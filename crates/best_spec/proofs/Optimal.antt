@@ -23,7 +23,7 @@ use Rattle.model.proofs.Filled.{NoConflict}
 use Rattle.model.proofs.Planned.{planned-right, steps-closed}
 use Rattle.model.proofs.Promised.{planned-length, choice-apart, choice-earns}
 use Rattle.model.proofs.Readings.{apart-reads}
-use Rattle.best_spec.specs.Table.{turnOrder, Best, blocked, bestOf, bestWorth, adding, bestChoice, isAmong, Later, ends-later, higher, BestSet, LeavesOutLatest}
+use Rattle.best_spec.specs.Table.{turnOrder, Best, blocked, bestOver, bestWorth, adding, bestChoice, isAmong, Later, ends-later, higher, BestSet, LeavesOutLatest}
 use Rattle.best_spec.proofs.Members.{all-drop, among-all, among-cons, marked-length, marked-has, marked-from, marked-earns}
 use Rattle.best_spec.proofs.Ordering.{Leads, by-end, by-number, leads-one, Before, first, order-ordered, order-range, order-sum}
 use Rattle.best_spec.proofs.Tables.{best-ind, best-earns, best-every, bestBefore, apart-among, best-feasible, Listed, listed-before, taking, taking-with, taking-without, taking-best}
@@ -34,7 +34,7 @@ use Rattle.best_spec.proofs.Tight.{same-worth, planned-leaves}
 module _ (T : Turns) where
   -- the table's set
   abbrev pub bestTurns : List ℕ
-  bestTurns = bestOf T (turnOrder T) .turns
+  bestTurns = bestOver T (turnOrder T) .turns
 
   pub choice-among : (x : ℕ) → has (bestChoice T) x ≡ true → isAmong bestTurns x ≡ true
   unfolding bestChoice
@@ -128,17 +128,17 @@ module _ (T : Turns) (lengths : PositiveLengths T) (free : NoDrivers T) (single 
     abbrev Covers : List ℕ → Best → Type 0
     Covers ts b = Listed T lengths free single ts → Takes ts ≡ b .worth → Seen ts (b .turns) → All (λ x. has (choice T) x ≡ true) (b .turns)
 
-    covers-without : (t : ℕ) (us : List ℕ) → T .worth t + bestBefore T t us .worth ≤ bestOf T us .worth → Covers us (bestOf T us) → Covers (drop (blocked T t us) us) (bestBefore T t us) → Covers (t ∷ us) (bestOf T us)
+    covers-without : (t : ℕ) (us : List ℕ) → T .worth t + bestBefore T t us .worth ≤ bestOver T us .worth → Covers us (bestOver T us) → Covers (drop (blocked T t us) us) (bestBefore T t us) → Covers (t ∷ us) (bestOver T us)
     covers-without t us l p q (first b o, more m ms) e seen = go (has (choice T) t) refl
       where
-        before : All (Before T t) (bestOf T us .turns)
+        before : All (Before T t) (bestOver T us .turns)
         before = best-every T us b
 
         -- t is not of the set
         not-t : isAmong (bestTurns T) t ≡ true → ⊥
         not-t h = was (seen t h)
           where
-            was : (isAmong (bestOf T us .turns) t ≡ true) ⊎ ((has (choice T) t ≡ true) × All (λ x. x ≢ t) (t ∷ us)) → ⊥
+            was : (isAmong (bestOver T us .turns) t ≡ true) ⊎ ((has (choice T) t ≡ true) × All (λ x. x ≢ t) (t ∷ us)) → ⊥
             was (inl k) = among-all t before k .apart refl
             was (inr (k, more d ds)) = d refl
 
@@ -146,22 +146,22 @@ module _ (T : Turns) (lengths : PositiveLengths T) (free : NoDrivers T) (single 
         not-later : (y : ℕ) × (isAmong (bestTurns T) y ≡ true) × (has (choice T) y ≡ false) × Later T y t → ⊥
         not-later (y, k, f, g) = was (seen y k)
           where
-            was : (isAmong (bestOf T us .turns) y ≡ true) ⊎ ((has (choice T) y ≡ true) × All (λ x. x ≢ y) (t ∷ us)) → ⊥
+            was : (isAmong (bestOver T us .turns) y ≡ true) ⊎ ((has (choice T) y ≡ true) × All (λ x. x ≢ y) (t ∷ us)) → ⊥
             was (inl i) = let c = among-all y before i in c .apart (leads-one T t y (c .leads) (later-leads T y t g))
             was (inr (i, ds)) = not-both i f
 
-        rest : (y : ℕ) → isAmong (bestTurns T) y ≡ true → (isAmong (bestOf T us .turns) y ≡ true) ⊎ ((has (choice T) y ≡ true) × All (λ x. x ≢ y) us)
+        rest : (y : ℕ) → isAmong (bestTurns T) y ≡ true → (isAmong (bestOver T us .turns) y ≡ true) ⊎ ((has (choice T) y ≡ true) × All (λ x. x ≢ y) us)
         rest y k = was (seen y k)
           where
-            was : (isAmong (bestOf T us .turns) y ≡ true) ⊎ ((has (choice T) y ≡ true) × All (λ x. x ≢ y) (t ∷ us)) → (isAmong (bestOf T us .turns) y ≡ true) ⊎ ((has (choice T) y ≡ true) × All (λ x. x ≢ y) us)
+            was : (isAmong (bestOver T us .turns) y ≡ true) ⊎ ((has (choice T) y ≡ true) × All (λ x. x ≢ y) (t ∷ us)) → (isAmong (bestOver T us .turns) y ≡ true) ⊎ ((has (choice T) y ≡ true) × All (λ x. x ≢ y) us)
             was (inl i) = inl i
             was (inr (i, more d ds)) = inr (i, ds)
 
-        go : (c : Bool) → has (choice T) t ≡ c → All (λ x. has (choice T) x ≡ true) (bestOf T us .turns)
+        go : (c : Bool) → has (choice T) t ≡ c → All (λ x. has (choice T) x ≡ true) (bestOver T us .turns)
         go true f = absurd (not-later (leaves set-feasible set-apart (omega (arith, best-set .earns, best-tally)) t f (fails (isAmong (bestTurns T) t) not-t)))
         go false f = p (o, ms) (sym (taking-without T lengths free single (has (choice T)) (choice-apart T) t us f) ∙ e) rest
 
-    covers-with : (t : ℕ) (us : List ℕ) → bestOf T us .worth < T .worth t + bestBefore T t us .worth → Covers us (bestOf T us) → Covers (drop (blocked T t us) us) (bestBefore T t us) → Covers (t ∷ us) (adding T t (bestBefore T t us))
+    covers-with : (t : ℕ) (us : List ℕ) → bestOver T us .worth < T .worth t + bestBefore T t us .worth → Covers us (bestOver T us) → Covers (drop (blocked T t us) us) (bestBefore T t us) → Covers (t ∷ us) (adding T t (bestBefore T t us))
     covers-with t us l p q (first b o, more m ms) e seen = go (has (choice T) t) refl
       where
         rest : has (choice T) t ≡ true → (y : ℕ) → isAmong (bestTurns T) y ≡ true → (isAmong (bestBefore T t us .turns) y ≡ true) ⊎ ((has (choice T) y ≡ true) × All (λ x. x ≢ y) (drop (blocked T t us) us))

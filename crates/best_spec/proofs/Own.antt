@@ -18,7 +18,7 @@ use Rattle.model.specs.Choice.{has, chosen}
 use Rattle.model.specs.Feasible.{worthOf, OneTurnASlope}
 use Rattle.model.proofs.Bound.{apart-set}
 use Rattle.model.proofs.Choices.{none-chosen}
-use Rattle.best_spec.specs.Table.{turnOrder, Best, bestOf, bestWorth, marked, isAmong}
+use Rattle.best_spec.specs.Table.{turnOrder, Best, bestOver, bestWorth, marked, isAmong}
 use Rattle.best_spec.specs.Groomers.{keep, ownTurns, groomerWorth, groomersWorth, OwnSet, MostOfGroomer}
 use Rattle.best_spec.proofs.Members.{among-all, marked-from, marked-earns}
 use Rattle.best_spec.proofs.Ordering.{Ordered, empty, first, order-ordered, order-range, order-sum}
@@ -122,7 +122,7 @@ module _ (T : Turns) where
     pub groomer-most : MostOfGroomer T g (groomerWorth T g)
     unfolding groomerWorth
     groomer-most =
-        let R = bestOf T (ownTurns T g) .turns in
+        let R = bestOver T (ownTurns T g) .turns in
         record {
           attained = (R, record { feasible = best-feasible T lengths free single (ownTurns T g) own-ordered own-range .0; own = best-every T (ownTurns T g) own-groomer }, best-earns T (ownTurns T g));
           greatest = own-most;
@@ -159,15 +159,15 @@ module _ (T : Turns) where
         (λ x l. all-map (λ y e d. omega (arith, leb-true (T .groomer x) g l, eqb-true (T .groomer y) (suc g) e)) (keep-holds (isOwn (suc g)) (turnOrder T)))
         (keep-holds (λ t. leb (T .groomer t) g) (turnOrder T))
 
-    next-worth : (g : ℕ) → bestOf T (upTo (suc g) (turnOrder T)) .worth ≡ bestOf T (upTo g (turnOrder T)) .worth + groomerWorth T (suc g)
+    next-worth : (g : ℕ) → bestOver T (upTo (suc g) (turnOrder T)) .worth ≡ bestOver T (upTo g (turnOrder T)) .worth + groomerWorth T (suc g)
     unfolding groomerWorth ownTurns
     next-worth g =
-        ap (λ (ts : List ℕ). bestOf T ts .worth) (next-groomer g (order-ordered T))
+        ap (λ (ts : List ℕ). bestOver T ts .worth) (next-groomer g (order-ordered T))
         ∙ ap (λ (b : Best). b .worth) (groomers-add T (keep (isOwn (suc g)) (turnOrder T)) (upTo g (turnOrder T)) (others g))
 
-    up-to-sum : (g : ℕ) → bestOf T (upTo g (turnOrder T)) .worth ≡ sum (λ k. groomerWorth T (k + 1)) (below g)
+    up-to-sum : (g : ℕ) → bestOver T (upTo g (turnOrder T)) .worth ≡ sum (λ k. groomerWorth T (k + 1)) (below g)
     up-to-sum zero =
-        ap (λ (ts : List ℕ). bestOf T ts .worth)
+        ap (λ (ts : List ℕ). bestOver T ts .worth)
         (keep-none (λ t. leb (T .groomer t) 0) (all-map (λ t l. fails (leb (T .groomer t) 0) (λ q. omega (arith, leb-true (T .groomer t) 0 q, numbers t l .0))) (order-range T)))
         ∙ ap (λ (b : Best). b .worth) (best-none T)
     up-to-sum (suc g) = let e : groomerWorth T (g + 1) ≡ groomerWorth T (suc g) = ap (groomerWorth T) (add-one g) in omega (arith, up-to-sum g, next-worth g, e)
@@ -175,4 +175,4 @@ module _ (T : Turns) where
     -- the best worth is the sum over the groomers
     pub groomers-sum : bestWorth T ≡ groomersWorth T n
     unfolding bestWorth groomersWorth
-    groomers-sum = sym (ap (λ (ts : List ℕ). bestOf T ts .worth) (keep-all (λ t. leb (T .groomer t) n) (all-map (λ t l. le-leb (T .groomer t) n (numbers t l .1)) (order-range T)))) ∙ up-to-sum n
+    groomers-sum = sym (ap (λ (ts : List ℕ). bestOver T ts .worth) (keep-all (λ t. leb (T .groomer t) n) (all-map (λ t l. le-leb (T .groomer t) n (numbers t l .1)) (order-range T)))) ∙ up-to-sum n

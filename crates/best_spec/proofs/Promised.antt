@@ -23,7 +23,7 @@ use Rattle.instance_spec.proofs.SheetTurns.{sheet-count, sheet-lengths, sheet-w
 use Rattle.plan_spec.specs.Plan.{boardFor, plannedBoard}
 use Rattle.plan_spec.proofs.Planned.{planned-back}
 use Rattle.best_spec.specs.Table.{bestWorth, bestChoice}
-use Rattle.best_spec.specs.Exact.{Earned, exactOf}
+use Rattle.best_spec.specs.Best.{Earned, bestOf}
 use Rattle.best_spec.specs.Promises.{answeredMap, answeredChoice, BestOfSheet, BestPromised}
 use Rattle.best_spec.proofs.BestCauses.{best-clear, best-is-found}
 use Rattle.best_spec.proofs.Optimal.{bestTurns, best-set, best-length, best-independent, best-chosen, best-greatest, best-tally, best-planned, best-choice-planned, best-leaves-out}
@@ -52,7 +52,7 @@ module _ (s : List ℕ) (z : firstOf (sheetCauses s) ≡ 0) (free : NoDrivers (s
 
 -- ---- of the entry itself
 
-module _ (s lent : List ℕ) (e : exactOf s lent .answer .refusal ≡ 0) where
+module _ (s lent : List ℕ) (e : bestOf s lent .answer .refusal ≡ 0) where
   abbrev S : List Bool
   S = bestChoice (sheetTurns s)
 
@@ -66,7 +66,7 @@ module _ (s lent : List ℕ) (e : exactOf s lent .answer .refusal ≡ 0) where
   size : length (mapOf S) ≡ mapBytes (turnCount s)
   size = map-length S ∙ ap mapBytes bits
 
-  worth-is : exactOf s lent .answer .worth ≡ bestWorth (sheetTurns s)
+  worth-is : bestOf s lent .answer .worth ≡ bestWorth (sheetTurns s)
   worth-is = ap (λ (x : Earned). x .answer .worth) (best-is-found s lent e)
 
   map-is : answeredMap s lent ≡ mapOf S

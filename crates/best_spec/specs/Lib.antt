@@ -1,5 +1,5 @@
 pub mod Table
 pub mod Single
 pub mod Groomers
-pub mod Exact
+pub mod Best
 pub mod Promises

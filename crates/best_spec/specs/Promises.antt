@@ -14,11 +14,11 @@ use Rattle.plan_spec.specs.Plan.{plannedBoard}
 use Rattle.sheet.specs.Read.{countsIn, turnCount}
 use Rattle.best_spec.specs.Table.{bestWorth, bestChoice, isAmong, Later, LeavesOutLatest}
 use Rattle.best_spec.specs.Groomers.{groomerWorth, groomersWorth, MostOfGroomer}
-use Rattle.best_spec.specs.Exact.{exactOf}
+use Rattle.best_spec.specs.Best.{bestOf}
 
 -- the first of the lent bytes then, which have a bit for each turn
 abbrev pub answeredMap : List ℕ → List ℕ → List ℕ
-answeredMap s lent = take (mapBytes (turnCount s)) (exactOf s lent .lent)
+answeredMap s lent = take (mapBytes (turnCount s)) (bestOf s lent .lent)
 
 -- the turns whose bits are set there
 abbrev pub answeredChoice : List ℕ → List ℕ → List Bool
@@ -51,23 +51,23 @@ pub record BestPromised (s lent : List ℕ) : Type 0 where
   pub places : length (answeredChoice s lent) ≡ sheetTurns s .count
   pub apart : Independent (sheetTurns s) (answeredChoice s lent)
   -- they earn the answer's worth
-  pub earns : chosen (sheetTurns s .count) (answeredChoice s lent) (sheetTurns s .worth) ≡ exactOf s lent .answer .worth
+  pub earns : chosen (sheetTurns s .count) (answeredChoice s lent) (sheetTurns s .worth) ≡ bestOf s lent .answer .worth
   -- of two sets that earn as much, theirs leaves out the latest of a groomer's turns in which they differ
-  pub latest : (R : List ℕ) → Feasible (sheetTurns s) R → worthOf (sheetTurns s) R ≡ exactOf s lent .answer .worth → (x : ℕ) → has (answeredChoice s lent) x ≡ true → isAmong R x ≡ false →
+  pub latest : (R : List ℕ) → Feasible (sheetTurns s) R → worthOf (sheetTurns s) R ≡ bestOf s lent .answer .worth → (x : ℕ) → has (answeredChoice s lent) x ≡ true → isAmong R x ≡ false →
       (y : ℕ) × (isAmong R y ≡ true) × (has (answeredChoice s lent) y ≡ false) × Later (sheetTurns s) y x
   -- the first bytes are their map: no other bit is set there
   pub map : answeredMap s lent ≡ mapOf (answeredChoice s lent)
   -- a feasible set earns the worth
-  pub attained : (R : List ℕ) × Feasible (sheetTurns s) R × (worthOf (sheetTurns s) R ≡ exactOf s lent .answer .worth)
+  pub attained : (R : List ℕ) × Feasible (sheetTurns s) R × (worthOf (sheetTurns s) R ≡ bestOf s lent .answer .worth)
   -- none earns more
-  pub greatest : (R : List ℕ) → Feasible (sheetTurns s) R → worthOf (sheetTurns s) R ≤ exactOf s lent .answer .worth
+  pub greatest : (R : List ℕ) → Feasible (sheetTurns s) R → worthOf (sheetTurns s) R ≤ bestOf s lent .answer .worth
   -- it is the sum over the sheet's groomers, from 1 on, of what the table over each one's own turns gives
-  pub by-groomer : exactOf s lent .answer .worth ≡ groomersWorth (sheetTurns s) (countsIn s .groomers)
+  pub by-groomer : bestOf s lent .answer .worth ≡ groomersWorth (sheetTurns s) (countsIn s .groomers)
   -- and that is the most that a groomer's own turns earn
   pub groomer-most : (g : ℕ) → MostOfGroomer (sheetTurns s) g (groomerWorth (sheetTurns s) g)
   -- the planned board has this worth
-  pub planned-worth : boardWorth (plannedBoard s) ≡ exactOf s lent .answer .worth
+  pub planned-worth : boardWorth (plannedBoard s) ≡ bestOf s lent .answer .worth
   -- those bytes are that board's choice map, bit for bit
   pub planned-map : answeredMap s lent ≡ boardMap (plannedBoard s)
   -- the bytes behind the map stay as they were
-  pub behind : drop (mapBytes (turnCount s)) (exactOf s lent .lent) ≡ drop (mapBytes (turnCount s)) lent
+  pub behind : drop (mapBytes (turnCount s)) (bestOf s lent .lent) ≡ drop (mapBytes (turnCount s)) lent

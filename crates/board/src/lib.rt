@@ -4,6 +4,7 @@ mod writing;
 
 pub use header::HEADER_BYTES;
 pub use header::STEP_SIZE;
+pub use header::WORTH_PLACE;
 pub use header::board_bytes;
 pub use header::step_count;
 pub use header::steps_place;

@@ -21,7 +21,7 @@ use Rattle.board_open.specs.Open.{openOf, stepsPart}
 use Rattle.board_open.proofs.Openings.{opened, shut, formed-steps, formed-map, part-steps}
 use Rattle.instance.specs.declared.columns.Size.{Size}
 use Rattle.instance.specs.Columns.{turnsBy, Held}
-use Rattle.selection.specs.Bounds.{Lent}
+use Rattle.selection.specs.Bounds.{HeldWithMap}
 use Rattle.selection.specs.Below.{chosenBelow}
 use Rattle.replay.specs.declared.replay.Judgement.{Judgement}
 use Rattle.check_spec.specs.Check.{choiceCauses, stepCauses, ruleCauses, sumCauses, partCauses, boardCauses}
@@ -155,7 +155,7 @@ module _ (b : List ℕ) {r : ℕ} (e : r ≡ openOf b) where
       board-few = omega (arith, formed-steps b (opened b e z))
 
       module _ {map steps : List ℕ} (q : map ≡ boardMap b) (s : steps ≡ stepsPart b) where
-        pub board-lent : Held size cols → Lent size cols map
+        pub board-lent : Held size cols → HeldWithMap size cols map
         board-lent held = record { held = held; bits = omega (arith, formed-map b (opened b e z), ap length q, p, h) }
 
         choice-is : choiceIn (size .count) map ≡ boardChoice b

@@ -8,7 +8,7 @@ ghost use Rattle.refusal.specs.Cause.{firstOf};
 ghost use Rattle.choice_map.specs.Choice.{choiceIn};
 ghost use Rattle.board.specs.Board.{boardHeader, stepSize, boardSteps, boardTally, boardWorth, stepsIn, writtenSteps};
 ghost use Rattle.instance.specs.Columns.{columnPlaces, turnsBy, Held};
-ghost use Rattle.selection.specs.Bounds.{Lent};
+ghost use Rattle.selection.specs.Bounds.{HeldWithMap};
 ghost use Rattle.model.specs.Ceiling.{ceiling};
 ghost use Rattle.replay.specs.Judged.{judged};
 ghost use Rattle.check_spec.specs.Check.{choiceCauses, ruleCauses, sumCauses, partCauses, boardCauses, checked, checkOf};
@@ -23,7 +23,7 @@ use replay::steps_fault;
 // The first cause that the choice gives, 0 if none. Here and below, the room is for the rows of the
 // chosen turns, and then for all rows by end: nothing is said of what it holds afterwards.
 fn choice_fault(p: Size, cols: &[u16; PLACES], map: &[u8], room: &mut [u16; PLACES]) -> u8
-    requires { ⌜ Lent p (now cols) (now map) × (length (now room) ≡ columnPlaces) ⌝ }
+    requires { ⌜ HeldWithMap p (now cols) (now map) × (length (now room) ≡ columnPlaces) ⌝ }
     ensures { λ r. ⌜ r ≡ firstOf (choiceCauses (turnsBy p (now (cols .entry))) (choiceIn (p .count) (now (map .entry)))) ⌝ }
     ensures { λ _. ⌜ length (now (room .exit)) ≡ columnPlaces ⌝ }
 {
@@ -61,7 +61,7 @@ fn rules_fault(
     m: usize,
     room: &mut [u16; PLACES],
 ) -> Judgement
-    requires { ⌜ Lent p (now cols) (now map) × (length (now room) ≡ columnPlaces) × (stepSize * m ≤ length (now steps)) × (m ≤ p .count) ⌝ }
+    requires { ⌜ HeldWithMap p (now cols) (now map) × (length (now room) ≡ columnPlaces) × (stepSize * m ≤ length (now steps)) × (m ≤ p .count) ⌝ }
     ensures { λ r. ⌜ r ≡ judged (firstOf (ruleCauses (turnsBy p (now (cols .entry))) (choiceIn (p .count) (now (map .entry))) (stepsIn m (now (steps .entry)))))
         (ceiling (turnsBy p (now (cols .entry))) (stepsIn m (now (steps .entry)))) ⌝ }
 {
@@ -76,7 +76,7 @@ fn rules_fault(
 
 // The cause that the sums of a board give, 0 if none.
 fn sums_fault(b: &[u8], p: Size, cols: &[u16; PLACES], map: &[u8], steps: &[u8], m: u16) -> u8
-    requires { ⌜ (boardHeader ≤ length (now b)) × Lent p (now cols) (now map) × (stepSize * m ≤ length (now steps)) ⌝ }
+    requires { ⌜ (boardHeader ≤ length (now b)) × HeldWithMap p (now cols) (now map) × (stepSize * m ≤ length (now steps)) ⌝ }
     ensures { λ r. ⌜ r ≡ firstOf (sumCauses (turnsBy p (now (cols .entry))) (choiceIn (p .count) (now (map .entry))) (stepsIn m (now (steps .entry)))
         (boardTally (now (b .entry))) (boardWorth (now (b .entry)))) ⌝ }
 {
@@ -100,7 +100,7 @@ fn parts_fault(
     cols: &[u16; PLACES],
     room: &mut [u16; PLACES],
 ) -> Judgement
-    requires { ⌜ (boardHeader ≤ length (now b)) × Lent p (now cols) (now map) × (length (now room) ≡ columnPlaces)
+    requires { ⌜ (boardHeader ≤ length (now b)) × HeldWithMap p (now cols) (now map) × (length (now room) ≡ columnPlaces)
         × (stepSize * boardSteps (now b) ≤ length (now steps)) × (boardSteps (now b) ≤ p .count) ⌝ }
     ensures { λ r. ⌜ r ≡ judged (firstOf (partCauses (turnsBy p (now (cols .entry))) (choiceIn (p .count) (now (map .entry)))
         (stepsIn (boardSteps (now (b .entry))) (now (steps .entry))) (boardTally (now (b .entry))) (boardWorth (now (b .entry)))))

@@ -93,7 +93,7 @@ both = (
     driven-planned = refl;
     driven-checked = refl;
     driven-twice = refl;
-    undriven-planned = refl;
+    driverless-planned = refl;
   },
 )
 

@@ -8,7 +8,7 @@ use Rattle.board_open.specs.Chosen.{counted, countOf, turnChosen}
 use Rattle.check_spec.specs.Check.{checkOf, checked}
 use Rattle.plan_spec.specs.Plan.{planOf}
 use Rattle.listing_spec.specs.List.{listOf}
-use Rattle.claim.specs.Shift.{shift, shiftBoard, leavesRoom, touchingTurns, shiftBoardBy, stepsExchanged, turnTwoFirst, turnThreeFirst, drivenTurn, drivenTable, undrivenTurn, drivenShift, twoTurns, tiedTurns, tiedBoard, twoToFill, filledBoard, secondGroomer, secondListing}
+use Rattle.claim.specs.Shift.{shift, shiftBoard, leavesRoom, touchingTurns, shiftBoardBy, stepsExchanged, turnTwoFirst, turnThreeFirst, drivenTurn, drivenTable, driverlessTurn, drivenShift, twoTurns, tiedTurns, tiedBoard, twoToFill, filledBoard, secondGroomer, secondListing}
 use Rattle.claim.specs.Cases.{lent}
 use Rattle.refusal.specs.Outcome.{beside}
 
@@ -48,9 +48,9 @@ pub record FurtherCases : Type 0 where
   pub no-driver-read : readOf (drivenTurn 0) (lent 6) ≡ beside (record { refusal = 0; groomers = 1; slopes = 1; turns = 1 }) (drivenTable 0)
   -- R-5: a first map of 3F is written for a driver, 1F for none
   pub driver-written : writeOf (record { groomers = 1; slopes = 1 }) (drivenTable 40) (lent 17) ≡ beside (record { refusal = 0; bytes = 17 }) (drivenTurn 40)
-  pub no-driver-written : writeOf (record { groomers = 1; slopes = 1 }) (drivenTable 0) (lent 17) ≡ beside (record { refusal = 0; bytes = 16 }) (undrivenTurn ++ lent 1)
+  pub no-driver-written : writeOf (record { groomers = 1; slopes = 1 }) (drivenTable 0) (lent 17) ≡ beside (record { refusal = 0; bytes = 16 }) (driverlessTurn ++ lent 1)
   -- R-5: two turns that overlap, on two slopes and two groomers: with one driver the first step takes 100 from both and the second turn alone is chosen; with driver 0 both are
   pub driven-planned : planOf (drivenShift 7) (lent 24) ≡ beside (record { refusal = 0; bytes = 24 }) (twoTurns 150 150 2 50)
   pub driven-checked : checkOf (drivenShift 7) (twoTurns 150 150 2 50) ≡ checked 0 150 150 150
   pub driven-twice : checkOf (drivenShift 7) (twoTurns 150 250 3 50) ≡ checked 13 0 0 0
-  pub undriven-planned : planOf (drivenShift 0) (lent 24) ≡ beside (record { refusal = 0; bytes = 24 }) (twoTurns 250 250 3 150)
+  pub driverless-planned : planOf (drivenShift 0) (lent 24) ≡ beside (record { refusal = 0; bytes = 24 }) (twoTurns 250 250 3 150)

@@ -74,8 +74,8 @@ abbrev pub drivenTable : ℕ → List ℕ
 drivenTable driver = 1 ∷ 1 ∷ 0 ∷ 60 ∷ 100 ∷ driver ∷ []
 
 -- the same turn without a driver, as it is written
-abbrev pub undrivenTurn : List ℕ
-undrivenTurn = 0x47 ∷ 0x52 ∷ 0x4D ∷ 0x01 ∷ 0x01 ∷ 0x00 ∷ 0x01 ∷ 0x1F ∷ 0x01 ∷ 0x01 ∷ 0x00 ∷ 0x00 ∷ 0x00 ∷ 0x3C ∷ 0x00 ∷ 0x64 ∷ []
+abbrev pub driverlessTurn : List ℕ
+driverlessTurn = 0x47 ∷ 0x52 ∷ 0x4D ∷ 0x01 ∷ 0x01 ∷ 0x00 ∷ 0x01 ∷ 0x1F ∷ 0x01 ∷ 0x01 ∷ 0x00 ∷ 0x00 ∷ 0x00 ∷ 0x3C ∷ 0x00 ∷ 0x64 ∷ []
 
 -- two turns of two groomers on two slopes, with this driver in the first record: from 0 to 60 of worth 100, and from 30 to 90 of worth 150
 abbrev pub drivenShift : ℕ → List ℕ

@@ -13,7 +13,7 @@ use Rattle.wire.specs.Number.{valueAt}
 use Rattle.refusal.specs.declared.WriteAnswer.{WriteAnswer}
 use Rattle.refusal.specs.Outcome.{Outcome, beside}
 use Rattle.write_spec.specs.Write.{countsOf, writeOf}
-use Rattle.trial_spec.specs.Trial.{drawOf}
+use Rattle.draw_spec.specs.DrawnSheet.{drawOf}
 use Rattle.sheet.specs.declared.answer.ReadAnswer.{ReadAnswer}
 use Rattle.assign_spec.specs.declared.AssignAnswer.{AssignAnswer}
 use Rattle.best_spec.specs.declared.BestAnswer.{BestAnswer}
@@ -23,7 +23,7 @@ use Rattle.check_spec.specs.Check.{checkOf}
 use Rattle.board_open.specs.declared.opening.CountAnswer.{CountAnswer}
 use Rattle.board_open.specs.Open.{openOf}
 use Rattle.board_open.specs.Chosen.{countOf, turnChosen}
-use Rattle.search_spec.specs.declared.Improved.{Improved}
+use Rattle.search_spec.specs.declared.ImproveAnswer.{ImproveAnswer}
 use Rattle.search_spec.specs.Improve.{improveOf}
 use Rattle.corpus.specs.declared.entries.Line.{Line}
 use Rattle.corpus.specs.declared.entries.Line.the-variants.{Two, Four}
@@ -127,7 +127,7 @@ module _ (asked turns lent : List ℕ) {g s : ℕ} (eg : g ≡ askedAt asked 8) 
       → beside (writeLine a) l ≡ shown writeLine (drawOf (askedLong asked) (countsOf (askedAt asked 8) (askedAt asked 12)) (askedAt asked 16) lent)
   draw-line ed ek e = shown-is writeLine _ (rw (eg, es, ed, ek) at e)
 
-pub improve-line : (limit sheet lent : List ℕ) {v w : ℕ} {a : Improved} {l : List ℕ} → v ≡ askedLong limit → beside a l ≡ improveOf sheet v lent → w ≡ cond (a .whole) 1 0
+pub improve-line : (limit sheet lent : List ℕ) {v w : ℕ} {a : ImproveAnswer} {l : List ℕ} → v ≡ askedLong limit → beside a l ≡ improveOf sheet v lent → w ≡ cond (a .whole) 1 0
     → beside (Four (a .refusal) w (a .worth) (a .above) (a .visits)) l ≡ shown improveLine (improveOf sheet (askedLong limit) lent)
 improve-line limit sheet lent ev e ew = rw ew (shown-is improveLine (improveOf sheet (askedLong limit) lent) (rw ev at e))
 

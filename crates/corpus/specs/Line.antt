@@ -14,7 +14,7 @@ use Rattle.board_open.specs.Open.{openOf}
 use Rattle.board_open.specs.Chosen.{countOf, turnChosen}
 use Rattle.assign_spec.specs.declared.AssignAnswer.{AssignAnswer}
 use Rattle.best_spec.specs.declared.BestAnswer.{BestAnswer}
-use Rattle.search_spec.specs.declared.Improved.{Improved}
+use Rattle.search_spec.specs.declared.ImproveAnswer.{ImproveAnswer}
 use Rattle.hall_spec.specs.declared.ChargeAnswer.{ChargeAnswer}
 use Rattle.corpus.specs.declared.entries.Line.{Line}
 use Rattle.corpus.specs.declared.entries.Line.the-variants.{One, Two, Three, Four}
@@ -58,7 +58,7 @@ assignLine a = One (a .refusal) (a .groomers)
 abbrev pub bestLine : BestAnswer → Line
 bestLine a = One (a .refusal) (a .worth)
 
-abbrev pub improveLine : Improved → Line
+abbrev pub improveLine : ImproveAnswer → Line
 improveLine a = Four (a .refusal) (cond (a .whole) 1 0) (a .worth) (a .above) (a .visits)
 
 abbrev pub chargeLine : ChargeAnswer → Line

@@ -7,12 +7,12 @@ ghost use Rattle.refusal.specs.Outcome.{beside};
 ghost use Rattle.sheet.specs.Read.{readOf};
 ghost use Rattle.sheet.specs.Screen.{readShortOf};
 ghost use Rattle.write_spec.specs.Write.{countsOf, writeOf};
-ghost use Rattle.trial_spec.specs.Trial.{drawOf};
+ghost use Rattle.draw_spec.specs.DrawnSheet.{drawOf};
 ghost use Rattle.check_spec.specs.Check.{checkOf};
 ghost use Rattle.plan_spec.specs.Plan.{planOf};
 ghost use Rattle.listing_spec.specs.List.{listOf};
 ghost use Rattle.assign_spec.specs.Assign.{assignOf};
-ghost use Rattle.best_spec.specs.Exact.{exactOf};
+ghost use Rattle.best_spec.specs.Best.{bestOf};
 ghost use Rattle.search_spec.specs.Improve.{improveOf};
 ghost use Rattle.archive_spec.specs.Archive.{keepOf, restoreOf};
 ghost use Rattle.hall_spec.specs.Charge.{chargeOf};
@@ -23,7 +23,7 @@ use best_spec::BestAnswer;
 use check_spec::CheckAnswer;
 use hall_spec::ChargeAnswer;
 use refusal::WriteAnswer;
-use search_spec::Improved;
+use search_spec::ImproveAnswer;
 use sheet::ReadAnswer;
 
 // Bytes of the numbers that an entry is asked with: one of eight bytes, three of four.
@@ -141,7 +141,7 @@ pub fn draw(numbers: &[u8], out: &mut [u8]) -> Line
     ensures { λ r. ⌜ beside r (now (out .exit)) ≡ shown writeLine (drawOf (askedLong (now (numbers .entry)))
         (countsOf (askedAt (now (numbers .entry)) 8) (askedAt (now (numbers .entry)) 12)) (askedAt (now (numbers .entry)) 16) (now (out .entry))) ⌝ }
 {
-    let a: WriteAnswer = trial::draw(
+    let a: WriteAnswer = draw::draw(
         asked_long(numbers),
         asked(numbers, 8),
         asked(numbers, 12),
@@ -191,7 +191,7 @@ pub fn assign(sheet: &[u8], places: &mut [u16]) -> Line
 }
 
 pub fn best(sheet: &[u8], map: &mut [u8]) -> Line
-    ensures { λ r. ⌜ beside r (now (map .exit)) ≡ shown bestLine (exactOf (now (sheet .entry)) (now (map .entry))) ⌝ }
+    ensures { λ r. ⌜ beside r (now (map .exit)) ≡ shown bestLine (bestOf (now (sheet .entry)) (now (map .entry))) ⌝ }
 {
     let a: BestAnswer = best::best(sheet, &mut *map);
     Line::One(a.refusal, a.worth as u64)
@@ -202,7 +202,7 @@ pub fn improve(limit: &[u8], sheet: &[u8], map: &mut [u8]) -> Line
     ensures { λ r. ⌜ beside r (now (map .exit)) ≡ shown improveLine
         (improveOf (now (sheet .entry)) (askedLong (now (limit .entry))) (now (map .entry))) ⌝ }
 {
-    let a: Improved = improve::improve(sheet, asked_long(limit), &mut *map);
+    let a: ImproveAnswer = improve::improve(sheet, asked_long(limit), &mut *map);
     Line::Four(
         a.refusal,
         flag(a.whole) as u64,

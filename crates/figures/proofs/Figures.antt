@@ -13,9 +13,9 @@ use Rattle.sheet.specs.Screen.{liftDesk}
 use Rattle.archive_spec.specs.Kept.{archive}
 use Rattle.instance_spec.specs.Problem.{problemOf, sheetTurns}
 use Rattle.plan_spec.proofs.PlanCauses.{plan-accepted-iff}
-use Rattle.trial_spec.specs.Draw.{nextDraw, turnDrawn}
-use Rattle.trial_spec.proofs.Draws.{ten-thousandth}
-use Rattle.trial_spec.proofs.Draws.{length-first, length-second, length-third, length-fourth}
+use Rattle.draw_spec.specs.Draw.{nextDraw, turnDrawn}
+use Rattle.draw_spec.proofs.Draws.{ten-thousandth}
+use Rattle.draw_spec.proofs.Draws.{length-first, length-second, length-third, length-fourth}
 use Rattle.hall_spec.specs.Hall.{isWide, wideDraw}
 use Rattle.hall_spec.specs.Plan.{roundedUp, smallTakes}
 use Rattle.hall_spec.specs.Charge.{chargingSheet}

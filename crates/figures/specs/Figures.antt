@@ -29,7 +29,7 @@ use Rattle.model.specs.Promises.{Promises}
 use Rattle.local_ratio.specs.Bounds.{leastResidual}
 use Rattle.plan_spec.specs.Plan.{planOf}
 use Rattle.search_spec.specs.Improve.{mostSearched}
-use Rattle.trial_spec.specs.Draw.{mostDraw, nextDraw, drawNumber, turnDraws, turnDrawn}
+use Rattle.draw_spec.specs.Draw.{mostDraw, nextDraw, drawNumber, turnDraws, turnDrawn}
 use Rattle.play_spec.specs.Day.{overMinutes, mostDelay}
 use Rattle.play_spec.specs.Standing.{noTurnInHand}
 use Rattle.hall_spec.specs.Hall.{mostUnits, mostVehicles, hallGap, Hall, windowCount, draw, sameVehicle, shareMinute, isWide, Allowed}

@@ -20,8 +20,8 @@ use Rattle.selection.proofs.Numbers.{asked-room, asked-size, asked-numbers, ask
 use Rattle.selection.proofs.Fitting.{bit-inside, room-clean}
 use Rattle.hall_spec.specs.Hall.{Hall, windowCount, vehicleFree, supplyLasts, staysAllowed}
 use Rattle.hall_spec.specs.Plan.{fitsAmong, chooseAmong}
-use Rattle.hall_steps.specs.declared.among.Among.{Among}
-use Rattle.hall_steps.specs.Among.{hallAmong, kindDraw, ofKind}
+use Rattle.hall_steps.specs.declared.one_kind.OneKind.{OneKind}
+use Rattle.hall_steps.specs.OneKind.{kindHall, kindDraw, ofKind}
 use Rattle.hall_steps.specs.Bounds.{HallHeld}
 use Rattle.hall.specs.OneKind.{meant}
 use Rattle.hall.specs.Supply.{allowedRow, RoomFor, WithWindow, Supplied}
@@ -29,10 +29,10 @@ use Rattle.hall.proofs.Supplies.{row-in-hall, lasts-room, row-stays, su
 
 -- ---- one window
 
-module _ (a : Among) (cols map used : List ℕ) (j : ℕ) {r : Row} {q : Bool} (held : HallHeld (a .units) (a .size) cols) (l : j < a .size .count) (e : r ≡ rowIn cols j)
-    (s : Supplied (hallAmong a cols) (choiceIn (a .size .count) map) used) (f : q ≡ allowedRow (a .units) used r) where
+module _ (a : OneKind) (cols map used : List ℕ) (j : ℕ) {r : Row} {q : Bool} (held : HallHeld (a .units) (a .size) cols) (l : j < a .size .count) (e : r ≡ rowIn cols j)
+    (s : Supplied (kindHall a cols) (choiceIn (a .size .count) map) used) (f : q ≡ allowedRow (a .units) used r) where
   abbrev H : Hall
-  H = hallAmong a cols
+  H = kindHall a cols
 
   abbrev S : List Bool
   S = choiceIn (a .size .count) map
@@ -68,22 +68,22 @@ pub ruleset allowed-cases = (row-in-hall, bit-inside, room-clean, allowed-none, 
 
 -- ---- one window that is meant
 
-module _ (a : Among) (any : Bool) (cols : List ℕ) (j : ℕ) {r : Row} {own : Bool} (l : j < a .size .count) (e : r ≡ rowIn cols j) (f : own ≡ kindDraw a (r .groomer)) (S : List Bool) where
+module _ (a : OneKind) (any : Bool) (cols : List ℕ) (j : ℕ) {r : Row} {own : Bool} (l : j < a .size .count) (e : r ≡ rowIn cols j) (f : own ≡ kindDraw a (r .groomer)) (S : List Bool) where
   meant-is : (any || own) ≡ meant a any cols j
   unfolding meant ofKind
   meant-is = rw (f, groomer-at (a .size) cols j l e)
 
   -- what fits among those that are meant is what stays allowed
-  fits-is : fitsAmong (hallAmong a cols) (meant a any cols) S j ≡ ((any || own) && staysAllowed (hallAmong a cols) S j)
+  fits-is : fitsAmong (kindHall a cols) (meant a any cols) S j ≡ ((any || own) && staysAllowed (kindHall a cols) S j)
   unfolding fitsAmong
   fits-is = rw meant-is
 
-  pub meant-added : {S′ : List Bool} → (any || own) ≡ true → S′ ≡ choose (staysAllowed (hallAmong a cols)) S j → S′ ≡ choose (fitsAmong (hallAmong a cols) (meant a any cols)) S j
+  pub meant-added : {S′ : List Bool} → (any || own) ≡ true → S′ ≡ choose (staysAllowed (kindHall a cols)) S j → S′ ≡ choose (fitsAmong (kindHall a cols) (meant a any cols)) S j
   unfolding choose
-  meant-added g h = let z : fitsAmong (hallAmong a cols) (meant a any cols) S j ≡ staysAllowed (hallAmong a cols) S j = fits-is ∙ rw g in h ∙ ap (λ (b : Bool). cond b (set S j true) S) (sym z)
+  meant-added g h = let z : fitsAmong (kindHall a cols) (meant a any cols) S j ≡ staysAllowed (kindHall a cols) S j = fits-is ∙ rw g in h ∙ ap (λ (b : Bool). cond b (set S j true) S) (sym z)
 
-  pub meant-none : (any || own) ≡ false → S ≡ choose (fitsAmong (hallAmong a cols) (meant a any cols)) S j
-  meant-none g = sym (choose-not (fitsAmong (hallAmong a cols) (meant a any cols)) S j (fits-is ∙ rw g))
+  pub meant-none : (any || own) ≡ false → S ≡ choose (fitsAmong (kindHall a cols) (meant a any cols)) S j
+  meant-none g = sym (choose-not (fitsAmong (kindHall a cols) (meant a any cols)) S j (fits-is ∙ rw g))
 
 pub ruleset meant-cases = (meant-added, meant-none)
 
@@ -93,14 +93,14 @@ pub ruleset meant-cases = (meant-added, meant-none)
 pub ruleset list-cases = (supplied-none, each-start, each-more, each-done)
 
 -- any window: those of the list that stay allowed
-pub any-chosen : (a : Among) (cols list : List ℕ) (n : ℕ) {S : List Bool} → S ≡ chooseEach (fitsAmong (hallAmong a cols) (meant a true cols)) list (replicate n false) → S ≡ chooseEach (staysAllowed (hallAmong a cols)) list (replicate n false)
+pub any-chosen : (a : OneKind) (cols list : List ℕ) (n : ℕ) {S : List Bool} → S ≡ chooseEach (fitsAmong (kindHall a cols) (meant a true cols)) list (replicate n false) → S ≡ chooseEach (staysAllowed (kindHall a cols)) list (replicate n false)
 unfolding fitsAmong meant
 any-chosen a cols list n e = e
 
 -- going back over the steps, then filling
-pub chosen-among : (a : Among) (cols : List ℕ) (xs : List Step) {list : List ℕ} {S : List Bool} → list ≡ askedTurns (a .size .count) xs → S ≡ chooseEach (fitsAmong (hallAmong a cols) (meant a false cols)) list (replicate (a .size .count) false)
-    → S ≡ chooseAmong (hallAmong a cols) (ofKind a cols) xs
+pub chosen-among : (a : OneKind) (cols : List ℕ) (xs : List Step) {list : List ℕ} {S : List Bool} → list ≡ askedTurns (a .size .count) xs → S ≡ chooseEach (fitsAmong (kindHall a cols) (meant a false cols)) list (replicate (a .size .count) false)
+    → S ≡ chooseAmong (kindHall a cols) (ofKind a cols) xs
 unfolding chooseAmong turnsBy meant
-chosen-among a cols xs e f = f ∙ rw e (asked-chosen (fitsAmong (hallAmong a cols) (ofKind a cols)) (a .size .count) xs)
+chosen-among a cols xs e f = f ∙ rw e (asked-chosen (fitsAmong (kindHall a cols) (ofKind a cols)) (a .size .count) xs)
 
 pub ruleset both-cases = (asked-room, asked-size, asked-numbers, chosen-among)

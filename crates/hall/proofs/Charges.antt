@@ -33,8 +33,8 @@ use Rattle.hall_spec.specs.Plan.{chooseAmong, wideChoice, smallChoice, worthIn,
 use Rattle.hall_spec.proofs.Allowing.{chosen-length}
 use Rattle.hall_spec.proofs.Halls.{greater-first, greater-second, plan-length}
 use Rattle.shares.specs.Taking.{hallBy}
-use Rattle.hall_steps.specs.declared.among.Among.{Among}
-use Rattle.hall_steps.specs.Among.{hallAmong, kindDraw, ofKind, stepsBy}
+use Rattle.hall_steps.specs.declared.one_kind.OneKind.{OneKind}
+use Rattle.hall_steps.specs.OneKind.{kindHall, kindDraw, ofKind, stepsBy}
 use Rattle.hall_steps.specs.Bounds.{HallHeld}
 use Rattle.hall_steps.proofs.Written.{written-few, written-read, written-inside}
 use Rattle.hall_spec.specs.declared.ChargeAnswer.{ChargeAnswer}
@@ -50,7 +50,7 @@ use Rattle.refusal.proofs.Outcome.{room-stopped, room-short, room-enough, room-
 abbrev stepsPlaces : ℕ
 stepsPlaces = stepSize * mostTurns
 
-module _ (a : Among) (cols : List ℕ) (held : HallHeld (a .units) (a .size) cols) {m : ℕ} (e : m ≡ length (stepsBy a cols)) {l′ : List ℕ} (p : l′ ≡ puts (replicate stepsPlaces 0) 0 (stepBytes (stepsBy a cols))) where
+module _ (a : OneKind) (cols : List ℕ) (held : HallHeld (a .units) (a .size) cols) {m : ℕ} (e : m ≡ length (stepsBy a cols)) {l′ : List ℕ} (p : l′ ≡ puts (replicate stepsPlaces 0) 0 (stepBytes (stepsBy a cols))) where
   abbrev l : List ℕ
   l = replicate stepsPlaces 0
 
@@ -67,12 +67,12 @@ module _ (a : Among) (cols : List ℕ) (held : HallHeld (a .units) (a .size) col
   unfolding StepsOf
   kind-steps-of = written-inside a cols held e l room p
 
-  module _ (map : List ℕ) (c : choiceIn (a .size .count) map ≡ chooseAmong (hallAmong a cols) (ofKind a cols) (stepsIn m l′)) where
+  module _ (map : List ℕ) (c : choiceIn (a .size .count) map ≡ chooseAmong (kindHall a cols) (ofKind a cols) (stepsIn m l′)) where
     choice-is : choiceIn (a .size .count) map ≡ kindChoice a cols
     unfolding kindChoice
-    choice-is = c ∙ ap (chooseAmong (hallAmong a cols) (ofKind a cols)) (written-read a cols held e l room p)
+    choice-is = c ∙ ap (chooseAmong (kindHall a cols) (ofKind a cols)) (written-read a cols held e l room p)
 
-    pub kind-worth-is : {r : ℕ} → r ≡ chosenBelow (turnsBy (a .size) cols) (choiceIn (a .size .count) map) (a .size .count) → r ≡ worthIn (hallAmong a cols) (kindChoice a cols)
+    pub kind-worth-is : {r : ℕ} → r ≡ chosenBelow (turnsBy (a .size) cols) (choiceIn (a .size .count) map) (a .size .count) → r ≡ worthIn (kindHall a cols) (kindChoice a cols)
     unfolding chosenBelow worthIn chosen
     kind-worth-is q = q ∙ rw (choice-is, count-is (a .size) cols)
 
@@ -84,10 +84,10 @@ pub ruleset kind-cases = (kind-room, kind-few, kind-steps-of, kind-worth-is, kin
 -- ---- of the two plans the one of greater worth
 
 module _ (units : ℕ) (p : Size) (cols : List ℕ) where
-  abbrev wide : Among
+  abbrev wide : OneKind
   wide = record { units = units; size = p; wide = true }
 
-  abbrev small : Among
+  abbrev small : OneKind
   small = record { units = units; size = p; wide = false }
 
   abbrev H : Hall
@@ -104,9 +104,9 @@ module _ (units : ℕ) (p : Size) (cols : List ℕ) where
   unfolding kindChoice smallChoice ofKind kindDraw isSmall isWide stepsBy
   small-is = refl
 
-  kind-length : (a : Among) → a .size ≡ p → length (mapOf (kindChoice a cols)) ≡ mapBytes (p .count)
+  kind-length : (a : OneKind) → a .size ≡ p → length (mapOf (kindChoice a cols)) ≡ mapBytes (p .count)
   unfolding kindChoice chooseAmong
-  kind-length a e = map-length (kindChoice a cols) ∙ ap mapBytes (chosen-length (hallAmong a cols) (ofKind a cols) (windowCount (hallAmong a cols)) (stepsBy a cols) ∙ count-is (a .size) cols ∙ ap (λ (q : Size). q .count) e)
+  kind-length a e = map-length (kindChoice a cols) ∙ ap mapBytes (chosen-length (kindHall a cols) (ofKind a cols) (windowCount (kindHall a cols)) (stepsBy a cols) ∙ count-is (a .size) cols ∙ ap (λ (q : Size). q .count) e)
 
   -- bytes put over as many
   over : (l vs : List ℕ) → length vs ≡ length l → puts l 0 vs ≡ vs

@@ -20,8 +20,8 @@ use Rattle.instance.proofs.Rows.{count-is, slope-at}
 use Rattle.selection.specs.Asked.{NumbersOf}
 use Rattle.hall_spec.specs.Hall.{Hall, windowCount, sameVehicle, vehicleFree, staysAllowed}
 use Rattle.hall_spec.specs.Plan.{fitsAmong}
-use Rattle.hall_steps.specs.declared.among.Among.{Among}
-use Rattle.hall_steps.specs.Among.{hallAmong}
+use Rattle.hall_steps.specs.declared.one_kind.OneKind.{OneKind}
+use Rattle.hall_steps.specs.OneKind.{kindHall}
 use Rattle.hall_steps.specs.Bounds.{HallHeld}
 use Rattle.hall.specs.OneKind.{meant}
 use Rattle.hall.specs.Supply.{freeRow, freeIn, RowInHall, Supplied}
@@ -51,7 +51,7 @@ module _ (p : ℕ → Bool) (list free : List ℕ) (count i : ℕ) (h : i < leng
       go true g = let z : k ≡ 1 = f ∙ ap (λ (c : Bool). cond c 1 0) g in rw z (keep-in (sym e ∙ g) l)
       go false g = let z : count + k ≡ count = omega (arith, f ∙ ap (λ (c : Bool). cond c 1 0) g) in rw z (keep-out (sym e ∙ g))
 
-module _ (a : Among) (cols list : List ℕ) (i : ℕ) (held : HallHeld (a .units) (a .size) cols) (w : NumbersOf (a .size .count) list) (h : i < length list) {t : ℕ} (g : t ≡ getD list i 0) where
+module _ (a : OneKind) (cols list : List ℕ) (i : ℕ) (held : HallHeld (a .units) (a .size) cols) (w : NumbersOf (a .size .count) list) (h : i < length list) {t : ℕ} (g : t ≡ getD list i 0) where
   free-number : t < a .size .count
   unfolding NumbersOf
   free-number = rw g (w i h)
@@ -165,17 +165,17 @@ module _ (H : Hall) where
             ih
             ∙ sym (choose-not (fitsAmong H kind) (chooseEach (fitsAmong H kind) js S) j (taken-unfit (chooseEach (fitsAmong H kind) js S) j (each-kept (fitsAmong H kind) (λ U. vehicleFree H U j ≡ false) (λ U k f q. taken-more U k j q) js S (h 0 (omega arith) e))))
 
-pub kept-chosen : (a : Among) (any : Bool) (cols list used : List ℕ) {S U : List Bool} {kept : List ℕ} → NumbersOf (a .size .count) list → Supplied (hallAmong a cols) S used → kept ≡ keep (freeIn cols used) list
-    → U ≡ chooseEach (fitsAmong (hallAmong a cols) (meant a any cols)) kept S → U ≡ chooseEach (fitsAmong (hallAmong a cols) (meant a any cols)) list S
+pub kept-chosen : (a : OneKind) (any : Bool) (cols list used : List ℕ) {S U : List Bool} {kept : List ℕ} → NumbersOf (a .size .count) list → Supplied (kindHall a cols) S used → kept ≡ keep (freeIn cols used) list
+    → U ≡ chooseEach (fitsAmong (kindHall a cols) (meant a any cols)) kept S → U ≡ chooseEach (fitsAmong (kindHall a cols) (meant a any cols)) list S
 unfolding freeIn freeRow NumbersOf
 kept-chosen a any cols list used {S = S} w s e f =
-    f ∙ ap (λ (ts : List ℕ). chooseEach (fitsAmong (hallAmong a cols) (meant a any cols)) ts S) e ∙ each-left (hallAmong a cols) (meant a any cols) (freeIn cols used) S list taken
+    f ∙ ap (λ (ts : List ℕ). chooseEach (fitsAmong (kindHall a cols) (meant a any cols)) ts S) e ∙ each-left (kindHall a cols) (meant a any cols) (freeIn cols used) S list taken
   where
-    taken : (i : ℕ) → i < length list → freeIn cols used (getD list i 0) ≡ false → vehicleFree (hallAmong a cols) S (getD list i 0) ≡ false
+    taken : (i : ℕ) → i < length list → freeIn cols used (getD list i 0) ≡ false → vehicleFree (kindHall a cols) S (getD list i 0) ≡ false
     taken i h b =
         let t = getD list i 0 in
         let m : t < a .size .count = w i h in
-        let c : t < windowCount (hallAmong a cols) = omega (arith, m, count-is (a .size) cols) in
+        let c : t < windowCount (kindHall a cols) = omega (arith, m, count-is (a .size) cols) in
         sym (s .vehicles t c) ∙ rw (sym (slope-at (a .size) cols t m refl)) b
 
 pub ruleset kept-cases = (kept-size, kept-numbers)

@@ -26,7 +26,7 @@ use Rattle.instance.proofs.Rows.{slope-at, groomer-at, start-at, end-at}
 use Rattle.hall_spec.specs.Hall.{Hall, windowCount, vehicle, draw, sameVehicle, chargesAt, drawAt, drawnAt, vehicleFree, supplyLasts, staysAllowed}
 use Rattle.hall_spec.proofs.Windows.{vehicle-is, is-vehicle, charges-in, in-charges, drawAt-charging, drawAt-not}
 use Rattle.hall_spec.proofs.Allowing.{free-vehicle}
-use Rattle.hall_steps.specs.declared.among.Among.{Among}
+use Rattle.hall_steps.specs.declared.one_kind.OneKind.{OneKind}
 use Rattle.hall_steps.specs.Bounds.{HallHeld}
 use Rattle.hall.specs.Supply.{usedPlaces, partMinutes, freeRow, lastsFor, lastsRow, allowedRow, RowInHall, RoomFor, Drawn, WithWindow, Supplied}
 
@@ -194,7 +194,7 @@ pub ruleset draw-cases = (draw-start, draw-in-8, draw-fits, draw-more, draw-done
 -- ---- the places say what is used
 
 -- a row of the columns is one of the hall
-pub row-in-hall : (a : Among) (cols : List ℕ) (j : ℕ) {r : Row} → HallHeld (a .units) (a .size) cols → j < a .size .count → r ≡ rowIn cols j → RowInHall (a .units) r
+pub row-in-hall : (a : OneKind) (cols : List ℕ) (j : ℕ) {r : Row} → HallHeld (a .units) (a .size) cols → j < a .size .count → r ≡ rowIn cols j → RowInHall (a .units) r
 row-in-hall a cols j held l e =
     record {
       units-to = held .units-to;

@@ -13,7 +13,7 @@ ghost use Rattle.selection.specs.Asked.{NumbersOf};
 ghost use Rattle.best_spec.specs.Groomers.{keep};
 ghost use Rattle.hall_spec.specs.Hall.{staysAllowed};
 ghost use Rattle.hall_spec.specs.Plan.{fitsAmong, chooseAmong};
-ghost use Rattle.hall_steps.specs.Among.{hallAmong, ofKind};
+ghost use Rattle.hall_steps.specs.OneKind.{kindHall, ofKind};
 ghost use Rattle.hall_steps.specs.Bounds.{HallHeld};
 ghost use Rattle.hall.specs.OneKind.{meant};
 ghost use Rattle.hall.specs.Supply.{freeIn, Supplied};
@@ -21,7 +21,7 @@ use super::supply::USED;
 use super::supply::is_allowed;
 use super::supply::is_free;
 use super::supply::use_row;
-use hall_steps::Among;
+use hall_steps::OneKind;
 use instance::MOST_TURNS;
 use instance::PLACES;
 use instance::row_at;
@@ -29,13 +29,13 @@ use selection::ASKED;
 use selection::put_asked;
 
 // Chooses window j if the set stays allowed.
-fn add_if_allowed(a: Among, cols: &[u16; PLACES], map: &mut [u8], used: &mut [u8; USED], j: usize)
+fn add_if_allowed(a: OneKind, cols: &[u16; PLACES], map: &mut [u8], used: &mut [u8; USED], j: usize)
     requires { ⌜ (j < a .size .count) × HallHeld (a .units) (a .size) (now cols) × Clean (a .size .count) (now map) ⌝ }
-    requires { ⌜ Supplied (hallAmong a (now cols)) (choiceIn (a .size .count) (now map)) (now used) ⌝ }
+    requires { ⌜ Supplied (kindHall a (now cols)) (choiceIn (a .size .count) (now map)) (now used) ⌝ }
     ensures { λ _. ⌜ choiceIn (a .size .count) (now (map .exit))
-        ≡ choose (staysAllowed (hallAmong a (now (cols .entry)))) (choiceIn (a .size .count) (now (map .entry))) j ⌝ }
+        ≡ choose (staysAllowed (kindHall a (now (cols .entry)))) (choiceIn (a .size .count) (now (map .entry))) j ⌝ }
     ensures { λ _. ⌜ Clean (a .size .count) (now (map .exit)) ⌝ }
-    ensures { λ _. ⌜ Supplied (hallAmong a (now (cols .entry))) (choiceIn (a .size .count) (now (map .exit))) (now (used .exit)) ⌝ }
+    ensures { λ _. ⌜ Supplied (kindHall a (now (cols .entry))) (choiceIn (a .size .count) (now (map .exit))) (now (used .exit)) ⌝ }
 {
     let row = row_at(cols, j);
     if is_allowed(a.units, &*used, row) {
@@ -46,7 +46,7 @@ fn add_if_allowed(a: Among, cols: &[u16; PLACES], map: &mut [u8], used: &mut [u8
 
 // Chooses window j if the set stays allowed with it; unless any is meant, only one of the kind.
 fn add_if_meant(
-    a: Among,
+    a: OneKind,
     any: bool,
     cols: &[u16; PLACES],
     map: &mut [u8],
@@ -54,11 +54,11 @@ fn add_if_meant(
     j: usize,
 )
     requires { ⌜ (j < a .size .count) × HallHeld (a .units) (a .size) (now cols) × Clean (a .size .count) (now map) ⌝ }
-    requires { ⌜ Supplied (hallAmong a (now cols)) (choiceIn (a .size .count) (now map)) (now used) ⌝ }
+    requires { ⌜ Supplied (kindHall a (now cols)) (choiceIn (a .size .count) (now map)) (now used) ⌝ }
     ensures { λ _. ⌜ choiceIn (a .size .count) (now (map .exit))
-        ≡ choose (fitsAmong (hallAmong a (now (cols .entry))) (meant a any (now (cols .entry)))) (choiceIn (a .size .count) (now (map .entry))) j ⌝ }
+        ≡ choose (fitsAmong (kindHall a (now (cols .entry))) (meant a any (now (cols .entry)))) (choiceIn (a .size .count) (now (map .entry))) j ⌝ }
     ensures { λ _. ⌜ Clean (a .size .count) (now (map .exit)) ⌝ }
-    ensures { λ _. ⌜ Supplied (hallAmong a (now (cols .entry))) (choiceIn (a .size .count) (now (map .exit))) (now (used .exit)) ⌝ }
+    ensures { λ _. ⌜ Supplied (kindHall a (now (cols .entry))) (choiceIn (a .size .count) (now (map .exit))) (now (used .exit)) ⌝ }
 {
     let own = hall_steps::is_of_kind(a, row_at(cols, j).groomer);
     if any | own {
@@ -69,7 +69,7 @@ fn add_if_meant(
 // The windows of a list of numbers that are of the kind, or any, from its last to its first, beside those chosen
 // before.
 fn choose_beside(
-    a: Among,
+    a: OneKind,
     any: bool,
     cols: &[u16; PLACES],
     list: &[u16],
@@ -77,12 +77,12 @@ fn choose_beside(
     used: &mut [u8; USED],
 )
     requires { ⌜ HallHeld (a .units) (a .size) (now cols) × NumbersOf (a .size .count) (now list) × Clean (a .size .count) (now map) ⌝ }
-    requires { ⌜ Supplied (hallAmong a (now cols)) (choiceIn (a .size .count) (now map)) (now used) ⌝ }
+    requires { ⌜ Supplied (kindHall a (now cols)) (choiceIn (a .size .count) (now map)) (now used) ⌝ }
     ensures { λ _. ⌜ choiceIn (a .size .count) (now (map .exit))
-        ≡ chooseEach (fitsAmong (hallAmong a (now (cols .entry))) (meant a any (now (cols .entry)))) (now (list .entry))
+        ≡ chooseEach (fitsAmong (kindHall a (now (cols .entry))) (meant a any (now (cols .entry)))) (now (list .entry))
         (choiceIn (a .size .count) (now (map .entry))) ⌝ }
     ensures { λ _. ⌜ Clean (a .size .count) (now (map .exit)) ⌝ }
-    ensures { λ _. ⌜ Supplied (hallAmong a (now (cols .entry))) (choiceIn (a .size .count) (now (map .exit))) (now (used .exit)) ⌝ }
+    ensures { λ _. ⌜ Supplied (kindHall a (now (cols .entry))) (choiceIn (a .size .count) (now (map .exit))) (now (used .exit)) ⌝ }
 {
     let mut left = list.len();
     while 0 < left {
@@ -108,7 +108,7 @@ fn one_if(b: bool) -> usize
 // place; returns how many they are. Each window is put there, and the next over it unless its vehicle is free: so
 // there is no branch to guess.
 fn put_free(
-    a: Among,
+    a: OneKind,
     cols: &[u16; PLACES],
     used: &[u8; USED],
     list: &[u16],
@@ -133,7 +133,7 @@ fn put_free(
 // The same as choose_beside on a list no longer than all windows. Most of its windows are of vehicles that have one
 // already: these are left out at once.
 fn choose_free(
-    a: Among,
+    a: OneKind,
     any: bool,
     cols: &[u16; PLACES],
     list: &[u16],
@@ -141,9 +141,9 @@ fn choose_free(
     used: &mut [u8; USED],
 )
     requires { ⌜ HallHeld (a .units) (a .size) (now cols) × NumbersOf (a .size .count) (now list) × Clean (a .size .count) (now map) ⌝ }
-    requires { ⌜ Supplied (hallAmong a (now cols)) (choiceIn (a .size .count) (now map)) (now used) × (length (now list) ≤ mostTurns) ⌝ }
+    requires { ⌜ Supplied (kindHall a (now cols)) (choiceIn (a .size .count) (now map)) (now used) × (length (now list) ≤ mostTurns) ⌝ }
     ensures { λ _. ⌜ choiceIn (a .size .count) (now (map .exit))
-        ≡ chooseEach (fitsAmong (hallAmong a (now (cols .entry))) (meant a any (now (cols .entry)))) (now (list .entry))
+        ≡ chooseEach (fitsAmong (kindHall a (now (cols .entry))) (meant a any (now (cols .entry)))) (now (list .entry))
         (choiceIn (a .size .count) (now (map .entry))) ⌝ }
     ensures { λ _. ⌜ Clean (a .size .count) (now (map .exit)) ⌝ }
 {
@@ -160,11 +160,11 @@ fn fewer(x: usize, y: usize) -> usize
 
 // The windows of a list of numbers that are of the kind, or any, from its last to its first, into a map that
 // has none chosen.
-fn choose_each(a: Among, any: bool, cols: &[u16; PLACES], list: &[u16], map: &mut [u8])
+fn choose_each(a: OneKind, any: bool, cols: &[u16; PLACES], list: &[u16], map: &mut [u8])
     requires { ⌜ HallHeld (a .units) (a .size) (now cols) × NumbersOf (a .size .count) (now list) × Clean (a .size .count) (now map) ⌝ }
     requires { ⌜ choiceIn (a .size .count) (now map) ≡ replicate (a .size .count) false ⌝ }
     ensures { λ _. ⌜ choiceIn (a .size .count) (now (map .exit))
-        ≡ chooseEach (fitsAmong (hallAmong a (now (cols .entry))) (meant a any (now (cols .entry)))) (now (list .entry)) (replicate (a .size .count) false) ⌝ }
+        ≡ chooseEach (fitsAmong (kindHall a (now (cols .entry))) (meant a any (now (cols .entry)))) (now (list .entry)) (replicate (a .size .count) false) ⌝ }
     ensures { λ _. ⌜ Clean (a .size .count) (now (map .exit)) ⌝ }
 {
     let mut used = [0u8; USED];
@@ -174,22 +174,22 @@ fn choose_each(a: Among, any: bool, cols: &[u16; PLACES], list: &[u16], map: &mu
 }
 
 // All windows of a list of numbers, whatever their kind.
-pub fn choose_listed(a: Among, cols: &[u16; PLACES], list: &[u16], map: &mut [u8])
+pub fn choose_listed(a: OneKind, cols: &[u16; PLACES], list: &[u16], map: &mut [u8])
     requires { ⌜ HallHeld (a .units) (a .size) (now cols) × NumbersOf (a .size .count) (now list) × Clean (a .size .count) (now map) ⌝ }
     requires { ⌜ choiceIn (a .size .count) (now map) ≡ replicate (a .size .count) false ⌝ }
     ensures { λ _. ⌜ choiceIn (a .size .count) (now (map .exit))
-        ≡ chooseEach (staysAllowed (hallAmong a (now (cols .entry)))) (now (list .entry)) (replicate (a .size .count) false) ⌝ }
+        ≡ chooseEach (staysAllowed (kindHall a (now (cols .entry)))) (now (list .entry)) (replicate (a .size .count) false) ⌝ }
     ensures { λ _. ⌜ Clean (a .size .count) (now (map .exit)) ⌝ }
 {
     choose_each(a, true, cols, list, &mut *map);
 }
 
 // Going back over m steps, then filling, into a map that has none chosen.
-pub fn choose_windows(a: Among, cols: &[u16; PLACES], steps: &[u8], m: usize, map: &mut [u8])
+pub fn choose_windows(a: OneKind, cols: &[u16; PLACES], steps: &[u8], m: usize, map: &mut [u8])
     requires { ⌜ HallHeld (a .units) (a .size) (now cols) × (m ≤ mostTurns) × (stepSize * m ≤ length (now steps)) × StepsOf (a .size .count) m (now steps) ⌝ }
     requires { ⌜ Clean (a .size .count) (now map) × (choiceIn (a .size .count) (now map) ≡ replicate (a .size .count) false) ⌝ }
     ensures { λ _. ⌜ choiceIn (a .size .count) (now (map .exit))
-        ≡ chooseAmong (hallAmong a (now (cols .entry))) (ofKind a (now (cols .entry))) (stepsIn m (now (steps .entry))) ⌝ }
+        ≡ chooseAmong (kindHall a (now (cols .entry))) (ofKind a (now (cols .entry))) (stepsIn m (now (steps .entry))) ⌝ }
     ensures { λ _. ⌜ Clean (a .size .count) (now (map .exit)) ⌝ }
 {
     let n = a.size.count;

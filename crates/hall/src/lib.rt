@@ -6,7 +6,7 @@ ghost use lib.ListN.{length, replicate};
 ghost use Rattle.choice_map.specs.Choice.{choiceIn, mapBytes, mapOf, Clean};
 ghost use Rattle.hall_spec.specs.Plan.{hallChoice, hallWorth, worthIn};
 ghost use Rattle.shares.specs.Taking.{hallBy};
-ghost use Rattle.hall_steps.specs.Among.{hallAmong};
+ghost use Rattle.hall_steps.specs.OneKind.{kindHall};
 ghost use Rattle.hall_steps.specs.Bounds.{HallHeld};
 ghost use Rattle.hall.specs.OneKind.{kindChoice};
 ghost use Rattle.refusal.specs.Outcome.{beside};
@@ -18,7 +18,7 @@ mod supply;
 pub use choosing::choose_listed;
 use choosing::choose_windows;
 use hall_spec::ChargeAnswer;
-use hall_steps::Among;
+use hall_steps::OneKind;
 use instance::MOST_TURNS;
 use instance::PLACES;
 use instance::Size;
@@ -63,14 +63,14 @@ pub fn charging_sheet() -> Kind
 }
 
 // The plan of one kind into a map that has none chosen; returns its worth.
-fn plan_kind(a: Among, cols: &[u16; PLACES], map: &mut [u8]) -> u32
+fn plan_kind(a: OneKind, cols: &[u16; PLACES], map: &mut [u8]) -> u32
     requires { ⌜ HallHeld (a .units) (a .size) (now cols) × Clean (a .size .count) (now map)
         × (choiceIn (a .size .count) (now map) ≡ replicate (a .size .count) false) ⌝ }
-    ensures { λ r. ⌜ r ≡ worthIn (hallAmong a (now (cols .entry))) (kindChoice a (now (cols .entry))) ⌝ }
+    ensures { λ r. ⌜ r ≡ worthIn (kindHall a (now (cols .entry))) (kindChoice a (now (cols .entry))) ⌝ }
     ensures { λ _. ⌜ now (map .exit) ≡ mapOf (kindChoice a (now (cols .entry))) ⌝ }
 {
     let mut steps = [0u8; STEPS_BYTES];
-    let m = hall_steps::plan_among(a, cols, &mut steps);
+    let m = hall_steps::plan_one_kind(a, cols, &mut steps);
     choose_windows(a, cols, &steps, m, &mut *map);
     selection::chosen_worth(a.size, cols, &*map)
 }
@@ -88,7 +88,7 @@ pub fn write_plan(units: u16, p: Size, cols: &[u16; PLACES], map: &mut [u8]) -> 
     let wide_map = &mut first[..size];
     let small_map = &mut second[..size];
     let wide = plan_kind(
-        Among {
+        OneKind {
             units: units,
             size: p,
             wide: true,
@@ -97,7 +97,7 @@ pub fn write_plan(units: u16, p: Size, cols: &[u16; PLACES], map: &mut [u8]) -> 
         &mut *wide_map,
     );
     let small = plan_kind(
-        Among {
+        OneKind {
             units: units,
             size: p,
             wide: false,

@@ -27,7 +27,7 @@ use Rattle.hall_spec.specs.Hall.{mostUnits, mostVehicles, Hall, vehicle, draw, 
 use Rattle.hall_spec.proofs.Windows.{in-charges}
 use Rattle.hall_price_spec.specs.Prices.{priceParts, minutePrice, minutesCost, windowPays, windowCounts, alone, richestOf, vehicleBest, supplyCost, hallLimit}
 use Rattle.hall_look.specs.declared.HallSize.{HallSize}
-use Rattle.hall_look.specs.Look.{mostPrice, vehiclePlaces, hallFor, pricesBelow, rowCounts, bestsSum, windowBefore, HallPosed, Summed, WindowRow, Bests, TakenBy}
+use Rattle.hall_look.specs.Look.{mostPrice, vehiclePlaces, hallFor, pricesBelow, rowCounts, bestsSum, windowBefore, HallPosed, MinuteSums, WindowRow, Bests, WindowsTaken}
 use Rattle.hall_look.proofs.SumCases.{below-more}
 
 -- ---- what a window's minutes cost, by sums
@@ -267,7 +267,7 @@ module _ (most : List ℕ) (n : ℕ) (few : n ≤ mostVehicles) where
 
 pub ruleset sum-cases = (sum-start, sum-place, sum-fits, sum-more, sum-done, sum-most)
 
-module _ (h : HallSize) (cols : List ℕ) (q : HallPosed h cols) (prices sums : List ℕ) (s : Summed prices sums) where
+module _ (h : HallSize) (cols : List ℕ) (q : HallPosed h cols) (prices sums : List ℕ) (s : MinuteSums prices sums) where
   all-most : getD sums shiftMinutes 0 ≤ shiftMinutes * mostPrice
   all-most = omega (arith, s .values shiftMinutes (omega arith), s .most)
 
@@ -299,7 +299,7 @@ module _ (h : HallSize) (cols : List ℕ) (q : HallPosed h cols) (prices most ta
   unfolding hallLimit
   look-limit e f = rw (e, f, bests-are (h .vehicles) (q .vehicles))
 
-  pub look-taken : TakenBy (hallFor h cols) prices taken
+  pub look-taken : WindowsTaken (hallFor h cols) prices taken
   look-taken = record { places = b .places-too; windows = λ v l. b .windows v l ∙ ap (λ (x : Best). x .turns) (best-is v) }
 
 pub look-fits : {x y : ℕ} → x ≤ mostUnits * (shiftMinutes * mostPrice) / priceParts → y ≤ mostVehicles * mostPrice → Fits w32 (x + y)

@@ -24,7 +24,7 @@ use Rattle.instance.proofs.Rows.{count-is}
 use Rattle.hall_spec.specs.Hall.{Hall, windowCount, vehicle}
 use Rattle.hall_price_spec.specs.Prices.{alone, windowCounts, richestOf, vehicleBest, hallRelaxed}
 use Rattle.hall_look.specs.declared.HallSize.{HallSize}
-use Rattle.hall_look.specs.Look.{vehiclePlaces, hallFor, windowBefore, withBefore, HallPosed, TakenBy}
+use Rattle.hall_look.specs.Look.{vehiclePlaces, hallFor, windowBefore, withBefore, HallPosed, WindowsTaken}
 
 -- ---- the window before a number
 
@@ -118,7 +118,7 @@ module _ (n : ℕ) (map : List ℕ) (c : Clean n map) where
       go (yes e) = rw (eq-eqb u t e) (rw e (getD-set-same (choiceIn n map) t true false (omega (arith, choice-length n map))) ∙ or-one (has (choiceIn n map) u))
       go (no d) = rw (ne-eqb u t d) (getD-set-other (choiceIn n map) t u true false d ∙ or-none (has (choiceIn n map) u))
 
-module _ (h : HallSize) (cols : List ℕ) (q : HallPosed h cols) (prices taken : List ℕ) (b : TakenBy (hallFor h cols) prices taken) where
+module _ (h : HallSize) (cols : List ℕ) (q : HallPosed h cols) (prices taken : List ℕ) (b : WindowsTaken (hallFor h cols) prices taken) where
   abbrev H : Hall
   H = hallFor h cols
 

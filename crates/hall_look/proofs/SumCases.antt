@@ -14,7 +14,7 @@ use Rattle.turn.specs.Turn.{shiftMinutes, mostWorth}
 use Rattle.instance.specs.declared.ways.Row.{Row}
 use Rattle.hall_spec.specs.Hall.{mostUnits}
 use Rattle.hall_price_spec.specs.Prices.{minutePrice}
-use Rattle.hall_look.specs.Look.{mostPrice, sumPlaces, pricesBelow, rowCost, rowCounts, SummedTo, Summed, WindowRow}
+use Rattle.hall_look.specs.Look.{mostPrice, sumPlaces, pricesBelow, rowCost, rowCounts, MinuteSumsTo, MinuteSums, WindowRow}
 
 pub price-is : (prices : List ℕ) (m : ℕ) {x : ℕ} → x ≡ getD prices m 0 → x ≡ minutePrice prices m
 unfolding minutePrice
@@ -37,7 +37,7 @@ module _ (prices : List ℕ) where
   below-to m k h = let e : m + (k - m) ≡ k = omega arith in let l = below-rises (k - m) m in (rw e at l)
 
   module _ (sums : List ℕ) where
-    pub sums-start : length sums ≡ sumPlaces → SummedTo prices (set sums 0 0) 0 0
+    pub sums-start : length sums ≡ sumPlaces → MinuteSumsTo prices (set sums 0 0) 0 0
     unfolding pricesBelow
     sums-start l =
         record {
@@ -48,16 +48,16 @@ module _ (prices : List ℕ) where
           most = omega arith;
         }
 
-    pub sums-inside : {k sum : ℕ} → SummedTo prices sums k sum → k < shiftMinutes → length prices ≡ shiftMinutes → k < length prices
+    pub sums-inside : {k sum : ℕ} → MinuteSumsTo prices sums k sum → k < shiftMinutes → length prices ≡ shiftMinutes → k < length prices
     sums-inside s h l = omega arith
 
-    pub sums-fit : {k sum r : ℕ} → SummedTo prices sums k sum → k < shiftMinutes → r ≤ mostPrice → Fits w32 (sum + r)
+    pub sums-fit : {k sum r : ℕ} → MinuteSumsTo prices sums k sum → k < shiftMinutes → r ≤ mostPrice → Fits w32 (sum + r)
     sums-fit s h l = omega (arith, s .most)
 
-    pub sums-place : {k sum : ℕ} → SummedTo prices sums k sum → k < shiftMinutes → k + 1 < length sums
+    pub sums-place : {k sum : ℕ} → MinuteSumsTo prices sums k sum → k < shiftMinutes → k + 1 < length sums
     sums-place s h = omega (arith, s .places)
 
-    pub sums-more : {k sum r : ℕ} → SummedTo prices sums k sum → k < shiftMinutes → r ≡ minutePrice prices k → r ≤ mostPrice → SummedTo prices (set sums (k + 1) (sum + r)) (k + 1) (sum + r)
+    pub sums-more : {k sum r : ℕ} → MinuteSumsTo prices sums k sum → k < shiftMinutes → r ≡ minutePrice prices k → r ≤ mostPrice → MinuteSumsTo prices (set sums (k + 1) (sum + r)) (k + 1) (sum + r)
     sums-more {k} {sum} {r} s h e l =
         record {
           within = omega arith;
@@ -74,7 +74,7 @@ module _ (prices : List ℕ) where
         at m q (yes z) = rw z (getD-set-same sums (k + 1) (sum + r) 0 (omega (arith, s .places)) ∙ next)
         at m q (no z) = getD-set-other sums (k + 1) m (sum + r) 0 z ∙ s .values m (omega arith)
 
-    pub sums-done : {k sum : ℕ} → SummedTo prices sums k sum → shiftMinutes ≤ k → Summed prices sums
+    pub sums-done : {k sum : ℕ} → MinuteSumsTo prices sums k sum → shiftMinutes ≤ k → MinuteSums prices sums
     sums-done {k} s h =
         let z : k ≡ shiftMinutes = omega (arith, s .within) in
         record { places = s .places; values = λ m l. s .values m (omega arith); most = let q = s .is in let b : pricesBelow prices k ≤ k * mostPrice = omega (arith, s .most, q) in (rw z at b) }
@@ -83,7 +83,7 @@ pub ruleset sums-cases = (price-is, sums-start, sums-inside, sums-fit, sums-plac
 
 -- ---- what a row pays and counts for
 
-module _ (prices sums : List ℕ) (s : Summed prices sums) (r : Row) (w : WindowRow r) where
+module _ (prices sums : List ℕ) (s : MinuteSums prices sums) (r : Row) (w : WindowRow r) where
   pub row-end : r .end < length sums
   row-end = omega (arith, s .places, w .ends)
 

@@ -63,13 +63,13 @@ pub record HallPosed (h : HallSize) (cols : List ℕ) : Type 0 where
   pub vehicles : h .vehicles ≤ mostVehicles
 
 -- the sums of the prices
-pub record Summed (prices sums : List ℕ) : Type 0 where
+pub record MinuteSums (prices sums : List ℕ) : Type 0 where
   pub places : length sums ≡ sumPlaces
   pub values : (m : ℕ) → m ≤ shiftMinutes → getD sums m 0 ≡ pricesBelow prices m
   pub most : pricesBelow prices shiftMinutes ≤ shiftMinutes * mostPrice
 
 -- as far as minute k they are there, and the last of them is sum
-pub record SummedTo (prices sums : List ℕ) (k sum : ℕ) : Type 0 where
+pub record MinuteSumsTo (prices sums : List ℕ) (k sum : ℕ) : Type 0 where
   pub within : k ≤ shiftMinutes
   pub places : length sums ≡ sumPlaces
   pub values : (m : ℕ) → m ≤ k → getD sums m 0 ≡ pricesBelow prices m
@@ -92,6 +92,6 @@ pub record Bests (H : Hall) (prices : List ℕ) (k : ℕ) (most taken : List ℕ
   pub windows : (v : ℕ) → v ≤ mostVehicles → windowBefore (getD taken v 0) ≡ richestOf H (windowCounts H prices) v k .turns
 
 -- which window each vehicle takes at some prices, one more than its number, 0 for none
-pub record TakenBy (H : Hall) (prices : List ℕ) (taken : List ℕ) : Type 0 where
+pub record WindowsTaken (H : Hall) (prices : List ℕ) (taken : List ℕ) : Type 0 where
   pub places : length taken ≡ vehiclePlaces
   pub windows : (v : ℕ) → v ≤ mostVehicles → windowBefore (getD taken v 0) ≡ vehicleBest H prices v .turns

@@ -8,7 +8,7 @@ ghost use Rattle.turn.specs.Turn.{shiftMinutes};
 ghost use Rattle.sheet.specs.Kind.{mostTurns};
 ghost use Rattle.hall_spec.specs.Hall.{mostUnits, mostVehicles};
 ghost use Rattle.hall_price_spec.specs.Prices.{priceParts, supplyCost, hallLimit};
-ghost use Rattle.hall_look.specs.Look.{mostPrice, vehiclePlaces, hallFor, bestsSum, HallPosed, Summed, Bests, TakenBy};
+ghost use Rattle.hall_look.specs.Look.{mostPrice, vehiclePlaces, hallFor, bestsSum, HallPosed, MinuteSums, Bests, WindowsTaken};
 use super::HallSize;
 use super::sums::MINUTES;
 use super::sums::PARTS;
@@ -55,7 +55,7 @@ fn put_bests(
     most: &mut [u16; VEHICLES],
     taken: &mut [u16; VEHICLES],
 )
-    requires { ⌜ HallPosed h (now cols) × Summed (now prices) (now sums) ⌝ }
+    requires { ⌜ HallPosed h (now cols) × MinuteSums (now prices) (now sums) ⌝ }
     requires { ⌜ (now most ≡ replicate vehiclePlaces 0) × (now taken ≡ replicate vehiclePlaces 0) ⌝ }
     ensures { λ _. ⌜ Bests (hallFor h (now (cols .entry))) (now (prices .entry)) (h .size .count) (now (most .exit)) (now (taken .exit)) ⌝ }
 {
@@ -85,14 +85,14 @@ fn bests_sum(vehicles: u16, most: &[u16; VEHICLES]) -> u32
 
 // What all units cost at all minutes.
 fn supply_cost(h: HallSize, cols: &[u16; PLACES], prices: &[u16], sums: &[u32; SUMS]) -> u32
-    requires { ⌜ HallPosed h (now cols) × Summed (now prices) (now sums) ⌝ }
+    requires { ⌜ HallPosed h (now cols) × MinuteSums (now prices) (now sums) ⌝ }
     ensures { λ r. ⌜ (r ≡ supplyCost (hallFor h (now (cols .entry))) (now (prices .entry))) × (r ≤ mostUnits * (shiftMinutes * mostPrice) / priceParts) ⌝ }
 {
     wide(h.units) * sums[MINUTES] / PARTS
 }
 
 // The limit, and the vehicles' best windows, where none is there before.
-pub fn look(
+pub fn limit_with(
     h: HallSize,
     cols: &[u16; PLACES],
     prices: &[u16],
@@ -102,7 +102,7 @@ pub fn look(
     requires { ⌜ HallPosed h (now cols) × (length (now prices) ≡ shiftMinutes) ⌝ }
     requires { ⌜ (now most ≡ replicate vehiclePlaces 0) × (now taken ≡ replicate vehiclePlaces 0) ⌝ }
     ensures { λ r. ⌜ r ≡ hallLimit (hallFor h (now (cols .entry))) (h .vehicles) (now (prices .entry)) ⌝ }
-    ensures { λ _. ⌜ TakenBy (hallFor h (now (cols .entry))) (now (prices .entry)) (now (taken .exit)) ⌝ }
+    ensures { λ _. ⌜ WindowsTaken (hallFor h (now (cols .entry))) (now (prices .entry)) (now (taken .exit)) ⌝ }
 {
     let mut sums = [0u32; SUMS];
     put_sums(prices, &mut sums);
@@ -117,5 +117,5 @@ pub fn limit_at(h: HallSize, cols: &[u16; PLACES], prices: &[u16]) -> u32
 {
     let mut most = [0u16; VEHICLES];
     let mut taken = [0u16; VEHICLES];
-    look(h, cols, prices, &mut most, &mut taken)
+    limit_with(h, cols, prices, &mut most, &mut taken)
 }

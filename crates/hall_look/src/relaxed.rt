@@ -6,10 +6,10 @@ ghost use lib.ListN.{length, replicate};
 ghost use Rattle.turn.specs.Turn.{shiftMinutes};
 ghost use Rattle.choice_map.specs.Choice.{choiceIn, Clean};
 ghost use Rattle.hall_price_spec.specs.Prices.{hallLimit, hallRelaxed};
-ghost use Rattle.hall_look.specs.Look.{hallFor, withBefore, HallPosed, TakenBy};
+ghost use Rattle.hall_look.specs.Look.{hallFor, withBefore, HallPosed, WindowsTaken};
 use super::HallSize;
 use super::looking::VEHICLES;
-use super::looking::look;
+use super::looking::limit_with;
 use instance::PLACES;
 
 // Sets the bit of the window before a number, of none before 0.
@@ -30,7 +30,7 @@ fn put_relaxed(
     taken: &[u16; VEHICLES],
     map: &mut [u8],
 )
-    requires { ⌜ HallPosed h (now cols) × TakenBy (hallFor h (now cols)) (now prices) (now taken) ⌝ }
+    requires { ⌜ HallPosed h (now cols) × WindowsTaken (hallFor h (now cols)) (now prices) (now taken) ⌝ }
     requires { ⌜ Clean (h .size .count) (now map) × (choiceIn (h .size .count) (now map) ≡ replicate (h .size .count) false) ⌝ }
     ensures { λ _. ⌜ Clean (h .size .count) (now (map .exit)) ⌝ }
     ensures { λ _. ⌜ choiceIn (h .size .count) (now (map .exit)) ≡ hallRelaxed (hallFor h (now (cols .entry))) (now (prices .entry)) ⌝ }
@@ -52,7 +52,7 @@ pub fn look_at(h: HallSize, cols: &[u16; PLACES], prices: &[u16], relaxed: &mut 
 {
     let mut most = [0u16; VEHICLES];
     let mut taken = [0u16; VEHICLES];
-    let limit = look(h, cols, prices, &mut most, &mut taken);
+    let limit = limit_with(h, cols, prices, &mut most, &mut taken);
     put_relaxed(h, cols, prices, &taken, &mut *relaxed);
     limit
 }

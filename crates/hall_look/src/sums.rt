@@ -4,7 +4,7 @@ ghost use Prim.Native.Nat.{_*_, _-_, _≤_, _<_};
 ghost use lib.ListN.{length};
 ghost use Rattle.turn.specs.Turn.{shiftMinutes, mostWorth};
 ghost use Rattle.hall_price_spec.specs.Prices.{minutePrice};
-ghost use Rattle.hall_look.specs.Look.{mostPrice, sumPlaces, rowCost, rowCounts, Summed, WindowRow};
+ghost use Rattle.hall_look.specs.Look.{mostPrice, sumPlaces, rowCost, rowCounts, MinuteSums, WindowRow};
 use instance::Row;
 
 pub const MINUTES: usize = turn::SHIFT_MINUTES as usize;
@@ -32,7 +32,7 @@ pub fn price_at(prices: &[u16], m: usize) -> u32
 // All sums of a list with a price for each minute.
 pub fn put_sums(prices: &[u16], sums: &mut [u32; SUMS])
     requires { ⌜ (length (now prices) ≡ shiftMinutes) × (length (now sums) ≡ sumPlaces) ⌝ }
-    ensures { λ _. ⌜ Summed (now (prices .entry)) (now (sums .exit)) ⌝ }
+    ensures { λ _. ⌜ MinuteSums (now (prices .entry)) (now (sums .exit)) ⌝ }
 {
     let mut sum = 0;
     let mut m = 0;
@@ -46,14 +46,14 @@ pub fn put_sums(prices: &[u16], sums: &mut [u32; SUMS])
 
 // What a window's minutes cost together.
 fn cost_of(prices: &[u16], sums: &[u32; SUMS], r: Row) -> u32
-    requires { ⌜ WindowRow r × Summed (now prices) (now sums) ⌝ }
+    requires { ⌜ WindowRow r × MinuteSums (now prices) (now sums) ⌝ }
     ensures { λ c. ⌜ (c ≡ rowCost (now (prices .entry)) r) × (c ≤ shiftMinutes * mostPrice) ⌝ }
 {
     sums[r.end as usize] - sums[r.start as usize]
 }
 
 // What is left of a worth, nothing if all of it is paid.
-fn left_of(worth: u32, paid: u32) -> u32
+fn unpaid_of(worth: u32, paid: u32) -> u32
     ensures { λ r. ⌜ (r ≡ worth - paid) × (r ≤ worth) ⌝ }
 {
     if worth <= paid {
@@ -64,9 +64,9 @@ fn left_of(worth: u32, paid: u32) -> u32
 
 // What a window counts for.
 pub fn counts_for(prices: &[u16], sums: &[u32; SUMS], r: Row) -> u32
-    requires { ⌜ WindowRow r × Summed (now prices) (now sums) ⌝ }
+    requires { ⌜ WindowRow r × MinuteSums (now prices) (now sums) ⌝ }
     ensures { λ c. ⌜ (c ≡ rowCounts (now (prices .entry)) r) × (c ≤ mostWorth) ⌝ }
 {
     let cost = cost_of(prices, sums, r);
-    left_of(wide(r.worth), wide(r.groomer) * cost / PARTS)
+    unpaid_of(wide(r.worth), wide(r.groomer) * cost / PARTS)
 }

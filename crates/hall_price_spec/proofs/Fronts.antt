@@ -15,7 +15,7 @@ use Rattle.best_spec.specs.Table.{Best, isAmong}
 use Rattle.hall_spec.specs.Hall.{Hall, windowCount, vehicle, chargesAt, drawAt, drawnAt, staysAllowed}
 use Rattle.hall_spec.specs.Plan.{worthIn, hallChoice}
 use Rattle.hall_spec.proofs.Windows.{charges-in, drawAt-not}
-use Rattle.refine_spec.specs.Rounds.{Rule, Stage, startFrom, lowerLimit, betterChoice, looked, moving, refined, greatestOf, firstChange}
+use Rattle.refine_spec.specs.Rounds.{RoundRule, Stage, startFrom, lowerLimit, betterChoice, looked, moving, refined, greatestOf, firstChange}
 use Rattle.refine_spec.specs.Selection.{choiceFrom}
 use Rattle.refine_spec.proofs.Rounds.{looked-prices}
 use Rattle.hall_price_spec.specs.Prices.{minutePrice, minutesCost, windowPays, windowCounts, vehicleBest, supplyCost, hallLimit, hallRelaxed}
@@ -28,7 +28,7 @@ use Rattle.hall_price_spec.proofs.HallRounds.{moved-within}
 abbrev pub lengthened : (List ℕ → List ℕ) → Stage → Stage
 lengthened long x = record { prices = long (x .prices); change = x .change; rounds = x .rounds; limit = x .limit; list = long (x .list); choice = x .choice; worth = x .worth }
 
-module _ (R Q : Rule) (long : List ℕ → List ℕ) (Fit : List ℕ → Type 0) where
+module _ (R Q : RoundRule) (long : List ℕ → List ℕ) (Fit : List ℕ → Type 0) where
   -- they agree on what fits
   pub record Agree : Type 0 where
     pub limits : (p : List ℕ) → Fit p → R .limit (long p) ≡ Q .limit p
@@ -146,7 +146,7 @@ module _ (H : Hall) (vehicles n : ℕ) where
   wholeList p = p ++ replicate (shiftMinutes - n) 0
 
   -- the rule on such lists
-  abbrev pub frontRule : Rule
+  abbrev pub frontRule : RoundRule
   frontRule =
       record {
         limit = hallLimit H vehicles;

@@ -15,7 +15,7 @@ use Rattle.hall_spec.specs.Hall.{Hall, windowCount, vehicle, drawnAt, Allowed, 
 use Rattle.hall_spec.specs.Plan.{roundedUp, worthIn, hallChoice, hallWorth}
 use Rattle.hall_spec.specs.Promises.{worthOfWindows}
 use Rattle.hall_spec.proofs.Halls.{plan-allowed, plan-length}
-use Rattle.refine_spec.specs.Rounds.{Rule, Stage, startFrom}
+use Rattle.refine_spec.specs.Rounds.{RoundRule, Stage, startFrom}
 use Rattle.refine_spec.proofs.Rounds.{listed-limit, chosen-worth, choice-kept, lists-kept, worth-grows, more-rounds, rounds-most, rounds-ended, not-met-before}
 use Rattle.hall_price_spec.specs.Prices.{minutePrice, hallLimit, hallRelaxed}
 use Rattle.hall_price_spec.specs.Hall.{highestMinutePrice, movedMinute, movedMinutes, hallRule, hallStart, hallRefined}
@@ -73,7 +73,7 @@ module _ (H : Hall) (S : List Bool) (change : ℕ) (prices : List ℕ) where
       record { minutes = tab-length shiftMinutes f; highest = tab-bounded shiftMinutes highestMinutePrice f (λ m. moved-highest change (H .units) (drawnAt H S m) (getD prices m 0) (k .highest m)) }
 
 module _ (H : Hall) (vehicles : ℕ) where
-  abbrev R : Rule
+  abbrev R : RoundRule
   R = hallRule H vehicles
 
   abbrev start : Stage

@@ -8,7 +8,7 @@ use Rattle.lists.specs.Lists.{tab, below}
 use Rattle.turn.specs.Turn.{shiftMinutes}
 use Rattle.hall_spec.specs.Hall.{Hall, windowCount, drawnAt, staysAllowed}
 use Rattle.hall_spec.specs.Plan.{roundedUp, worthIn, hallChoice}
-use Rattle.refine_spec.specs.Rounds.{Rule, Stage, startFrom, refined, greatestOf, firstChange}
+use Rattle.refine_spec.specs.Rounds.{RoundRule, Stage, startFrom, refined, greatestOf, firstChange}
 use Rattle.refine_spec.specs.Selection.{choiceFrom}
 use Rattle.hall_price_spec.specs.Prices.{minutePrice, hallLimit, hallRelaxed}
 
@@ -26,7 +26,7 @@ unfoldable pub movedMinutes : Hall → List Bool → ℕ → List ℕ → List �
 movedMinutes H S change prices = tab shiftMinutes (λ m. movedMinute change (H .units) (drawnAt H S m) (minutePrice prices m))
 
 -- the rule
-unfoldable pub hallRule : Hall → ℕ → Rule
+unfoldable pub hallRule : Hall → ℕ → RoundRule
 hallRule H vehicles =
     record {
       limit = hallLimit H vehicles;

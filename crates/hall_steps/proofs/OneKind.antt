@@ -19,13 +19,13 @@ use Rattle.instance.specs.Columns.{columnPlaces, rowIn, withRow, within, turnsB
 use Rattle.instance.proofs.Posed.{put-length}
 use Rattle.instance.proofs.Rows.{row-new, row-other, row-is}
 use Rattle.hall_spec.specs.Hall.{Hall, draw, wideDraw}
-use Rattle.hall_steps.specs.declared.among.Among.{Among}
-use Rattle.hall_steps.specs.Among.{hallAmong, kindDraw, ofKind, amongRow, engineTurns}
+use Rattle.hall_steps.specs.declared.one_kind.OneKind.{OneKind}
+use Rattle.hall_steps.specs.OneKind.{kindHall, kindDraw, ofKind, kindRow, engineTurns}
 use Rattle.hall_steps.specs.Bounds.{HallHeld}
 
 -- ---- one row
 
-module _ (a : Among) (draw : ℕ) {u d : ℕ} (e : u ≡ a .units) (f : d ≡ draw) where
+module _ (a : OneKind) (draw : ℕ) {u d : ℕ} (e : u ≡ a .units) (f : d ≡ draw) where
   pub kind-wide : a .wide ≡ true → ltb u (2 * d) ≡ kindDraw a draw
   unfolding kindDraw wideDraw
   kind-wide w = rw (w, e, f)
@@ -34,43 +34,43 @@ module _ (a : Among) (draw : ℕ) {u d : ℕ} (e : u ≡ a .units) (f : d ≡ dr
   unfolding kindDraw wideDraw
   kind-small w = rw (w, e, f)
 
-pub row-among : (a : Among) (r : Row) {own : Bool} {d g w : ℕ} → own ≡ kindDraw a (r .groomer) → d ≡ cond own (r .groomer) 0 → g ≡ cond (not (a .wide)) d 0 → w ≡ cond own (r .worth) 0
-    → _≡_ {A = Row} (record { slope = r .slope; groomer = g; start = r .start; end = r .end; worth = w; driver = 0 }) (amongRow a r)
-unfolding amongRow
-row-among a r o e f h = rw (f, h, e, o)
+pub row-of-kind : (a : OneKind) (r : Row) {own : Bool} {d g w : ℕ} → own ≡ kindDraw a (r .groomer) → d ≡ cond own (r .groomer) 0 → g ≡ cond (not (a .wide)) d 0 → w ≡ cond own (r .worth) 0
+    → _≡_ {A = Row} (record { slope = r .slope; groomer = g; start = r .start; end = r .end; worth = w; driver = 0 }) (kindRow a r)
+unfolding kindRow
+row-of-kind a r o e f h = rw (f, h, e, o)
 
-pub ruleset row-cases = (kind-wide, kind-small, row-among)
+pub ruleset row-cases = (kind-wide, kind-small, row-of-kind)
 
 -- ---- all rows
 
 -- the first i rows are what the engine gets of the hall's
-unfoldable pub RowsAmong : Among → List ℕ → List ℕ → ℕ → Type 0
-RowsAmong a cols own i = (t : ℕ) → t < i → rowIn own t ≡ amongRow a (rowIn cols t)
+unfoldable pub KindRows : OneKind → List ℕ → List ℕ → ℕ → Type 0
+KindRows a cols own i = (t : ℕ) → t < i → rowIn own t ≡ kindRow a (rowIn cols t)
 
-module _ (a : Among) (cols own : List ℕ) where
-  pub among-none : RowsAmong a cols own 0
-  unfolding RowsAmong
-  among-none = λ t h. absurd (omega arith)
+module _ (a : OneKind) (cols own : List ℕ) where
+  pub one-kind-none : KindRows a cols own 0
+  unfolding KindRows
+  one-kind-none = λ t h. absurd (omega arith)
 
-  pub among-more : (i : ℕ) {x r : Row} {own′ : List ℕ} → HallHeld (a .units) (a .size) cols → i < a .size .count → length own ≡ columnPlaces → x ≡ rowIn cols i → r ≡ amongRow a x → own′ ≡ withRow own i r → RowsAmong a cols own i → RowsAmong a cols own′ (i + 1)
-  unfolding RowsAmong
-  among-more i {r = r} held l w e f q o =
+  pub one-kind-more : (i : ℕ) {x r : Row} {own′ : List ℕ} → HallHeld (a .units) (a .size) cols → i < a .size .count → length own ≡ columnPlaces → x ≡ rowIn cols i → r ≡ kindRow a x → own′ ≡ withRow own i r → KindRows a cols own i → KindRows a cols own′ (i + 1)
+  unfolding KindRows
+  one-kind-more i {r = r} held l w e f q o =
       let h : i < mostTurns = omega (arith, held .held .few) in
-      rw (add-one, q) (up-to (λ t. rowIn (withRow own i r) t ≡ amongRow a (rowIn cols t)) i (λ t k. row-other own i r t (omega arith) h (omega arith) ∙ o t k) (row-new own i r h w ∙ f ∙ ap (amongRow a) e))
+      rw (add-one, q) (up-to (λ t. rowIn (withRow own i r) t ≡ kindRow a (rowIn cols t)) i (λ t k. row-other own i r t (omega arith) h (omega arith) ∙ o t k) (row-new own i r h w ∙ f ∙ ap (kindRow a) e))
 
-  module _ (i : ℕ) (held : HallHeld (a .units) (a .size) cols) (h : a .size .count ≤ i) (w : length own ≡ columnPlaces) (o : RowsAmong a cols own i) where
+  module _ (i : ℕ) (held : HallHeld (a .units) (a .size) cols) (h : a .size .count ≤ i) (w : length own ≡ columnPlaces) (o : KindRows a cols own i) where
     abbrev H : Hall
-    H = hallAmong a cols
+    H = kindHall a cols
 
     abbrev p : Size
     p = a .size
 
-    own-row : (t : ℕ) → t < p .count → rowIn own t ≡ amongRow a (turnRow (H .windows) t)
-    unfolding RowsAmong
-    own-row t l = o t (omega arith) ∙ ap (amongRow a) (row-is p cols t l)
+    own-row : (t : ℕ) → t < p .count → rowIn own t ≡ kindRow a (turnRow (H .windows) t)
+    unfolding KindRows
+    own-row t l = o t (omega arith) ∙ ap (kindRow a) (row-is p cols t l)
 
     -- a number of each window; 0 behind the last
-    own-number : (f : Row → ℕ) (g : ℕ → ℕ) → ((t : ℕ) → t < p .count → f (amongRow a (turnRow (H .windows) t)) ≡ g t) → ((t : ℕ) → p .count ≤ t → 0 ≡ g t) → (t : ℕ) → within (p .count) (λ u. f (rowIn own u)) t ≡ g t
+    own-number : (f : Row → ℕ) (g : ℕ → ℕ) → ((t : ℕ) → t < p .count → f (kindRow a (turnRow (H .windows) t)) ≡ g t) → ((t : ℕ) → p .count ≤ t → 0 ≡ g t) → (t : ℕ) → within (p .count) (λ u. f (rowIn own u)) t ≡ g t
     unfolding within
     own-number f g e z t = go (decLt t (p .count))
       where
@@ -88,9 +88,9 @@ module _ (a : Among) (cols own : List ℕ) where
     none-there true e = e
     none-there false e = refl
 
-    pub among-turns : turnsBy (a .size) own ≡ engineTurns a cols
-    unfolding turnsBy engineTurns amongRow turnRow ofKind
-    among-turns = λ j. record {
+    pub one-kind-turns : turnsBy (a .size) own ≡ engineTurns a cols
+    unfolding turnsBy engineTurns kindRow turnRow ofKind
+    one-kind-turns = λ j. record {
       count = p .count;
       gap = held .gapless j;
       slope = λ t. own-number (λ r. r .slope) (H .windows .slope) (λ u l. refl) (behind (λ r. r .slope)) t j;
@@ -105,16 +105,16 @@ module _ (a : Among) (cols own : List ℕ) where
     least-worth true w h = h
     least-worth false w h = omega arith
 
-    pub among-held : Held (a .size) own
+    pub one-kind-held : Held (a .size) own
     unfolding engineTurns
-    among-held =
+    one-kind-held =
         record {
           places = w;
           few = held .held .few;
-          slopes = λ t l. rw among-turns (held .held .slopes t l);
-          starts = λ t l. rw among-turns (held .held .starts t l);
-          ends = λ t l. rw among-turns (held .held .ends t l);
-          worths = λ t l. rw among-turns (least-worth (ofKind a cols t) (H .windows .worth t) (held .held .worths t l));
+          slopes = λ t l. rw one-kind-turns (held .held .slopes t l);
+          starts = λ t l. rw one-kind-turns (held .held .starts t l);
+          ends = λ t l. rw one-kind-turns (held .held .ends t l);
+          worths = λ t l. rw one-kind-turns (least-worth (ofKind a cols t) (H .windows .worth t) (held .held .worths t l));
         }
 
-pub ruleset among-cases = (among-none, among-more, put-length, among-turns, among-held)
+pub ruleset one-kind-cases = (one-kind-none, one-kind-more, put-length, one-kind-turns, one-kind-held)

@@ -19,17 +19,17 @@ use Rattle.steps.specs.declared.stepping.Rule.{Rule}
 use Rattle.steps.specs.declared.stepping.Rule.the-variants.{Conflicts, Shares}
 use Rattle.steps.specs.Rule.{takesBy, nextBy, planFor, stepsFor, RuleHeld}
 use Rattle.steps.proofs.Planning.{shift-steps}
-use Rattle.hall_steps.specs.declared.among.Among.{Among}
-use Rattle.hall_steps.specs.Among.{hallAmong, kindDraw, ofKind, engineTurns, takingRule, stepsBy}
+use Rattle.hall_steps.specs.declared.one_kind.OneKind.{OneKind}
+use Rattle.hall_steps.specs.OneKind.{kindHall, kindDraw, ofKind, engineTurns, takingRule, stepsBy}
 use Rattle.hall_steps.specs.Bounds.{HallHeld}
 
 -- ---- the rule
 
-pub rule-wide : (a : Among) → a .wide ≡ true → Conflicts ≡ takingRule a
+pub rule-wide : (a : OneKind) → a .wide ≡ true → Conflicts ≡ takingRule a
 unfolding takingRule
 rule-wide a w = rw w
 
-pub rule-small : (a : Among) → a .wide ≡ false → Shares (a .units) ≡ takingRule a
+pub rule-small : (a : OneKind) → a .wide ≡ false → Shares (a .units) ≡ takingRule a
 unfolding takingRule
 rule-small a w = rw w
 
@@ -37,9 +37,9 @@ pub ruleset rule-cases = (rule-wide, rule-small)
 
 -- ---- the kind
 
-module _ (a : Among) (cols : List ℕ) where
+module _ (a : OneKind) (cols : List ℕ) where
   abbrev H : Hall
-  H = hallAmong a cols
+  H = kindHall a cols
 
   module _ (w : a .wide ≡ true) where
     kind-wide : (t : ℕ) → ofKind a cols t ≡ isWide H t
@@ -121,9 +121,9 @@ module _ (a : Among) (cols : List ℕ) where
       given x o e f = rw (e, f) (go (isSmall H t) refl)
 
   module _ {r : Rule} (k : r ≡ takingRule a) (own : List ℕ) (e : turnsBy (a .size) own ≡ engineTurns a cols) where
-    pub among-rule : HallHeld (a .units) (a .size) cols → RuleHeld r (a .size) own
+    pub one-kind-rule : HallHeld (a .units) (a .size) cols → RuleHeld r (a .size) own
     unfolding RuleHeld takingRule
-    among-rule held = rw k (go (a .wide) refl)
+    one-kind-rule held = rw k (go (a .wide) refl)
       where
         go : (b : Bool) → a .wide ≡ b → RuleHeld (cond b Conflicts (Shares (a .units))) (a .size) own
         go true w = tt
@@ -132,10 +132,10 @@ module _ (a : Among) (cols : List ℕ) where
     steps-are : stepsFor r (turnsBy (a .size) own) ≡ stepsBy a cols
     steps-are = rw (k, e) kind-steps
 
-    pub among-count : {m : ℕ} → m ≡ length (stepsFor r (turnsBy (a .size) own)) → m ≡ length (stepsBy a cols)
-    among-count q = q ∙ ap length steps-are
+    pub one-kind-count : {m : ℕ} → m ≡ length (stepsFor r (turnsBy (a .size) own)) → m ≡ length (stepsBy a cols)
+    one-kind-count q = q ∙ ap length steps-are
 
-    pub among-out : (l : List ℕ) {l′ : List ℕ} → l′ ≡ puts l 0 (stepBytes (stepsFor r (turnsBy (a .size) own))) → l′ ≡ puts l 0 (stepBytes (stepsBy a cols))
-    among-out l q = q ∙ ap (λ (xs : List Step). puts l 0 (stepBytes xs)) steps-are
+    pub one-kind-out : (l : List ℕ) {l′ : List ℕ} → l′ ≡ puts l 0 (stepBytes (stepsFor r (turnsBy (a .size) own))) → l′ ≡ puts l 0 (stepBytes (stepsBy a cols))
+    one-kind-out l q = q ∙ ap (λ (xs : List Step). puts l 0 (stepBytes xs)) steps-are
 
-pub ruleset among-steps = (among-rule, among-count, among-out)
+pub ruleset one-kind-steps = (one-kind-rule, one-kind-count, one-kind-out)

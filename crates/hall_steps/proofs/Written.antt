@@ -25,8 +25,8 @@ use Rattle.hall_spec.proofs.Windows.{among-count, among-worth}
 use Rattle.hall_spec.proofs.Takes.{small-taking}
 use Rattle.hall_spec.proofs.Open.{OnlyKind, first-only, after-only}
 use Rattle.hall_spec.proofs.Limits.{first-within, next-within, small-few}
-use Rattle.hall_steps.specs.declared.among.Among.{Among}
-use Rattle.hall_steps.specs.Among.{hallAmong, stepsBy}
+use Rattle.hall_steps.specs.declared.one_kind.OneKind.{OneKind}
+use Rattle.hall_steps.specs.OneKind.{kindHall, stepsBy}
 use Rattle.hall_steps.specs.Bounds.{HallHeld}
 
 -- each step's turn is one of n
@@ -44,8 +44,8 @@ module _ (H : Hall) (supplied : 0 < H .units) (few : windowCount H ≤ mostTurns
   of-kind true t l = worths t l
   of-kind false t l = omega arith
 
-  few-among : (kind : ℕ → Bool) → turnsAmong H kind .count ≤ mostTurns
-  few-among kind = omega (arith, among-count H kind)
+  few-of-kind : (kind : ℕ → Bool) → turnsAmong H kind .count ≤ mostTurns
+  few-of-kind kind = omega (arith, among-count H kind)
 
   wide-good : Good (windowCount H) (wideSteps H)
   unfolding wideSteps
@@ -54,7 +54,7 @@ module _ (H : Hall) (supplied : 0 < H .units) (few : windowCount H ≤ mostTurns
       record {
         few = omega (arith, steps-few T, among-count H (isWide H));
         inside = λ d i h. omega (arith, each-inside (planned-right T) d i h, among-count H (isWide H));
-        small = steps-small T (few-among (isWide H)) (λ t l. rw (among-worth H (isWide H) t) (of-kind (isWide H t) t (omega (arith, among-count H (isWide H)))));
+        small = steps-small T (few-of-kind (isWide H)) (λ t l. rw (among-worth H (isWide H) t) (of-kind (isWide H t) t (omega (arith, among-count H (isWide H)))));
       }
 
   -- only small windows are open, and residuals are in range
@@ -72,16 +72,16 @@ module _ (H : Hall) (supplied : 0 < H .units) (few : windowCount H ≤ mostTurns
       record {
         few = small-few H supplied;
         inside = λ d i h. omega (arith, each-inside right d i h, among-count H (isSmall H));
-        small = each-small T (few-among (isSmall H)) (afterStepBy (smallTakes H)) SmallRange (λ s r. r .1) small-goes (first-only (isSmall H) H, first-within H supplied worths) right;
+        small = each-small T (few-of-kind (isSmall H)) (afterStepBy (smallTakes H)) SmallRange (λ s r. r .1) small-goes (first-only (isSmall H) H, first-within H supplied worths) right;
       }
 
-module _ (a : Among) (cols : List ℕ) (held : HallHeld (a .units) (a .size) cols) where
+module _ (a : OneKind) (cols : List ℕ) (held : HallHeld (a .units) (a .size) cols) where
   good : Good (a .size .count) (stepsBy a cols)
   unfolding stepsBy turnsBy
   good = rw (← count-is (a .size) cols) (go (a .wide))
     where
       H : Hall
-      H = hallAmong a cols
+      H = kindHall a cols
 
       few : windowCount H ≤ mostTurns
       few = omega (arith, held .held .few, count-is (a .size) cols)

@@ -1,2 +1,2 @@
-pub mod Among
+pub mod OneKind
 pub mod Bounds

@@ -1,8 +1,8 @@
 // A hall's windows of one kind as the engine's turns, and their steps.
-mod among;
+mod one_kind;
 mod running;
 
-pub use among::Among;
-pub use among::is_of_kind;
-pub use among::put_among;
-pub use running::plan_among;
+pub use one_kind::OneKind;
+pub use one_kind::is_of_kind;
+pub use one_kind::put_kind;
+pub use running::plan_one_kind;

@@ -41,7 +41,7 @@ pub record PutByEnd (p : Size) (cols order own : List ℕ) : Type 0 where
   pub rising : EndsRise (turnsBy p own)
 
 -- the numbers of a list are below its length, and none stands twice
-pub record Numbered (order : List ℕ) : Type 0 where
+pub record Permutation (order : List ℕ) : Type 0 where
   pub inside : (i : ℕ) → i < length order → turnAt order i < length order
   pub once : (i k : ℕ) → i < k → k < length order → turnAt order i ≢ turnAt order k
 
@@ -50,6 +50,6 @@ unfoldable pub PlacesTo : List ℕ → List ℕ → ℕ → Type 0
 PlacesTo order places i = (k : ℕ) → k < i → getD places (turnAt order k) 0 ≡ k
 
 -- each turn has its place
-pub record PlacesOf (order places : List ℕ) : Type 0 where
+pub record PlacesOfAll (order places : List ℕ) : Type 0 where
   pub many : length places ≡ length order
   pub at : PlacesTo order places (length order)

@@ -5,7 +5,7 @@ ghost use Prim.Native.Nat.{_≤_, _<_};
 ghost use lib.ListN.{length, set};
 ghost use Rattle.sheet.specs.Kind.{mostTurns};
 ghost use Rattle.instance.specs.Columns.{columnPlaces, rowIn, turnsBy, Held};
-ghost use Rattle.instance_by_end.specs.Placing.{byEnd, placeAt, PutByEnd, Numbered, PlacesOf};
+ghost use Rattle.instance_by_end.specs.Placing.{byEnd, placeAt, PutByEnd, Permutation, PlacesOfAll};
 use instance::PLACES;
 use instance::Row;
 use instance::Size;
@@ -64,8 +64,8 @@ fn put_place(places: &mut [u16], t: u16, i: usize)
 
 // For each turn its place in an order.
 pub fn put_places(order: &[u16], places: &mut [u16])
-    requires { ⌜ Numbered (now order) × (length (now order) ≤ mostTurns) × (length (now places) ≡ length (now order)) ⌝ }
-    ensures { λ _. ⌜ PlacesOf (now (order .entry)) (now (places .exit)) ⌝ }
+    requires { ⌜ Permutation (now order) × (length (now order) ≤ mostTurns) × (length (now places) ≡ length (now order)) ⌝ }
+    ensures { λ _. ⌜ PlacesOfAll (now (order .entry)) (now (places .exit)) ⌝ }
 {
     let n = order.len();
     let mut i = 0;

@@ -4,10 +4,10 @@ ghost use Prim.Native.Nat.{_+_};
 ghost use lib.ListN.{length};
 ghost use Rattle.instance.specs.Columns.{Held};
 ghost use Rattle.best_spec.specs.Table.{bestWorth};
-ghost use Rattle.best_table.specs.Held.{Ranged};
+ghost use Rattle.best_table.specs.OrderAndTable.{Ranged};
 ghost use Rattle.price_spec.specs.Prices.{priceSum};
 ghost use Rattle.price_spec.specs.Limit.{limitRefused, limitOf};
-ghost use Rattle.prices.specs.Held.{countedTurns, turnsIn, orderPlaces, Driven, Priced};
+ghost use Rattle.prices.specs.OrdersAndCounts.{countedTurns, turnsIn, orderPlaces, Driven, Priced};
 use instance::PLACES;
 use price_spec::LimitAnswer;
 use prices::Extent;
@@ -31,7 +31,7 @@ fn limit_with(
         prices::put_orders(e, cols, &mut *orders, &mut *room);
         return prices::limit_at(e, cols, &*orders, prices);
     }
-    prices::limit_undriven(e, cols, prices, &mut *orders)
+    prices::limit_driverless(e, cols, prices, &mut *orders)
 }
 
 fn refused(k: u8) -> LimitAnswer

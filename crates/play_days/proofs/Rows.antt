@@ -71,13 +71,13 @@ pub progress-wide : (progress : List ℕ) (g : ℕ) → RoomForTurn progress →
 progress-wide progress g o l = omega (arith, o .few g l)
 
 pub progress-first : (progress : List ℕ) (g : ℕ) → RoomForTurn progress → g < mostGroomers → g < length progress
-progress-first progress g o l = omega (arith, o .beside)
+progress-first progress g o l = omega (arith, o .progress-size)
 
 pub progress-second : (progress : List ℕ) (g : ℕ) → RoomForTurn progress → g < mostGroomers → countPlace g < length progress
-progress-second progress g o l = omega (arith, o .beside)
+progress-second progress g o l = omega (arith, o .progress-size)
 
 pub progress-third : (progress : List ℕ) (g c : ℕ) → RoomForTurn progress → g < mostGroomers → countPlace g < length (set progress g c)
-progress-third progress g c o l = rw (length-set progress g c) (omega (arith, o .beside))
+progress-third progress g c o l = rw (length-set progress g c) (omega (arith, o .progress-size))
 
 pub progress-row : (progress : List ℕ) (g : ℕ) → RoomForTurn progress → g < mostGroomers → getD progress (countPlace g) 0 < dayRows
 progress-row progress g o l = o .few g l
@@ -250,7 +250,7 @@ module _ (T : Turns) (S : List Bool) (delay : ℕ → ℕ) (us : List ℕ) (u : 
   rows-same : ((g : ℕ) → g < mostGroomers → takes T S (suc g) u ≡ false) → RowsPut T S delay (us ++ u ∷ []) table progress
   rows-same none = record {
     places = w .places;
-    beside = w .beside;
+    progress-size = w .progress-size;
     rows = λ g j l k. rw (taken-same T S (suc g) us u (none g l)) (w .rows g j l k);
     free = λ g l. rw (taken-same T S (suc g) us u (none g l)) (w .free g l);
     many = λ g l. rw (taken-same T S (suc g) us u (none g l)) (w .many g l);
@@ -311,7 +311,7 @@ module _ (T : Turns) (S : List Bool) (delay : ℕ → ℕ) (us : List ℕ) (u : 
         ended = ap (λ (x : Stint). cut (x .end + overMinutes)) s-is ∙ ap (λ (y : ℕ). cut (y + overMinutes)) (cut-end (stintOf T delay f u)) ∙ cut-add (stintOf T delay f u .end) overMinutes
 
         go : Dec (k ≡ g) → getD (set progress g (cut (s .end + overMinutes))) k 0 ≡ cut (freeAfter T delay 0 (takenOf T S (suc k) (us ++ u ∷ [])))
-        go (yes e) = rw e (getD-set-same progress g (cut (s .end + overMinutes)) 0 (omega (arith, w .beside)) ∙ ended ∙ ap cut (sym (free-snoc T delay 0 (takenOf T S (suc g) us) u) ∙ ap (freeAfter T delay 0) (sym (taken-next T S (suc g) us u its))))
+        go (yes e) = rw e (getD-set-same progress g (cut (s .end + overMinutes)) 0 (omega (arith, w .progress-size)) ∙ ended ∙ ap cut (sym (free-snoc T delay 0 (takenOf T S (suc g) us) u) ∙ ap (freeAfter T delay 0) (sym (taken-next T S (suc g) us u its))))
         go (no e) = getD-set-other progress g k (cut (s .end + overMinutes)) 0 e ∙ rw (taken-same T S (suc k) us u (others k a e)) (w .free k a)
 
     count-then : (k : ℕ) → k < mostGroomers → getD (afterNext progress g s) (countPlace k) 0 ≡ length (takenOf T S (suc k) (us ++ u ∷ []))
@@ -326,7 +326,7 @@ module _ (T : Turns) (S : List Bool) (delay : ℕ → ℕ) (us : List ℕ) (u : 
 
         go : Dec (k ≡ g) → getD (set inner (countPlace g) c) (countPlace k) 0 ≡ length (takenOf T S (suc k) (us ++ u ∷ []))
         go (yes e) =
-            let v : getD (set inner (countPlace g) c) (countPlace g) 0 ≡ c = getD-set-same inner (countPlace g) c 0 (rw (length-set progress g (cut (s .end + overMinutes))) (omega (arith, w .beside))) in
+            let v : getD (set inner (countPlace g) c) (countPlace g) 0 ≡ c = getD-set-same inner (countPlace g) c 0 (rw (length-set progress g (cut (s .end + overMinutes))) (omega (arith, w .progress-size))) in
             let n : length (takenOf T S (suc g) (us ++ u ∷ [])) ≡ length (takenOf T S (suc g) us) + 1 = ap length (taken-next T S (suc g) us u its) ∙ length-append (takenOf T S (suc g) us) (u ∷ []) in
             rw e (omega (arith, v, n, w .many g l))
         go (no e) =
@@ -336,12 +336,12 @@ module _ (T : Turns) (S : List Bool) (delay : ℕ → ℕ) (us : List ℕ) (u : 
 
     progress-length : length (afterNext progress g s) ≡ progressPlaces
     unfolding afterNext
-    progress-length = simp length-set (w .beside)
+    progress-length = simp length-set (w .progress-size)
 
     rows-next : RowsPut T S delay (us ++ u ∷ []) (withNext table progress g s) (afterNext progress g s)
     rows-next = record {
       places = next-places;
-      beside = progress-length;
+      progress-size = progress-length;
       rows = rows-then;
       free = free-then;
       many = count-then;
@@ -447,7 +447,7 @@ module _ (p : Size) (cols map delays order : List ℕ) (h : Held p cols) (o : or
 
       pub loop-open : RoomForTurn progress
       loop-open = record {
-        beside = w .beside;
+        progress-size = w .progress-size;
         free = λ g k. rw (w .free g k) (cut-most (freeAfter T (delayIn delays) 0 (takenOf T S (suc g) (take i order))));
         few = row-free;
       }
@@ -508,7 +508,7 @@ pub loop-first : (T : Turns) (S : List Bool) (delay : ℕ → ℕ) (order table 
 unfolding blankTable
 loop-first T S delay order table e = rw e (record {
   places = length-replicate {A = ℕ} dayTablePlaces shiftMinutes;
-  beside = length-replicate {A = ℕ} progressPlaces 0;
+  progress-size = length-replicate {A = ℕ} progressPlaces 0;
   rows = λ g j l k. blank-row T S delay g j l k;
   free = λ g l. filled-at progressPlaces 0 g (omega arith) ∙ blank-free T S delay g;
   many = λ g l. filled-at progressPlaces 0 (countPlace g) (omega arith) ∙ blank-count T S delay g;

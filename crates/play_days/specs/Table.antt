@@ -63,7 +63,7 @@ progressWith chosen r u delay progress =
 -- the table has a row for each stint of the days over some turns, taken in their order, groomer by groomer
 pub record RowsPut (T : Turns) (S : List Bool) (delay : ℕ → ℕ) (us table progress : List ℕ) : Type 0 where
   pub places : length table ≡ dayTablePlaces
-  pub beside : length progress ≡ progressPlaces
+  pub progress-size : length progress ≡ progressPlaces
   pub rows : (g j : ℕ) → g < mostGroomers → j < dayRows → stintIn table g j ≡ stintRow (stintsFrom T delay 0 (takenOf T S (suc g) us)) j
   pub free : (g : ℕ) → g < mostGroomers → getD progress g 0 ≡ cut (freeAfter T delay 0 (takenOf T S (suc g) us))
   pub many : (g : ℕ) → g < mostGroomers → getD progress (countPlace g) 0 ≡ length (takenOf T S (suc g) us)
@@ -80,6 +80,6 @@ pub record Playable (T : Turns) (S : List Bool) : Type 0 where
 
 -- room for a turn more: free minutes within the shift, and a row behind each groomer's last one
 pub record RoomForTurn (progress : List ℕ) : Type 0 where
-  pub beside : length progress ≡ progressPlaces
+  pub progress-size : length progress ≡ progressPlaces
   pub free : (g : ℕ) → g < mostGroomers → getD progress g 0 ≤ shiftMinutes
   pub few : (g : ℕ) → g < mostGroomers → getD progress (countPlace g) 0 < dayRows

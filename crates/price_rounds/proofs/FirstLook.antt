@@ -12,13 +12,13 @@ use Rattle.lists.proofs.Sums.{sum-zero, all-of}
 use Rattle.turn.specs.Turn.{shiftMinutes, mostWorth}
 use Rattle.sheet.specs.Kind.{mostTurns}
 use Rattle.model.specs.Turns.{Turns}
-use Rattle.best_spec.specs.Table.{turnOrder, blocked, bestOf, bestWorth}
+use Rattle.best_spec.specs.Table.{turnOrder, blocked, bestOver, bestWorth}
 use Rattle.best_spec.proofs.Tables.{best-ind}
 use Rattle.best_spec.proofs.Ordering.{order-sum}
 use Rattle.choice_map.proofs.Clean.{zeros-at}
 use Rattle.instance.proofs.Rows.{count-is}
 use Rattle.price_spec.specs.Prices.{slopePrice, turnPrice, countsFor, priceSum}
-use Rattle.prices.specs.Held.{countedTurns, turnsIn}
+use Rattle.prices.specs.OrdersAndCounts.{countedTurns, turnsIn}
 use Rattle.hall_spec.specs.Hall.{windowCount, vehicle}
 use Rattle.hall_price_spec.specs.Prices.{minutePrice, windowCounts, vehicleBest, supplyCost, hallLimit}
 use Rattle.hall_price_spec.proofs.HallLimits.{vehicle-most}
@@ -39,7 +39,7 @@ sum-drop f zero ts = omega arith
 sum-drop f (suc k) [] = omega arith
 sum-drop f (suc k) (t ∷ ts) = omega (arith, sum-drop f k ts)
 
-table-most : (T : Turns) (ts : List ℕ) → bestOf T ts .worth ≤ sum (T .worth) ts
+table-most : (T : Turns) (ts : List ℕ) → bestOver T ts .worth ≤ sum (T .worth) ts
 table-most T =
     best-ind T (λ ts b. b .worth ≤ sum (T .worth) ts) (omega arith) (λ t us l p q. omega (arith, p)) (λ t us l p q. omega (arith, q, sum-drop (T .worth) (blocked T t us) us))
 

@@ -15,8 +15,8 @@ use Rattle.choice_map.specs.Choice.{mapBytes, choiceIn, Clean}
 use Rattle.instance.specs.declared.columns.Size.{Size}
 use Rattle.instance.specs.Columns.{turnsBy, Held}
 use Rattle.instance.proofs.Rows.{count-is}
-use Rattle.prices.specs.Held.{turnsIn}
-use Rattle.refine_spec.specs.Rounds.{Rule, Stage, lowerLimit, betterChoice, looked, nextChange, moving, refined}
+use Rattle.prices.specs.OrdersAndCounts.{turnsIn}
+use Rattle.refine_spec.specs.Rounds.{RoundRule, Stage, lowerLimit, betterChoice, looked, nextChange, moving, refined}
 use Rattle.refine_spec.specs.Selection.{byWorth}
 use Rattle.refine_spec.proofs.Loop.{loop-stops, loop-left, loop-goes, first-same}
 use Rattle.refine_spec.proofs.Shift.{moved-length}
@@ -131,7 +131,7 @@ module _ (r : RuleFor) (cols first : List ℕ) (rounds : ℕ) (prices : List ℕ
     (relaxed best′ : List ℕ) {seen limit′ worth′ : ℕ} {list′ : List ℕ} (s : seen ≡ ruleLimit r cols prices) (q : choiceIn (sizeOf r .count) relaxed ≡ relaxedOf r cols prices)
     (l : limit′ ≡ cond (ltb seen limit) seen limit) (k : list′ ≡ cond (ltb seen limit) prices list)
     (b : BetterKept r cols (choiceIn (sizeOf r .count) relaxed) (choiceIn (sizeOf r .count) best) worth (choiceIn (sizeOf r .count) best′) worth′) where
-  abbrev R : Rule
+  abbrev R : RoundRule
   R = roundRule r cols
 
   abbrev whole : Stage

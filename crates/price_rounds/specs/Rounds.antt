@@ -14,7 +14,7 @@ use Rattle.prices.specs.declared.Extent.{Extent}
 use Rattle.hall_look.specs.declared.HallSize.{HallSize}
 use Rattle.price_rule.specs.declared.RuleFor.{RuleFor}
 use Rattle.price_rule.specs.declared.RuleFor.the-variants.{Shift, Hall}
-use Rattle.price_rule.specs.Rules.{sizeOf, pricesOf, changeOf, choiceOf, ruleWorth, roundRule, RulePosed, Tabled, RunsFor}
+use Rattle.price_rule.specs.Rules.{sizeOf, pricesOf, changeOf, choiceOf, ruleWorth, roundRule, RulePosed, OrderedFor, RunsFor}
 use Rattle.price_rounds.specs.declared.Start.{Start}
 use Rattle.price_rounds.specs.declared.Task.{Task}
 use Rattle.price_rounds.specs.declared.Reached.{Reached}
@@ -75,9 +75,9 @@ pub record BetweenLooks (r : RuleFor) (cols first : List ℕ) (rounds : ℕ) (pr
       ≡ roundsFrom r cols rounds (choiceIn (sizeOf r .count) first)
 
 -- the loop at such a place: what no round changes is there, and lent places keep their lengths
-pub record RoundsUnderway (t : Task) (cols list₀ best₀ tables ranks list best room prices : List ℕ) (change limit worth made : ℕ) : Type 0 where
+pub record RoundsUnderway (t : Task) (cols list₀ best₀ orders ranks list best room prices : List ℕ) (change limit worth made : ℕ) : Type 0 where
   pub posed : RulePosed (t .rule) cols
-  pub tabled : Tabled (t .rule) cols tables
+  pub ordered : OrderedFor (t .rule) cols orders
   pub ranked : ranks ≡ byWorth (turnsBy (sizeOf (t .rule)) cols)
   pub stage : BetweenLooks (t .rule) cols best₀ (t .rounds) prices change made limit list best worth
   pub list-size : length list ≡ length list₀

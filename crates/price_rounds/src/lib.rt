@@ -15,7 +15,7 @@ use price_rule::choose_from;
 use price_rule::first_change;
 use price_rule::look_at;
 use price_rule::move_prices;
-use price_rule::put_tables;
+use price_rule::put_orders;
 use price_rule::size_of;
 use prices::Extent;
 use prices::ORDERS;
@@ -88,7 +88,7 @@ fn keep_better(
     found
 }
 
-fn come_to(limit: u32, worth: u32, rounds: u32) -> Reached
+fn reached_with(limit: u32, worth: u32, rounds: u32) -> Reached
     ensures { λ r. ⌜ r ≡ record { limit = limit; worth = worth; rounds = rounds } ⌝ }
 {
     Reached {
@@ -103,22 +103,22 @@ fn come_to(limit: u32, worth: u32, rounds: u32) -> Reached
 fn make_rounds(
     t: Task,
     cols: &[u16; PLACES],
-    list: &mut [u16],
+    lowest: &mut [u16],
     best: &mut [u8],
     room: &mut [u16; PLACES],
 ) -> Reached
-    requires { ⌜ RoundsStart t (now cols) (now list) (now best) (now room) ⌝ }
-    ensures { λ r. ⌜ ReachedFrom t (now (cols .entry)) (now (best .entry)) r (now (list .exit)) (now (best .exit)) ⌝ }
+    requires { ⌜ RoundsStart t (now cols) (now lowest) (now best) (now room) ⌝ }
+    ensures { λ r. ⌜ ReachedFrom t (now (cols .entry)) (now (best .entry)) r (now (lowest .exit)) (now (best .exit)) ⌝ }
 {
     let rule = t.rule;
     let p = size_of(rule);
-    let mut tables = [0u16; ORDERS];
-    put_tables(rule, cols, &mut tables, &mut *room);
+    let mut orders = [0u16; ORDERS];
+    put_orders(rule, cols, &mut orders, &mut *room);
     let mut places = [0u16; MOST_TURNS];
     let ranks = &mut places[..p.count];
     put_ranks(p, cols, &mut *ranks);
     let mut space = [0u16; MOST_PRICES];
-    let prices = &mut space[..list.len()];
+    let prices = &mut space[..lowest.len()];
     let mut change = first_change(rule, cols);
     let mut limit = NO_LIMIT;
     let mut worth = t.worth;
@@ -126,17 +126,17 @@ fn make_rounds(
     loop {
         let mut map = [0u8; MAP_BYTES];
         let relaxed = &mut map[..best.len()];
-        let seen = look_at(rule, cols, &tables, &*prices, &mut *relaxed);
-        limit = keep_lower(seen, limit, &*prices, &mut *list);
+        let seen = look_at(rule, cols, &orders, &*prices, &mut *relaxed);
+        limit = keep_lower(seen, limit, &*prices, &mut *lowest);
         let rated = BestSoFar {
             rule: rule,
             worth: worth,
         };
         worth = keep_better(rated, cols, &*ranks, &*relaxed, &mut *best, &mut *room);
         if is_over(limit, worth, made, t.rounds) {
-            return come_to(limit, worth, made);
+            return reached_with(limit, worth, made);
         }
-        move_prices(rule, cols, &tables, &*relaxed, change, &mut *prices);
+        move_prices(rule, cols, &orders, &*relaxed, change, &mut *prices);
         change = next_change(change);
         made += 1;
     }
@@ -147,19 +147,19 @@ pub fn shift_rounds(
     e: Extent,
     s: Start,
     cols: &[u16; PLACES],
-    list: &mut [u16],
+    lowest: &mut [u16],
     best: &mut [u8],
     room: &mut [u16; PLACES],
 ) -> Reached
-    requires { ⌜ RoundsStart (shiftTask e s) (now cols) (now list) (now best) (now room) ⌝ }
-    ensures { λ r. ⌜ ReachedFrom (shiftTask e s) (now (cols .entry)) (now (best .entry)) r (now (list .exit)) (now (best .exit)) ⌝ }
+    requires { ⌜ RoundsStart (shiftTask e s) (now cols) (now lowest) (now best) (now room) ⌝ }
+    ensures { λ r. ⌜ ReachedFrom (shiftTask e s) (now (cols .entry)) (now (best .entry)) r (now (lowest .exit)) (now (best .exit)) ⌝ }
 {
     let t = Task {
         rule: RuleFor::Shift(e),
         rounds: s.rounds,
         worth: s.worth,
     };
-    make_rounds(t, cols, &mut *list, &mut *best, &mut *room)
+    make_rounds(t, cols, &mut *lowest, &mut *best, &mut *room)
 }
 
 // The rounds of a hall.
@@ -167,17 +167,17 @@ pub fn hall_rounds(
     h: HallSize,
     s: Start,
     cols: &[u16; PLACES],
-    list: &mut [u16],
+    lowest: &mut [u16],
     best: &mut [u8],
     room: &mut [u16; PLACES],
 ) -> Reached
-    requires { ⌜ RoundsStart (hallTask h s) (now cols) (now list) (now best) (now room) ⌝ }
-    ensures { λ r. ⌜ ReachedFrom (hallTask h s) (now (cols .entry)) (now (best .entry)) r (now (list .exit)) (now (best .exit)) ⌝ }
+    requires { ⌜ RoundsStart (hallTask h s) (now cols) (now lowest) (now best) (now room) ⌝ }
+    ensures { λ r. ⌜ ReachedFrom (hallTask h s) (now (cols .entry)) (now (best .entry)) r (now (lowest .exit)) (now (best .exit)) ⌝ }
 {
     let t = Task {
         rule: RuleFor::Hall(h),
         rounds: s.rounds,
         worth: s.worth,
     };
-    make_rounds(t, cols, &mut *list, &mut *best, &mut *room)
+    make_rounds(t, cols, &mut *lowest, &mut *best, &mut *room)
 }

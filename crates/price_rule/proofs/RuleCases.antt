@@ -14,10 +14,10 @@ use Rattle.instance.specs.Columns.{columnPlaces, turnsBy, Held}
 use Rattle.instance.proofs.Rows.{count-is}
 use Rattle.selection.specs.Below.{chosenBelow}
 use Rattle.selection.specs.Asked.{NumbersOf}
-use Rattle.best_table.specs.Held.{Ranged}
+use Rattle.best_table.specs.OrderAndTable.{Ranged}
 use Rattle.price_spec.specs.Prices.{priceSum}
 use Rattle.prices.specs.declared.Extent.{Extent}
-use Rattle.prices.specs.Held.{countedTurns, turnsIn, orderPlaces, Driven, Ordered, Priced}
+use Rattle.prices.specs.OrdersAndCounts.{countedTurns, turnsIn, orderPlaces, Driven, Ordered, Priced}
 use Rattle.selection_by_runs.specs.Runs.{RunsOf}
 use Rattle.refine_spec.specs.Rounds.{firstChange}
 use Rattle.refine_spec.specs.Selection.{byWorth}
@@ -31,7 +31,7 @@ use Rattle.hall_look.specs.declared.HallSize.{HallSize}
 use Rattle.hall_look.specs.Look.{hallFor, HallPosed}
 use Rattle.price_rule.specs.declared.RuleFor.{RuleFor}
 use Rattle.price_rule.specs.declared.RuleFor.the-variants.{Shift, Hall}
-use Rattle.price_rule.specs.Rules.{sizeOf, pricesOf, changeOf, ruleLimit, relaxedOf, fitsOf, movedOf, choiceOf, ruleWorth, ShiftPosed, RulePosed, Tabled, RunsFor}
+use Rattle.price_rule.specs.Rules.{sizeOf, pricesOf, changeOf, ruleLimit, relaxedOf, fitsOf, movedOf, choiceOf, ruleWorth, ShiftPosed, RulePosed, OrderedFor, RunsFor}
 
 -- ---- for a shift
 
@@ -71,9 +71,9 @@ module _ (r : RuleFor) (e : Extent) (g : r ≡ Shift e) where
             list = rw g at l;
           }
 
-    pub shift-tabled : (tables : List ℕ) → Ordered (turnsIn e cols) tables → Tabled r cols tables
-    unfolding Tabled
-    shift-tabled tables h = rw g h
+    pub shift-ordered-for : (orders : List ℕ) → Ordered (turnsIn e cols) orders → OrderedFor r cols orders
+    unfolding OrderedFor
+    shift-ordered-for orders h = rw g h
 
     pub shift-runs : (runs : List ℕ) → RunsOf (turnsIn e cols) runs → RunsFor r cols runs
     unfolding RunsFor
@@ -87,9 +87,9 @@ module _ (r : RuleFor) (e : Extent) (g : r ≡ Shift e) where
     unfolding sizeOf
     shift-worth map q = rw g q
 
-    pub shift-ordered : (tables : List ℕ) → Tabled r cols tables → Ordered (turnsIn e cols) tables
-    unfolding Tabled
-    shift-ordered tables h = rw g at h
+    pub shift-ordered : (orders : List ℕ) → OrderedFor r cols orders → Ordered (turnsIn e cols) orders
+    unfolding OrderedFor
+    shift-ordered orders h = rw g at h
 
     pub shift-change : {x : ℕ} → x ≡ greatestWorth (turnsBy (e .size) cols) → (x + 3) / 4 ≡ changeOf r cols
     unfolding changeOf firstChange
@@ -144,9 +144,9 @@ module _ (r : RuleFor) (h : HallSize) (g : r ≡ Hall h) where
       pub hall-held : Held (h .size) cols
       hall-held = hall-posed .held .held
 
-    pub hall-tabled : (tables : List ℕ) → length tables ≡ orderPlaces → Tabled r cols tables
-    unfolding Tabled
-    hall-tabled tables q = rw g q
+    pub hall-ordered-for : (orders : List ℕ) → length orders ≡ orderPlaces → OrderedFor r cols orders
+    unfolding OrderedFor
+    hall-ordered-for orders q = rw g q
 
     pub hall-runs : (runs : List ℕ) → length runs ≡ columnPlaces → RunsFor r cols runs
     unfolding RunsFor
@@ -202,7 +202,7 @@ change-most-8 l = omega arith
 
 pub ruleset size-cases = (shift-size, hall-size)
 
-pub ruleset table-cases = (shift-held, shift-ranged, shift-driven, shift-tabled, shift-runs, hall-tabled, hall-runs)
+pub ruleset table-cases = (shift-held, shift-ranged, shift-driven, shift-ordered-for, shift-runs, hall-ordered-for, hall-runs)
 
 pub ruleset change-cases = (shift-held, shift-change, change-most-4, hall-held, hall-change, change-most-8)
 

@@ -10,12 +10,12 @@ use Rattle.sheet.specs.Kind.{mostSlopes}
 use Rattle.best_spec.specs.Table.{bestWorth, bestChoice}
 use Rattle.instance.specs.declared.columns.Size.{Size}
 use Rattle.instance.specs.Columns.{columnPlaces, turnsBy, Held}
-use Rattle.best_table.specs.Held.{Ranged}
+use Rattle.best_table.specs.OrderAndTable.{Ranged}
 use Rattle.price_spec.specs.Prices.{priceSum}
 use Rattle.prices.specs.declared.Extent.{Extent}
-use Rattle.prices.specs.Held.{countedTurns, turnsIn, orderPlaces, Ordered}
+use Rattle.prices.specs.OrdersAndCounts.{countedTurns, turnsIn, orderPlaces, Ordered}
 use Rattle.selection_by_runs.specs.Runs.{RunsOf}
-use Rattle.refine_spec.specs.Rounds.{Rule, firstChange}
+use Rattle.refine_spec.specs.Rounds.{RoundRule, firstChange}
 use Rattle.refine_spec.specs.Selection.{choiceFrom}
 use Rattle.refine_spec.specs.Shift.{greatestWorth, movedPrices}
 use Rattle.hall_spec.specs.Hall.{staysAllowed}
@@ -69,7 +69,7 @@ unfoldable pub ruleWorth : RuleFor → List ℕ → List Bool → ℕ
 ruleWorth r cols S = let T = turnsBy (sizeOf r) cols in chosen (T .count) S (T .worth)
 
 -- the rule
-unfoldable pub roundRule : RuleFor → List ℕ → Rule
+unfoldable pub roundRule : RuleFor → List ℕ → RoundRule
 roundRule r cols =
     record {
       limit = ruleLimit r cols;
@@ -94,9 +94,9 @@ RulePosed (Shift e) cols = ShiftPosed e cols
 RulePosed (Hall h) cols = HallPosed h cols
 
 -- what does not depend on prices is there: the orders of a shift's turns
-unfoldable pub Tabled : RuleFor → List ℕ → List ℕ → Type 0
-Tabled (Shift e) cols tables = Ordered (turnsIn e cols) tables
-Tabled (Hall h) cols tables = length tables ≡ orderPlaces
+unfoldable pub OrderedFor : RuleFor → List ℕ → List ℕ → Type 0
+OrderedFor (Shift e) cols orders = Ordered (turnsIn e cols) orders
+OrderedFor (Hall h) cols orders = length orders ≡ orderPlaces
 
 -- the runs of these orders are there, by which a shift's choice is made
 unfoldable pub RunsFor : RuleFor → List ℕ → List ℕ → Type 0

@@ -12,16 +12,15 @@ ghost use Rattle.selection.specs.Asked.{NumbersOf};
 ghost use Rattle.selection.specs.Below.{chosenBelow};
 ghost use Rattle.hall_spec.specs.Hall.{staysAllowed};
 ghost use Rattle.hall_look.specs.Look.{hallFor, HallPosed};
-ghost use Rattle.prices.specs.Held.{orderPlaces};
+ghost use Rattle.prices.specs.OrdersAndCounts.{orderPlaces};
 ghost use Rattle.refine_spec.specs.Selection.{byWorth};
-ghost use Rattle.price_rule.specs.Rules.{sizeOf, pricesOf, changeOf, ruleLimit, relaxedOf, fitsOf, choiceOf, ruleWorth, movedOf, RulePosed, Tabled, RunsFor};
+ghost use Rattle.price_rule.specs.Rules.{sizeOf, pricesOf, changeOf, ruleLimit, relaxedOf, fitsOf, choiceOf, ruleWorth, movedOf, RulePosed, OrderedFor, RunsFor};
 use hall_look::HallSize;
-use hall_steps::Among;
+use hall_steps::OneKind;
 use instance::PLACES;
 use instance::Size;
 use prices::Extent;
 use prices::ORDERS;
-use prices::look;
 use round_parts::greatest_worth;
 use selection::ASKED;
 
@@ -42,18 +41,18 @@ pub fn size_of(r: RuleFor) -> Size
 
 // What does not depend on prices: the orders of a shift's turns, and into the room the runs of these orders, by which a
 // choice is made. For a hall there is nothing to put down.
-pub fn put_tables(
+pub fn put_orders(
     r: RuleFor,
     cols: &[u16; PLACES],
-    tables: &mut [u16; ORDERS],
+    orders: &mut [u16; ORDERS],
     room: &mut [u16; PLACES],
 )
-    requires { ⌜ RulePosed r (now cols) × (length (now tables) ≡ orderPlaces) × (length (now room) ≡ columnPlaces) ⌝ }
-    ensures { λ _. ⌜ Tabled r (now (cols .entry)) (now (tables .exit)) × RunsFor r (now (cols .entry)) (now (room .exit)) ⌝ }
+    requires { ⌜ RulePosed r (now cols) × (length (now orders) ≡ orderPlaces) × (length (now room) ≡ columnPlaces) ⌝ }
+    ensures { λ _. ⌜ OrderedFor r (now (cols .entry)) (now (orders .exit)) × RunsFor r (now (cols .entry)) (now (room .exit)) ⌝ }
 {
     if let RuleFor::Shift(e) = r {
-        prices::put_orders(e, cols, &mut *tables, &mut *room);
-        selection_by_runs::put_runs(e.size, cols, &*tables, &mut *room);
+        prices::put_orders(e, cols, &mut *orders, &mut *room);
+        selection_by_runs::put_runs(e.size, cols, &*orders, &mut *room);
     }
 }
 
@@ -72,25 +71,25 @@ pub fn first_change(r: RuleFor, cols: &[u16; PLACES]) -> u32
 pub fn look_at(
     r: RuleFor,
     cols: &[u16; PLACES],
-    tables: &[u16; ORDERS],
+    orders: &[u16; ORDERS],
     prices: &[u16],
     relaxed: &mut [u8],
 ) -> u32
-    requires { ⌜ RulePosed r (now cols) × Tabled r (now cols) (now tables) × (length (now prices) ≡ pricesOf r) ⌝ }
+    requires { ⌜ RulePosed r (now cols) × OrderedFor r (now cols) (now orders) × (length (now prices) ≡ pricesOf r) ⌝ }
     requires { ⌜ Clean (sizeOf r .count) (now relaxed) × (choiceIn (sizeOf r .count) (now relaxed) ≡ replicate (sizeOf r .count) false) ⌝ }
     ensures { λ x. ⌜ x ≡ ruleLimit r (now (cols .entry)) (now (prices .entry)) ⌝ }
     ensures { λ _. ⌜ Clean (sizeOf r .count) (now (relaxed .exit))
         × (choiceIn (sizeOf r .count) (now (relaxed .exit)) ≡ relaxedOf r (now (cols .entry)) (now (prices .entry))) ⌝ }
 {
     match r {
-        RuleFor::Shift(e) => look(e, cols, tables, prices, &mut *relaxed),
+        RuleFor::Shift(e) => prices::look_at(e, cols, orders, prices, &mut *relaxed),
         RuleFor::Hall(h) => hall_look::look_at(h, cols, prices, &mut *relaxed),
     }
 }
 
 // Goes through a list of windows from its last to its first and chooses each that fits, into an empty map;
 // returns their worth.
-fn choose_windows(h: HallSize, cols: &[u16; PLACES], list: &[u16], map: &mut [u8]) -> u32
+fn choose_in_hall(h: HallSize, cols: &[u16; PLACES], list: &[u16], map: &mut [u8]) -> u32
     requires { ⌜ HallPosed h (now cols) × NumbersOf (h .size .count) (now list) ⌝ }
     requires { ⌜ Clean (h .size .count) (now map) × (choiceIn (h .size .count) (now map) ≡ replicate (h .size .count) false) ⌝ }
     ensures { λ _. ⌜ choiceIn (h .size .count) (now (map .exit))
@@ -100,7 +99,7 @@ fn choose_windows(h: HallSize, cols: &[u16; PLACES], list: &[u16], map: &mut [u8
 {
     let p = h.size;
     // wide plays no part: choose_listed takes windows of both kinds.
-    let all = Among {
+    let all = OneKind {
         units: h.units,
         size: p,
         wide: false,
@@ -126,7 +125,7 @@ fn choose_listed(
 {
     match r {
         RuleFor::Shift(e) => selection_by_runs::choose_listed(e.size, cols, runs, list, &mut *map),
-        RuleFor::Hall(h) => choose_windows(h, cols, list, &mut *map),
+        RuleFor::Hall(h) => choose_in_hall(h, cols, list, &mut *map),
     }
 }
 
@@ -155,19 +154,19 @@ pub fn choose_from(
 pub fn move_prices(
     r: RuleFor,
     cols: &[u16; PLACES],
-    tables: &[u16; ORDERS],
+    orders: &[u16; ORDERS],
     relaxed: &[u8],
     change: u32,
     prices: &mut [u16],
 )
-    requires { ⌜ RulePosed r (now cols) × Tabled r (now cols) (now tables) × (length (now prices) ≡ pricesOf r) ⌝ }
+    requires { ⌜ RulePosed r (now cols) × OrderedFor r (now cols) (now orders) × (length (now prices) ≡ pricesOf r) ⌝ }
     requires { ⌜ Clean (sizeOf r .count) (now relaxed) × (change ≤ mostWorth) ⌝ }
     ensures { λ _. ⌜ now (prices .exit)
         ≡ movedOf r (now (cols .entry)) (choiceIn (sizeOf r .count) (now (relaxed .entry))) change (now (prices .entry)) ⌝ }
 {
     match r {
         RuleFor::Shift(e) => {
-            shift_moves::move_prices(e, cols, tables, relaxed, change, &mut *prices);
+            shift_moves::move_prices(e, cols, orders, relaxed, change, &mut *prices);
         }
         RuleFor::Hall(h) => hall_moves::move_minutes(h, cols, relaxed, change, &mut *prices),
     }

@@ -7,7 +7,7 @@ use lib.Dec.{eqb}
 use lib.ListN.{replicate}
 use Rattle.lists.specs.Lists.{sum, below}
 use Rattle.model.specs.Turns.{Turns, oneGroomer}
-use Rattle.best_spec.specs.Table.{Best, laterFirst, turnOrder, inTheWay, blocked, bestTable, bestOf, bestWorth, marked, bestChoice}
+use Rattle.best_spec.specs.Table.{Best, laterFirst, turnOrder, inTheWay, blocked, bestTable, bestOver, bestWorth, marked, bestChoice}
 use Rattle.best_spec.specs.Groomers.{keep, ownTurns, groomerWorth, groomersWorth}
 
 -- turns with other worths
@@ -33,21 +33,21 @@ module _ (T : Turns) where
   bare-table [] = refl
   bare-table (t ∷ us) = rw (bare-table us, bare-blocked t us)
 
-  bare-of : (ts : List ℕ) → bestOf (bare T) ts ≡ bestOf T ts
-  unfolding bestOf
+  bare-of : (ts : List ℕ) → bestOver (bare T) ts ≡ bestOver T ts
+  unfolding bestOver
   bare-of ts = rw (bare-table ts)
 
   pub bare-best : bestWorth (bare T) ≡ bestWorth T
   unfolding bestWorth
-  bare-best = ap (λ (ts : List ℕ). bestOf (bare T) ts .worth) bare-order ∙ ap (λ (b : Best). b .worth) (bare-of (turnOrder T))
+  bare-best = ap (λ (ts : List ℕ). bestOver (bare T) ts .worth) bare-order ∙ ap (λ (b : Best). b .worth) (bare-of (turnOrder T))
 
   pub bare-choice : bestChoice (bare T) ≡ bestChoice T
   unfolding bestChoice
-  bare-choice = ap (λ (ts : List ℕ). marked (replicate (T .count) false) (bestOf (bare T) ts .turns)) bare-order ∙ ap (λ (b : Best). marked (replicate (T .count) false) (b .turns)) (bare-of (turnOrder T))
+  bare-choice = ap (λ (ts : List ℕ). marked (replicate (T .count) false) (bestOver (bare T) ts .turns)) bare-order ∙ ap (λ (b : Best). marked (replicate (T .count) false) (b .turns)) (bare-of (turnOrder T))
 
   bare-groomer : (g : ℕ) → groomerWorth (bare T) g ≡ groomerWorth T g
   unfolding groomerWorth ownTurns
-  bare-groomer g = ap (λ (ts : List ℕ). bestOf (bare T) (keep (λ t. eqb (T .groomer t) g) ts) .worth) bare-order ∙ ap (λ (b : Best). b .worth) (bare-of (keep (λ t. eqb (T .groomer t) g) (turnOrder T)))
+  bare-groomer g = ap (λ (ts : List ℕ). bestOver (bare T) (keep (λ t. eqb (T .groomer t) g) ts) .worth) bare-order ∙ ap (λ (b : Best). b .worth) (bare-of (keep (λ t. eqb (T .groomer t) g) (turnOrder T)))
 
   pub bare-groomers : (n : ℕ) → groomersWorth (bare T) n ≡ groomersWorth T n
   unfolding groomersWorth

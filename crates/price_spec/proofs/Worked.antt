@@ -9,7 +9,7 @@ use Rattle.sheet.specs.Read.{countCauses, headerCauses, recordsCauses, turnsFro
 use Rattle.lists.specs.Sorting.{insertBy, sortBy}
 use Rattle.model.specs.Turns.{overlapping, overlap, oneGroomer, oneDriver, byDriver}
 use Rattle.instance_spec.specs.Problem.{problemOf, sheetTurns}
-use Rattle.best_spec.specs.Table.{laterFirst, turnOrder, greater, inTheWay, blocked, bestTable, bestOf}
+use Rattle.best_spec.specs.Table.{laterFirst, turnOrder, greater, inTheWay, blocked, bestTable, bestOver}
 use Rattle.best_spec.specs.Groomers.{keep, ownTurns, groomerWorth, groomersWorth}
 use Rattle.price_spec.specs.Prices.{slopePrice, turnPrice, paysTurn, paidBy, countsFor, pricedTurns, priceSum, limitBy}
 use Rattle.price_spec.specs.Limit.{limitCauses, sheetLimit, limitOf}
@@ -17,7 +17,7 @@ use Rattle.price_spec.specs.Cases.{LimitCases}
 use Rattle.refusal.specs.Outcome.{unless}
 
 pub limit-cases : LimitCases
-unfolding firstOf opensWith outsideRange pastShift turnCauses garage widthOf field turnFrom badMapFor endAt turnAt cursorAfter recordCauses firstCursor countCauses headerCauses recordsCauses turnsFrom causesFor sheetCauses turnsOf insertBy sortBy overlapping overlap oneGroomer oneDriver byDriver problemOf sheetTurns laterFirst turnOrder greater inTheWay blocked bestTable bestOf keep ownTurns groomerWorth groomersWorth slopePrice turnPrice paysTurn paidBy countsFor pricedTurns priceSum limitBy limitCauses sheetLimit limitOf unless
+unfolding firstOf opensWith outsideRange pastShift turnCauses garage widthOf field turnFrom badMapFor endAt turnAt cursorAfter recordCauses firstCursor countCauses headerCauses recordsCauses turnsFrom causesFor sheetCauses turnsOf insertBy sortBy overlapping overlap oneGroomer oneDriver byDriver problemOf sheetTurns laterFirst turnOrder greater inTheWay blocked bestTable bestOver keep ownTurns groomerWorth groomersWorth slopePrice turnPrice paysTurn paidBy countsFor pricedTurns priceSum limitBy limitCauses sheetLimit limitOf unless
 limit-cases =
     record {
       free = refl;

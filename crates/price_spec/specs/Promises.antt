@@ -8,7 +8,7 @@ use Rattle.model.specs.Feasible.{Feasible, worthOf}
 use Rattle.sheet.specs.Read.{countsIn}
 use Rattle.instance_spec.specs.Problem.{sheetTurns}
 use Rattle.best_spec.specs.Groomers.{groomerWorth, groomersWorth}
-use Rattle.best_spec.specs.Exact.{exactOf}
+use Rattle.best_spec.specs.Best.{bestOf}
 use Rattle.price_spec.specs.Prices.{pricedTurns, priceSum, MostCounted}
 use Rattle.price_spec.specs.Limit.{limitOf}
 
@@ -31,4 +31,4 @@ pub record LimitPromised (s prices : List ℕ) : Type 0 where
   -- where all prices are 0, it is the sum over the groomers of the best of their turns at their worths
   pub free : AllFree prices → limitOf s prices .limit ≡ groomersWorth (sheetTurns s) (countsIn s .groomers)
   -- and, on a sheet that the best worth's entry does not refuse, that entry's worth
-  pub free-best : AllFree prices → (lent : List ℕ) → exactOf s lent .answer .refusal ≡ 0 → limitOf s prices .limit ≡ exactOf s lent .answer .worth
+  pub free-best : AllFree prices → (lent : List ℕ) → bestOf s lent .answer .refusal ≡ 0 → limitOf s prices .limit ≡ bestOf s lent .answer .worth

@@ -24,7 +24,7 @@ use Rattle.instance.proofs.Rows.{count-is, slope-at, worth-at}
 use Rattle.best_spec.specs.Table.{turnOrder}
 use Rattle.price_spec.specs.Prices.{slopePrice, turnPrice, paysTurn, paidBy, countsFor}
 use Rattle.prices.specs.declared.Extent.{Extent}
-use Rattle.prices.specs.Held.{byDrivers, turnsIn, placePrice, placesSum, paidFrom, paidTo, mostPrice, leftAfter, SumsTo, NumbersTo, PaymentsTo, CountsTo, PaidRun, Ordered, Priced}
+use Rattle.prices.specs.OrdersAndCounts.{byDrivers, turnsIn, placePrice, placesSum, paidFrom, paidTo, mostPrice, leftAfter, SumsTo, NumbersTo, PaymentsTo, CountsTo, PaidRun, Ordered, Priced}
 use Rattle.prices.proofs.SumCases.{drivers-sum}
 
 -- ---- a run's sum

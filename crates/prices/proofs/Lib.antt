@@ -3,4 +3,4 @@ pub mod RunCases
 pub mod SumCases
 pub mod CountCases
 pub mod LookCases
-pub mod UndrivenCases
+pub mod DriverlessCases

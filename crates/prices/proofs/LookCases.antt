@@ -11,11 +11,11 @@ use Rattle.sheet.specs.Kind.{mostTurns, mostSlopes}
 use Rattle.model.specs.Turns.{Turns, oneGroomer}
 use Rattle.instance.specs.Columns.{turnsBy}
 use Rattle.best_spec.specs.Table.{laterFirst, turnOrder, inTheWay, blocked, bestWorth, marked, bestChoice}
-use Rattle.best_table.specs.Held.{placeBefore, wholeWay, InTurnOrder, Befores, Counts, Chained, Filled, Readable, Firsts}
+use Rattle.best_table.specs.OrderAndTable.{placeBefore, wholeWay, InTurnOrder, Befores, Counts, Chained, Filled, Readable, Firsts}
 use Rattle.best_table.proofs.BestCases.{turns-chained, filled-entries, filled-firsts, turns-readable, way-best, first-entry}
 use Rattle.price_spec.specs.Prices.{priceSum}
 use Rattle.prices.specs.declared.Extent.{Extent}
-use Rattle.prices.specs.Held.{countedTurns, turnsIn, mostPrice, CountsTo, Ordered, Priced}
+use Rattle.prices.specs.OrdersAndCounts.{countedTurns, turnsIn, mostPrice, CountsTo, Ordered, Priced}
 
 -- ---- counts change no order
 

@@ -18,11 +18,11 @@ use Rattle.model.proofs.Conflicts
 use Rattle.best_spec.specs.Table.{turnOrder, inTheWay, blocked}
 use Rattle.best_spec.proofs.Ordering.{Leads, by-groomer, by-end, by-number, Before, Ordered, empty, first, ordered-at, order-ordered, order-sum}
 use Rattle.best_spec.proofs.Tables.{leads-groomer, way-stops}
-use Rattle.best_table.specs.Held.{placeBefore}
+use Rattle.best_table.specs.OrderAndTable.{placeBefore}
 use Rattle.best_table.proofs.OrderCases.{order-length, order-within}
 use Rattle.best_table.proofs.BestCases.{before-within}
 use Rattle.price_spec.specs.Prices.{paysTurn}
-use Rattle.prices.specs.Held.{byDrivers, OneRun, RunStart, PaysAs, PlaceRun}
+use Rattle.prices.specs.OrdersAndCounts.{byDrivers, OneRun, RunStart, PaysAs, PlaceRun}
 
 -- ---- an order has each turn at just one place
 

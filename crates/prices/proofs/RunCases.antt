@@ -18,10 +18,10 @@ use Rattle.instance.specs.Ways.{turnRow}
 use Rattle.instance.specs.Columns.{columnPlaces, rowIn, within, turnsBy, Held}
 use Rattle.instance.proofs.Rows.{count-is, lengths-are}
 use Rattle.best_spec.specs.Table.{turnOrder}
-use Rattle.best_table.specs.Held.{placedRow, placeBefore, Numbered, InTurnOrder, Befores}
+use Rattle.best_table.specs.OrderAndTable.{placedRow, placeBefore, KeysFit, InTurnOrder, Befores}
 use Rattle.best_table.proofs.OrderCases.{placed-is, placed-most, order-within}
 use Rattle.prices.specs.declared.Extent.{Extent}
-use Rattle.prices.specs.Held.{byDrivers, turnsIn, withRun, paidFrom, paidTo, orderPlaces, Driven, DriversPut, OneRun, RunStart, RunBefore, PlaceRun, RunsTo, PaidRun, Ordered}
+use Rattle.prices.specs.OrdersAndCounts.{byDrivers, turnsIn, withRun, paidFrom, paidTo, orderPlaces, Driven, DriversPut, OneRun, RunStart, RunBefore, PlaceRun, PlaceRunsTo, PaidRun, Ordered}
 use Rattle.prices.proofs.PaidRuns.{order-place, order-apart, run-first, run-again, run-new, run-none, run-is, pays-as}
 
 -- ---- one place
@@ -83,7 +83,7 @@ pub ruleset place-cases = (place-none, place-run)
 -- ---- all places
 
 module _ (p : Size) (cols : List ℕ) where
-  pub runs-start : (orders : List ℕ) → length orders ≡ orderPlaces → RunsTo (turnsBy p cols) orders orders 0
+  pub runs-start : (orders : List ℕ) → length orders ≡ orderPlaces → PlaceRunsTo (turnsBy p cols) orders orders 0
   runs-start orders e = record { places = e; front = λ k l. refl; turns = λ k l. absurd (omega arith); runs = λ k l. absurd (omega arith) }
 
   pub before-start : RunBefore (turnsBy p cols) 0 0
@@ -94,7 +94,7 @@ module _ (p : Size) (cols : List ℕ) where
   unfolding RunBefore
   before-more i s h = let e : i + 1 - 1 ≡ i = omega arith in rw e s
 
-  module _ (held : Held p cols) (order : List ℕ) (o : InTurnOrder (turnsBy p cols) order) (old orders : List ℕ) (i : ℕ) (h : i < p .count) (w : RunsTo (turnsBy p cols) old orders i) where
+  module _ (held : Held p cols) (order : List ℕ) (o : InTurnOrder (turnsBy p cols) order) (old orders : List ℕ) (i : ℕ) (h : i < p .count) (w : PlaceRunsTo (turnsBy p cols) old orders i) where
     turn-is : getD order i 0 ≡ getD (turnOrder (turnsBy p cols)) i 0
     turn-is = o .turns i (omega (arith, count-is p cols))
 
@@ -127,7 +127,7 @@ module _ (p : Size) (cols : List ℕ) where
       few : T < mostTurns
       few = turn-few i h
 
-      runs-next : RunsTo (turnsBy p cols) old o₃ (i + 1)
+      runs-next : PlaceRunsTo (turnsBy p cols) old o₃ (i + 1)
       runs-next =
           record {
             places = length-set o₂ (4 * mostTurns + T) t ∙ size₂;
@@ -151,7 +151,7 @@ module _ (p : Size) (cols : List ℕ) where
               rw (kept (3 * mostTurns + x) (omega (arith, held .few)) (λ z. a (omega arith)) (omega (arith, few)), kept (4 * mostTurns + x) (omega (arith, held .few)) (omega (arith, few)) (λ z. a (omega arith)))
               (w .runs k (omega arith))
 
-    pub runs-more : {orders′ : List ℕ} {f t : ℕ} → PlaceRun (turnsBy p cols) i f t → orders′ ≡ withRun orders i (getD order i 0) f t → RunsTo (turnsBy p cols) old orders′ (i + 1)
+    pub runs-more : {orders′ : List ℕ} {f t : ℕ} → PlaceRun (turnsBy p cols) i f t → orders′ ≡ withRun orders i (getD order i 0) f t → PlaceRunsTo (turnsBy p cols) old orders′ (i + 1)
     runs-more {orders′} {f} {t} r e = rw (e, turn-is) (runs-next f t r)
 
     pub runs-turn : getD order i 0 < mostTurns
@@ -163,10 +163,10 @@ module _ (p : Size) (cols : List ℕ) where
     pub runs-few : i < mostTurns
     runs-few = omega (arith, held .few)
 
-  pub runs-size : (old orders : List ℕ) (i : ℕ) → RunsTo (turnsBy p cols) old orders i → length orders ≡ orderPlaces
+  pub runs-size : (old orders : List ℕ) (i : ℕ) → PlaceRunsTo (turnsBy p cols) old orders i → length orders ≡ orderPlaces
   runs-size old orders i w = w .places
 
-  pub runs-done : (old orders : List ℕ) (i : ℕ) → p .count ≤ i → i ≤ p .count → RunsTo (turnsBy p cols) old orders i → RunsTo (turnsBy p cols) old orders (p .count)
+  pub runs-done : (old orders : List ℕ) (i : ℕ) → p .count ≤ i → i ≤ p .count → PlaceRunsTo (turnsBy p cols) old orders i → PlaceRunsTo (turnsBy p cols) old orders (p .count)
   runs-done old orders i a b w = let e : i ≡ p .count = omega arith in rw e at w
 
 pub ruleset runs-cases = (runs-start, before-start, runs-turn, runs-place, runs-few, runs-size, runs-done)
@@ -242,11 +242,11 @@ module _ (p : Size) (cols room : List ℕ) (e : turnsBy p room ≡ byDrivers (tu
         worths = λ t k. rw e (h .worths t k);
       }
 
-  pub room-numbered : Driven p cols → Numbered p room
+  pub room-numbered : Driven p cols → KeysFit p room
   unfolding byDrivers
   room-numbered d = record { groomers = λ t k. rw e (d .drivers t k) }
 
-module _ (T : Turns) (few : T .count ≤ mostTurns) (lengths : (t : ℕ) → t < T .count → T .start t < T .end t) (old orders : List ℕ) (o : InTurnOrder T old) (b : Befores T old (T .count)) (w : RunsTo (byDrivers T) old orders (T .count)) where
+module _ (T : Turns) (few : T .count ≤ mostTurns) (lengths : (t : ℕ) → t < T .count → T .start t < T .end t) (old orders : List ℕ) (o : InTurnOrder T old) (b : Befores T old (T .count)) (w : PlaceRunsTo (byDrivers T) old orders (T .count)) where
   drivers-count : byDrivers T .count ≡ T .count
   unfolding byDrivers
   drivers-count = refl
@@ -282,6 +282,6 @@ module _ (T : Turns) (few : T .count ≤ mostTurns) (lengths : (t : ℕ) → t <
       }
 
 pub orders-held : (e : Extent) (cols room old orders : List ℕ) → turnsBy (e .size) room ≡ byDrivers (turnsIn e cols) → Held (e .size) cols → InTurnOrder (turnsIn e cols) old → Befores (turnsIn e cols) old (e .size .count)
-    → RunsTo (turnsBy (e .size) room) old orders (e .size .count) → Ordered (turnsIn e cols) orders
+    → PlaceRunsTo (turnsBy (e .size) room) old orders (e .size .count) → Ordered (turnsIn e cols) orders
 unfolding turnsBy
 orders-held e cols room old orders q h o b w = orders-are (turnsBy (e .size) cols) (h .few) (h .starts) old orders o b (rw q at w)

@@ -21,11 +21,11 @@ use Rattle.instance.specs.Columns.{rowIn, turnsBy}
 use Rattle.instance.proofs.Rows.{row-is, count-is}
 use Rattle.best_spec.specs.Table.{turnOrder}
 use Rattle.best_spec.proofs.Ordering.{order-sum}
-use Rattle.best_table.specs.Held.{entryPlaces}
+use Rattle.best_table.specs.OrderAndTable.{entryPlaces}
 use Rattle.best_table.proofs.OrderCases.{order-length, order-within}
 use Rattle.price_spec.specs.Prices.{slopePrice, turnPrice, priceSum}
 use Rattle.prices.specs.declared.Extent.{Extent}
-use Rattle.prices.specs.Held.{byDrivers, turnsIn, placePrice, placesSum, slopesSum, mostPrice, SumsTo, SummedTo, Ordered, Priced}
+use Rattle.prices.specs.OrdersAndCounts.{byDrivers, turnsIn, placePrice, placesSum, slopesSum, mostPrice, SumsTo, SummedTo, Ordered, Priced}
 
 -- ---- the slopes' prices
 

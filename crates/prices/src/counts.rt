@@ -5,17 +5,17 @@ ghost use lib.ListN.{length, getD};
 ghost use Rattle.sheet.specs.Kind.{mostTurns, mostSlopes};
 ghost use Rattle.instance.specs.Columns.{turnsBy};
 ghost use Rattle.price_spec.specs.Prices.{paidBy, priceSum};
-ghost use Rattle.prices.specs.Held.{turnsIn, paidFrom, paidTo, mostPrice, leftAfter, Priced, Ordered};
-ghost use Rattle.prices.specs.Held.{SumsTo, NumbersTo, PaymentsTo, CountsTo};
+ghost use Rattle.prices.specs.OrdersAndCounts.{turnsIn, paidFrom, paidTo, mostPrice, leftAfter, Priced, Ordered};
+ghost use Rattle.prices.specs.OrdersAndCounts.{SumsTo, NumbersTo, PaymentsTo, CountsTo};
 use super::Extent;
 use super::ORDERS;
+use super::driverless::driver_bound;
+use super::driverless::put_slope_counts;
 use super::runs::FROMS;
 use super::runs::TOS;
 use super::sums::price_at;
 use super::sums::put_sums;
 use super::sums::slope_prices;
-use super::undriven::driver_bound;
-use super::undriven::put_slope_counts;
 use best_table::ENTRIES;
 use instance::MOST_TURNS;
 use instance::PLACES;
@@ -39,7 +39,7 @@ fn at_least(x: u32, least: u32) -> u32
 }
 
 // What is left of a worth, nothing if all of it is paid. Branch-free: a branch per turn would be mispredicted.
-pub fn left_of(worth: u16, paid: u32) -> u16
+pub fn unpaid_of(worth: u16, paid: u32) -> u16
     ensures { λ r. ⌜ r ≡ worth - paid ⌝ }
 {
     (at_least(worth as u32, paid) - paid) as u16
@@ -89,7 +89,7 @@ fn left_after(p: Size, cols: &[u16; PLACES], paid: &[u32; MOST_TURNS], t: usize)
     ensures { λ r. ⌜ r ≡ leftAfter (turnsBy p (now (cols .entry))) (now (paid .entry)) t ⌝ }
 {
     let row = row_at(cols, t);
-    left_of(row.worth, paid[t])
+    unpaid_of(row.worth, paid[t])
 }
 
 // What is left of all turns' worths. It has a loop of its own: in one with the payments the compiler would make

@@ -5,9 +5,9 @@ ghost use Prim.Native.Nat.{_+_};
 ghost use lib.ListN.{length, replicate};
 ghost use Rattle.choice_map.specs.Choice.{choiceIn, Clean};
 ghost use Rattle.best_spec.specs.Table.{bestWorth, bestChoice};
-ghost use Rattle.best_table.specs.Held.{entryPlaces, Firsts};
+ghost use Rattle.best_table.specs.OrderAndTable.{entryPlaces, Firsts};
 ghost use Rattle.price_spec.specs.Prices.{priceSum};
-ghost use Rattle.prices.specs.Held.{countedTurns, turnsIn, Priced, Ordered};
+ghost use Rattle.prices.specs.OrdersAndCounts.{countedTurns, turnsIn, Priced, Ordered};
 use super::Extent;
 use super::ORDERS;
 use super::counts::put_counts;
@@ -39,7 +39,7 @@ fn limit_with(
 }
 
 // The limit at these prices; the best sets of all groomers go into a map that has none chosen.
-pub fn look(
+pub fn look_at(
     e: Extent,
     cols: &[u16; PLACES],
     orders: &[u16; ORDERS],

@@ -5,8 +5,8 @@ ghost use Prim.Native.Nat.{_≤_};
 ghost use lib.ListN.{length};
 ghost use Rattle.sheet.specs.Kind.{mostTurns};
 ghost use Rattle.instance.specs.Columns.{columnPlaces, turnsBy, Held};
-ghost use Rattle.best_table.specs.Held.{Ranged};
-ghost use Rattle.prices.specs.Held.{byDrivers, turnsIn, orderPlaces, Driven, DriversPut, Ordered};
+ghost use Rattle.best_table.specs.OrderAndTable.{Ranged};
+ghost use Rattle.prices.specs.OrdersAndCounts.{byDrivers, turnsIn, orderPlaces, Driven, DriversPut, Ordered};
 use super::Extent;
 use super::ORDERS;
 use super::runs::put_drivers;
@@ -27,7 +27,7 @@ fn copy_columns(cols: &[u16; PLACES], room: &mut [u16; PLACES])
 }
 
 // Writes the driver of each of the first n turns where its groomer stands.
-fn put_groomers(cols: &[u16; PLACES], n: usize, room: &mut [u16; PLACES])
+fn put_drivers_as_groomers(cols: &[u16; PLACES], n: usize, room: &mut [u16; PLACES])
     requires { ⌜ (n ≤ mostTurns) × (now room ≡ now cols) × (length (now cols) ≡ columnPlaces) ⌝ }
     ensures { λ _. ⌜ DriversPut (now (cols .entry)) (now (room .exit)) n ⌝ }
 {
@@ -44,7 +44,7 @@ fn put_by_drivers(p: Size, cols: &[u16; PLACES], room: &mut [u16; PLACES])
     ensures { λ _. ⌜ (turnsBy p (now (room .exit)) ≡ byDrivers (turnsBy p (now (cols .entry)))) × (length (now (room .exit)) ≡ columnPlaces) ⌝ }
 {
     copy_columns(cols, &mut *room);
-    put_groomers(cols, p.count, &mut *room);
+    put_drivers_as_groomers(cols, p.count, &mut *room);
 }
 
 // Puts both orders, with what stands beside them. The room is for the columns by drivers; what it holds

@@ -7,8 +7,8 @@ ghost use lib.Dec.{eqb};
 ghost use lib.ListN.{length};
 ghost use Rattle.sheet.specs.Kind.{mostTurns};
 ghost use Rattle.instance.specs.Columns.{turnsBy, Held};
-ghost use Rattle.best_table.specs.Held.{Numbered, InTurnOrder};
-ghost use Rattle.prices.specs.Held.{orderPlaces, withRun, RunStart, RunBefore, PlaceRun, RunsTo};
+ghost use Rattle.best_table.specs.OrderAndTable.{KeysFit, InTurnOrder};
+ghost use Rattle.prices.specs.OrdersAndCounts.{orderPlaces, withRun, RunStart, RunBefore, PlaceRun, PlaceRunsTo};
 use super::ORDERS;
 use best_table::row_at_place;
 use best_table::skip_blocked;
@@ -85,7 +85,7 @@ fn put_run(orders: &mut [u16; ORDERS], i: usize, t: u16, run: Run)
 // All turns in the drivers' order, with their runs.
 fn put_runs(p: Size, cols: &[u16; PLACES], order: &[u16], orders: &mut [u16; ORDERS])
     requires { ⌜ Held p (now cols) × InTurnOrder (turnsBy p (now cols)) (now order) × (length (now orders) ≡ orderPlaces) ⌝ }
-    ensures { λ _. ⌜ RunsTo (turnsBy p (now (cols .entry))) (now (orders .entry)) (now (orders .exit)) (p .count) ⌝ }
+    ensures { λ _. ⌜ PlaceRunsTo (turnsBy p (now (cols .entry))) (now (orders .entry)) (now (orders .exit)) (p .count) ⌝ }
 {
     let mut from = 0;
     let mut i = 0;
@@ -99,8 +99,8 @@ fn put_runs(p: Size, cols: &[u16; PLACES], order: &[u16], orders: &mut [u16; ORD
 
 // Puts the turns in the drivers' order, in a place for it, and then with their runs into the orders.
 fn put_drivers_with(p: Size, cols: &[u16; PLACES], order: &mut [u16], orders: &mut [u16; ORDERS])
-    requires { ⌜ Held p (now cols) × Numbered p (now cols) × (p .count ≤ length (now order)) × (length (now orders) ≡ orderPlaces) ⌝ }
-    ensures { λ _. ⌜ RunsTo (turnsBy p (now (cols .entry))) (now (orders .entry)) (now (orders .exit)) (p .count) ⌝ }
+    requires { ⌜ Held p (now cols) × KeysFit p (now cols) × (p .count ≤ length (now order)) × (length (now orders) ≡ orderPlaces) ⌝ }
+    ensures { λ _. ⌜ PlaceRunsTo (turnsBy p (now (cols .entry))) (now (orders .entry)) (now (orders .exit)) (p .count) ⌝ }
 {
     let n = p.count;
     best_table::put_any_order(p, cols, &mut order[0..n]);
@@ -109,8 +109,8 @@ fn put_drivers_with(p: Size, cols: &[u16; PLACES], order: &mut [u16], orders: &m
 
 // Puts the turns in the drivers' order and their runs into the orders.
 pub fn put_drivers(p: Size, cols: &[u16; PLACES], orders: &mut [u16; ORDERS])
-    requires { ⌜ Held p (now cols) × Numbered p (now cols) × (length (now orders) ≡ orderPlaces) ⌝ }
-    ensures { λ _. ⌜ RunsTo (turnsBy p (now (cols .entry))) (now (orders .entry)) (now (orders .exit)) (p .count) ⌝ }
+    requires { ⌜ Held p (now cols) × KeysFit p (now cols) × (length (now orders) ≡ orderPlaces) ⌝ }
+    ensures { λ _. ⌜ PlaceRunsTo (turnsBy p (now (cols .entry))) (now (orders .entry)) (now (orders .exit)) (p .count) ⌝ }
 {
     let mut order = [0u16; MOST_TURNS];
     put_drivers_with(p, cols, &mut order, &mut *orders);

@@ -35,14 +35,14 @@ use Rattle.instance.proofs.Rows.{count-is}
 use Rattle.selection.proofs.Unchosen.{zeros-size}
 use Rattle.plan_spec.specs.Plan.{boardFor}
 use Rattle.plan_spec.proofs.Boards.{choice-count}
-use Rattle.best_table.specs.Held.{Ranged}
+use Rattle.best_table.specs.OrderAndTable.{Ranged}
 use Rattle.price_spec.specs.Prices.{priceSum, limitBy}
 use Rattle.price_spec.specs.Limit.{priceCount}
 use Rattle.price_spec.proofs.Limits.{priced-sum, priced-best}
 use Rattle.prices.specs.declared.Extent.{Extent}
-use Rattle.prices.specs.Held.{countedTurns, turnsIn}
+use Rattle.prices.specs.OrdersAndCounts.{countedTurns, turnsIn}
 use Rattle.refine_spec.specs.declared.RefineAnswer.{RefineAnswer}
-use Rattle.refine_spec.specs.Rounds.{Rule, Stage, startFrom, refined, firstChange}
+use Rattle.refine_spec.specs.Rounds.{RoundRule, Stage, startFrom, refined, firstChange}
 use Rattle.refine_spec.specs.Selection.{choiceFrom}
 use Rattle.refine_spec.specs.Shift.{relaxedSet, movedPrices, shiftRule, greatestWorth, shiftStart, shiftRefined}
 use Rattle.refine_spec.specs.Refine.{refineCauses, boardWith, refinementOf, notRefined, refineOf}
@@ -53,7 +53,7 @@ use Rattle.price_rule.specs.declared.RuleFor.the-variants.{Shift}
 use Rattle.price_rule.specs.Rules.{sizeOf, pricesOf, changeOf, ruleLimit, relaxedOf, fitsOf, movedOf, choiceOf, ruleWorth, roundRule, ShiftPosed, RulePosed}
 use Rattle.price_rounds.specs.declared.Reached.{Reached}
 use Rattle.price_rounds.specs.Rounds.{roundsFrom, Reaches, RoundsStart}
-use Rattle.refine.specs.Stages.{shiftRounds, choiceWorth, PlannedIn}
+use Rattle.refine.specs.PlannedBoard.{shiftRounds, choiceWorth, PlannedIn}
 use Rattle.refine_spec.specs.Answer.{refinedBy, refineRefused}
 use Rattle.refine.proofs.BoardCases.{changed-size, board-changed}
 use Rattle.instance.proofs.Posed.{loaded-held, loaded-turns}
@@ -86,7 +86,7 @@ module _ (e : Extent) (cols : List ℕ) (groomers : ℕ) (numbers : (t : ℕ) �
   unfolding roundsFrom changeOf pricesOf shiftRefined shiftStart
   refined-is rounds =
       ap (λ (n : ℕ). refined (roundRule (Shift e) cols) rounds (startFrom (roundRule (Shift e) cols) (firstChange 4 (greatestWorth U)) (replicate (e .slopes + n) 0) (choice U))) (sym (count-is (e .size) cols))
-      ∙ ap (λ (R : Rule). refined R rounds (startFrom R (firstChange 4 (greatestWorth U)) (replicate (e .slopes + U .count) 0) (choice U))) rule-is
+      ∙ ap (λ (R : RoundRule). refined R rounds (startFrom R (firstChange 4 (greatestWorth U)) (replicate (e .slopes + U .count) 0) (choice U))) rule-is
 
 -- ---- a board and a price list in lent places
 

@@ -26,7 +26,7 @@ use Rattle.plan_spec.proofs.Boards.{choice-count, board-most, ReadsBack, board-
 use Rattle.refusal.specs.Written.{atFront}
 use Rattle.refine_spec.specs.Refine.{boardWith}
 use Rattle.refine_spec.proofs.Boards.{with-size, with-most}
-use Rattle.refine.specs.Stages.{choiceWorth}
+use Rattle.refine.specs.PlannedBoard.{choiceWorth}
 use Rattle.round_parts.proofs.RankCases.{all-copied}
 
 -- ---- what the planned board has

@@ -5,11 +5,11 @@ ghost use lib.ListN.{length};
 ghost use Rattle.model.specs.Choice.{choice};
 ghost use Rattle.board.specs.Board.{boardLength};
 ghost use Rattle.instance.specs.Columns.{columnPlaces};
-ghost use Rattle.prices.specs.Held.{turnsIn};
+ghost use Rattle.prices.specs.OrdersAndCounts.{turnsIn};
 ghost use Rattle.refine_spec.specs.Refine.{refinementOf, refineOf};
 ghost use Rattle.refine_spec.specs.Answer.{refinedBy, refineRefused};
 ghost use Rattle.price_rule.specs.Rules.{ShiftPosed};
-ghost use Rattle.refine.specs.Stages.{shiftRounds};
+ghost use Rattle.refine.specs.PlannedBoard.{shiftRounds};
 
 mod planned;
 

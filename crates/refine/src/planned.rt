@@ -9,12 +9,9 @@ ghost use Rattle.choice_map.specs.Choice.{mapBytes, choiceIn, Clean};
 ghost use Rattle.board.specs.Board.{worthPlace, boardHeader, boardLength};
 ghost use Rattle.instance.specs.Columns.{columnPlaces, turnsBy, Held};
 ghost use Rattle.plan_spec.specs.Plan.{boardFor};
-ghost use Rattle.refine.specs.Stages.{choiceWorth, PlannedIn};
+ghost use Rattle.refine.specs.PlannedBoard.{choiceWorth, PlannedIn};
 use instance::PLACES;
 use instance::Size;
-
-// The worth stands before the map, in the last four bytes of the header.
-const WORTH_PLACE: usize = board::HEADER_BYTES - 4;
 
 // The bytes of a planned board, and its worth.
 pub struct Planned {
@@ -60,6 +57,6 @@ pub fn write_choice(out: &mut [u8], worth: u32, map: &[u8])
     requires { ⌜ boardHeader + length (now map) ≤ length (now out) ⌝ }
     ensures { λ _. ⌜ now (out .exit) ≡ puts (now (out .entry)) worthPlace (bytesOf 4 worth ++ now (map .entry)) ⌝ }
 {
-    wire::put_quad(&mut *out, WORTH_PLACE, worth);
+    wire::put_quad(&mut *out, board::WORTH_PLACE, worth);
     wire::put_bytes(&mut *out, board::HEADER_BYTES, map);
 }

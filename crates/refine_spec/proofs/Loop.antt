@@ -8,12 +8,12 @@ use native.Mathlib.Omega.{arith}
 use lib.Dec.{eqb}
 use borrow.Author.Tests.{lt-ltb, le-ltb, eqb-true, eqb-false}
 use Rattle.lists.proofs.Bools.{or-cases, or-false-1, or-false-2}
-use Rattle.refine_spec.specs.Rounds.{Rule, Stage, startFrom, lowerLimit, betterChoice, looked, moving, refined}
+use Rattle.refine_spec.specs.Rounds.{RoundRule, Stage, startFrom, lowerLimit, betterChoice, looked, moving, refined}
 use Rattle.refine_spec.proofs.Rounds.{Met, refined-stops, refined-goes}
 
 -- ---- a look, and what comes after it
 
-module _ (R : Rule) (whole : Stage) (rounds : ℕ) (x y : Stage) (leads : refined R (rounds - x .rounds) x ≡ whole) (look-is : looked R x ≡ y) {over : Bool}
+module _ (R : RoundRule) (whole : Stage) (rounds : ℕ) (x y : Stage) (leads : refined R (rounds - x .rounds) x ≡ whole) (look-is : looked R x ≡ y) {over : Bool}
     (o : over ≡ (eqb (y .limit) (y .worth) || eqb (x .rounds) rounds)) where
   stopping : over ≡ true → (rounds ≤ x .rounds) ⊎ Met (looked R x)
   stopping f = go (or-cases (eqb (y .limit) (y .worth)) (eqb (x .rounds) rounds) (sym o ∙ f))
@@ -39,7 +39,7 @@ module _ (R : Rule) (whole : Stage) (rounds : ℕ) (x y : Stage) (leads : refine
 
 -- ---- the first look: where it keeps its own limit, it does not matter which stood before
 
-module _ (R : Rule) where
+module _ (R : RoundRule) where
   same-look : (n : ℕ) (x y : Stage) → looked R x ≡ looked R y → refined R n x ≡ refined R n y
   unfolding refined
   same-look zero x y e = e

@@ -13,7 +13,7 @@ use Rattle.lists.proofs.Bools.{not-both, fails}
 use Rattle.lists.proofs.Sums.{all-map, tab-length, tab-at}
 use Rattle.model.specs.Turns.{Turns}
 use Rattle.model.specs.Choice.{has}
-use Rattle.best_spec.specs.Table.{Best, bestOf, bestChoice, isAmong}
+use Rattle.best_spec.specs.Table.{Best, bestOver, bestChoice, isAmong}
 use Rattle.best_spec.specs.Groomers.{keep, ownTurns}
 use Rattle.best_spec.proofs.Members.{among-all}
 use Rattle.best_spec.proofs.Ordering.{Ordered, empty, first, order-ordered}
@@ -117,26 +117,26 @@ module _ (T : Turns) where
           }
 
   -- the table over all three is the three tables
-  three-tables : {g : ℕ} {ts : List ℕ} (p : Parts g ts) → bestOf T ts ≡ together (bestOf T (p .lower)) (together (bestOf T (p .own)) (bestOf T (p .upper)))
+  three-tables : {g : ℕ} {ts : List ℕ} (p : Parts g ts) → bestOver T ts ≡ together (bestOver T (p .lower)) (together (bestOver T (p .own)) (bestOver T (p .upper)))
   three-tables {g} p =
-      ap (bestOf T) (p .split)
+      ap (bestOver T) (p .split)
       ∙ groomers-add T (p .own ++ p .upper) (p .lower)
       (all-map (λ x l. all-both (all-map (λ y e d. omega arith) (p .are-own)) (all-map (λ y k d. omega arith) (p .are-upper))) (p .are-lower))
-      ∙ ap (together (bestOf T (p .lower))) (groomers-add T (p .upper) (p .own) (all-map (λ x e. all-map (λ y k d. omega arith) (p .are-upper)) (p .are-own)))
+      ∙ ap (together (bestOver T (p .lower))) (groomers-add T (p .upper) (p .own) (all-map (λ x e. all-map (λ y k d. omega arith) (p .are-upper)) (p .are-own)))
 
   -- a turn is in the set of all turns just if it is in its groomer's own
-  pub own-among : (t : ℕ) → isAmong (bestTurns T) t ≡ isAmong (bestOf T (ownTurns T (T .groomer t)) .turns) t
+  pub own-among : (t : ℕ) → isAmong (bestTurns T) t ≡ isAmong (bestOver T (ownTurns T (T .groomer t)) .turns) t
   unfolding ownTurns
   own-among t =
       let p = parts (T .groomer t) (order-ordered T) in
-      let L = bestOf T (p .lower) .turns in
-      let O = bestOf T (p .own) .turns in
-      let U = bestOf T (p .upper) .turns in
+      let L = bestOver T (p .lower) .turns in
+      let O = bestOver T (p .own) .turns in
+      let U = bestOver T (p .upper) .turns in
       let not-lower : isAmong L t ≡ false = fails (isAmong L t) (λ e. omega (arith, among-all t (best-every T (p .lower) (p .are-lower)) e)) in
       let not-upper : isAmong U t ≡ false = fails (isAmong U t) (λ e. omega (arith, among-all t (best-every T (p .upper) (p .are-upper)) e)) in
       ap (λ (b : Best). isAmong (b .turns) t) (three-tables p)
       ∙ among-both L (O ++ U) t ∙ ap₂ _||_ not-lower (among-both O U t) ∙ ap (λ (b : Bool). isAmong O t || b) not-upper
-      ∙ last (isAmong O t) ∙ ap (λ (ts : List ℕ). isAmong (bestOf T ts .turns) t) (sym (p .kept))
+      ∙ last (isAmong O t) ∙ ap (λ (ts : List ℕ). isAmong (bestOver T ts .turns) t) (sym (p .kept))
     where
       last : (b : Bool) → (b || false) ≡ b
       last true = refl

@@ -8,13 +8,13 @@ use native.Mathlib.Omega.{arith}
 use native.Mathlib.Decide.{decLt}
 use lib.Dec.{ltb, eqb}
 use borrow.Author.Tests.{lt-ltb, le-ltb, eqb-true, eqb-false, eq-eqb, ne-eqb}
-use Rattle.refine_spec.specs.Rounds.{Rule, Stage, lowerLimit, betterChoice, looked, moving, refined}
+use Rattle.refine_spec.specs.Rounds.{RoundRule, Stage, lowerLimit, betterChoice, looked, moving, refined}
 
 -- the lowest limit is the best worth
 abbrev pub Met : Stage → Type 0
 Met x = x .limit ≡ x .worth
 
-module _ (R : Rule) where
+module _ (R : RoundRule) where
   -- ---- a look
 
   -- it moves nothing

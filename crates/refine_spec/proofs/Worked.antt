@@ -16,7 +16,7 @@ use Rattle.model.specs.Choice.{chosen, fits, choose, chooseEach, back, fill, go
 use Rattle.choice_map.specs.Choice.{byteOf, mapOf}
 use Rattle.board.specs.Board.{stepBytes, boardOf}
 use Rattle.instance_spec.specs.Problem.{problemOf, sheetTurns}
-use Rattle.best_spec.specs.Table.{laterFirst, turnOrder, greater, inTheWay, blocked, bestTable, bestOf, isAmong}
+use Rattle.best_spec.specs.Table.{laterFirst, turnOrder, greater, inTheWay, blocked, bestTable, bestOver, isAmong}
 use Rattle.best_spec.specs.Groomers.{keep, ownTurns, groomerWorth, groomersWorth}
 use Rattle.price_spec.specs.Prices.{slopePrice, turnPrice, paysTurn, paidBy, countsFor, pricedTurns, priceSum, limitBy}
 use Rattle.refine_spec.specs.Rounds.{startFrom, lowerLimit, betterChoice, looked, nextChange, moving, refined, greatestOf, firstChange}
@@ -26,7 +26,7 @@ use Rattle.refine_spec.specs.Refine.{refineCauses, boardWith, refinement
 use Rattle.refine_spec.specs.Cases.{RefineCases}
 
 pub refine-cases : RefineCases
-unfolding firstOf opensWith outsideRange pastShift turnCauses garage widthOf field turnFrom badMapFor endAt turnAt cursorAfter recordCauses firstCursor countCauses headerCauses recordsCauses turnsFrom causesFor sheetCauses turnsOf every tab insertBy sortBy overlapping overlap bySlope oneGroomer byGroomer oneDriver byDriver conflict isOpen left initial touches lessened change afterStepBy conflictTakes afterStep tally sooner better best pick nextStep planBy plan steps chosen fits choose chooseEach back fill goBack choice byteOf mapOf stepBytes boardOf problemOf sheetTurns laterFirst turnOrder greater inTheWay blocked bestTable bestOf isAmong keep ownTurns groomerWorth groomersWorth slopePrice turnPrice paysTurn paidBy countsFor pricedTurns priceSum limitBy startFrom lowerLimit betterChoice looked nextChange moving refined greatestOf firstChange poorerFirst byWorth choiceFrom isRelaxed relaxedSet slopePayers turnPayers movedPrice turnChange movedPrices shiftRule greatestWorth shiftStart shiftRefined refineCauses boardWith refinementOf refineOf unless
+unfolding firstOf opensWith outsideRange pastShift turnCauses garage widthOf field turnFrom badMapFor endAt turnAt cursorAfter recordCauses firstCursor countCauses headerCauses recordsCauses turnsFrom causesFor sheetCauses turnsOf every tab insertBy sortBy overlapping overlap bySlope oneGroomer byGroomer oneDriver byDriver conflict isOpen left initial touches lessened change afterStepBy conflictTakes afterStep tally sooner better best pick nextStep planBy plan steps chosen fits choose chooseEach back fill goBack choice byteOf mapOf stepBytes boardOf problemOf sheetTurns laterFirst turnOrder greater inTheWay blocked bestTable bestOver isAmong keep ownTurns groomerWorth groomersWorth slopePrice turnPrice paysTurn paidBy countsFor pricedTurns priceSum limitBy startFrom lowerLimit betterChoice looked nextChange moving refined greatestOf firstChange poorerFirst byWorth choiceFrom isRelaxed relaxedSet slopePayers turnPayers movedPrice turnChange movedPrices shiftRule greatestWorth shiftStart shiftRefined refineCauses boardWith refinementOf refineOf unless
 refine-cases =
     record {
       shift-none = refl;

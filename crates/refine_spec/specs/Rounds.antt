@@ -5,7 +5,7 @@ use Prim.Native.Nat.{ℕ, zero, suc, _+_, _-_, _*_, _/_, max}
 use lib.Dec.{ltb, eqb}
 
 -- a rule, for a shift or for a hall: the limit at some prices, the choice made from their relaxed set, what a choice is worth, and the prices after a round with some change
-pub record Rule : Type 0 where
+pub record RoundRule : Type 0 where
   pub limit : List ℕ → ℕ
   pub choice : List ℕ → List Bool
   pub worth : List Bool → ℕ
@@ -22,11 +22,11 @@ pub record Stage : Type 0 where
   pub worth : ℕ
 
 -- before the first look: its own limit stands already, so that the look finds none lower
-unfoldable pub startFrom : Rule → ℕ → List ℕ → List Bool → Stage
+unfoldable pub startFrom : RoundRule → ℕ → List ℕ → List Bool → Stage
 startFrom R change prices S = record { prices = prices; change = change; rounds = 0; limit = R .limit prices; list = prices; choice = S; worth = R .worth S }
 
 -- the lower limit with its list, of equal ones the earlier
-unfoldable pub lowerLimit : Rule → Stage → Stage
+unfoldable pub lowerLimit : RoundRule → Stage → Stage
 lowerLimit R x =
     let lower = ltb (R .limit (x .prices)) (x .limit) in
     record {
@@ -40,7 +40,7 @@ lowerLimit R x =
     }
 
 -- the choice made at these prices, where its worth is greater than the best so far
-unfoldable pub betterChoice : Rule → Stage → Stage
+unfoldable pub betterChoice : RoundRule → Stage → Stage
 betterChoice R x =
     let S = R .choice (x .prices) in
     let better = ltb (x .worth) (R .worth S) in
@@ -55,7 +55,7 @@ betterChoice R x =
     }
 
 -- a look at the prices
-unfoldable pub looked : Rule → Stage → Stage
+unfoldable pub looked : RoundRule → Stage → Stage
 looked R x = betterChoice R (lowerLimit R x)
 
 -- the change of the next round: fifteen sixteenths of it, rounded down, and never below 1
@@ -63,7 +63,7 @@ unfoldable pub nextChange : ℕ → ℕ
 nextChange change = max 1 (15 * change / 16)
 
 -- a round: the prices of the last look move, and the change falls
-unfoldable pub moving : Rule → Stage → Stage
+unfoldable pub moving : RoundRule → Stage → Stage
 moving R x =
     record {
       prices = R .moved (x .change) (x .prices);
@@ -76,7 +76,7 @@ moving R x =
     }
 
 -- at most so many rounds: after each look it ends if the lowest limit is the best worth, or no round is left
-unfoldable pub refined : Rule → ℕ → Stage → Stage
+unfoldable pub refined : RoundRule → ℕ → Stage → Stage
 refined R zero x = looked R x
 refined R (suc n) x = let y = looked R x in cond (eqb (y .limit) (y .worth)) y (refined R n (moving R y))
 

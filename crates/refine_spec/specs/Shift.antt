@@ -7,15 +7,15 @@ use lib.ListN.{replicate}
 use Rattle.lists.specs.Lists.{tab, below}
 use Rattle.model.specs.Turns.{Turns}
 use Rattle.model.specs.Choice.{chosen, fits, choice}
-use Rattle.best_spec.specs.Table.{bestOf, isAmong}
+use Rattle.best_spec.specs.Table.{bestOver, isAmong}
 use Rattle.best_spec.specs.Groomers.{ownTurns}
 use Rattle.price_spec.specs.Prices.{slopePrice, turnPrice, paysTurn, pricedTurns, limitBy}
-use Rattle.refine_spec.specs.Rounds.{Rule, Stage, startFrom, refined, greatestOf, firstChange}
+use Rattle.refine_spec.specs.Rounds.{RoundRule, Stage, startFrom, refined, greatestOf, firstChange}
 use Rattle.refine_spec.specs.Selection.{choiceFrom}
 
 -- turn t is in the best set of its groomer's own turns at these counts
 unfoldable pub isRelaxed : Turns → ℕ → Bool
-isRelaxed P t = isAmong (bestOf P (ownTurns P (P .groomer t)) .turns) t
+isRelaxed P t = isAmong (bestOver P (ownTurns P (P .groomer t)) .turns) t
 
 -- the relaxed set: the groomers' best sets at these prices together
 unfoldable pub relaxedSet : Turns → ℕ → List ℕ → List Bool
@@ -48,7 +48,7 @@ movedPrices T slopes S change prices =
     ++ tab (T .count) (λ u. movedPrice (turnChange change) (turnPayers T S u) (turnPrice slopes prices u))
 
 -- the rule
-unfoldable pub shiftRule : Turns → ℕ → ℕ → Rule
+unfoldable pub shiftRule : Turns → ℕ → ℕ → RoundRule
 shiftRule T groomers slopes =
     record {
       limit = limitBy T groomers slopes;

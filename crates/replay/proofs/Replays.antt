@@ -21,7 +21,7 @@ use Rattle.instance.specs.Columns.{turnsBy}
 use Rattle.instance.proofs.Rows.{count-is}
 use Rattle.model_relabel.specs.Relabelling.{relabel, relabelAll}
 use Rattle.model_relabel.proofs.Relabelling.{first-alike, none-open-same, all-right-same, after-all-same, costs-same}
-use Rattle.instance_by_end.specs.Placing.{placeAt, PutByEnd, PlacesOf}
+use Rattle.instance_by_end.specs.Placing.{placeAt, PutByEnd, PlacesOfAll}
 use Rattle.instance_by_end.proofs.Placed.{put-relabelled, list-places}
 use Rattle.local_ratio.specs.Bounds.{Residuals, ClosedTo}
 use Rattle.local_ratio.specs.Below.{closedBelow}
@@ -180,7 +180,7 @@ pub ruleset fault-cases = (fault-step, fault-open, fault-no-step)
 -- ---- by number
 
 -- what steps by place come to is what they come to by number
-module _ {p : Size} {cols order own places : List ℕ} (h : PutByEnd p cols order own) (o : PlacesOf order places) (bytes : List ℕ) (m : ℕ) where
+module _ {p : Size} {cols order own places : List ℕ} (h : PutByEnd p cols order own) (o : PlacesOfAll order places) (bytes : List ℕ) (m : ℕ) where
   abbrev T : Turns
   T = turnsBy p cols
 

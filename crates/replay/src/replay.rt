@@ -72,24 +72,24 @@ fn move_at(places: &[u16], steps: &[u8], i: usize) -> Move
 // A step on the turn at place j, if it is right where it stands; else nothing is changed, and it counts for
 // nothing.
 fn replay_one(
-    rest: &mut [i32],
+    residuals: &mut [i32],
     p: Size,
     cols: &[u16; PLACES],
     j: usize,
     amount: u16,
     closed: usize,
 ) -> StepReplayed
-    requires { ⌜ Residuals (p .count) (now rest) × Held p (now cols) × ClosedTo closed (now rest) × EndsRise (turnsBy p (now cols)) ⌝ }
-    ensures { λ r. ⌜ (r .right ≡ right (turnsBy p (now (cols .entry))) (now (rest .entry)) (record { turn = j; amount = amount }))
-        × (now (rest .exit) ≡ cond (r .right) (afterStep (turnsBy p (now (cols .entry))) (now (rest .entry)) (record { turn = j; amount = amount }))
-        (now (rest .entry)))
-        × Residuals (p .count) (now (rest .exit)) × ClosedTo (r .closed) (now (rest .exit))
-        × (r .cost ≡ cond (r .right) (stepCost (turnsBy p (now (cols .entry))) (now (rest .entry)) (record { turn = j; amount = amount })) 0)
+    requires { ⌜ Residuals (p .count) (now residuals) × Held p (now cols) × ClosedTo closed (now residuals) × EndsRise (turnsBy p (now cols)) ⌝ }
+    ensures { λ r. ⌜ (r .right ≡ right (turnsBy p (now (cols .entry))) (now (residuals .entry)) (record { turn = j; amount = amount }))
+        × (now (residuals .exit) ≡ cond (r .right) (afterStep (turnsBy p (now (cols .entry))) (now (residuals .entry)) (record { turn = j; amount = amount }))
+        (now (residuals .entry)))
+        × Residuals (p .count) (now (residuals .exit)) × ClosedTo (r .closed) (now (residuals .exit))
+        × (r .cost ≡ cond (r .right) (stepCost (turnsBy p (now (cols .entry))) (now (residuals .entry)) (record { turn = j; amount = amount })) 0)
         × (r .cost ≤ 3 * mostWorth) ⌝ }
 {
-    let from = local_ratio::first_open(&*rest, closed);
-    if super::orders::is_right(&*rest, p, cols, j, amount, from) {
-        let cost = local_ratio::apply_step(&mut *rest, p, cols, j, amount, from);
+    let from = local_ratio::first_open(&*residuals, closed);
+    if super::orders::is_right(&*residuals, p, cols, j, amount, from) {
+        let cost = local_ratio::apply_step(&mut *residuals, p, cols, j, amount, from);
         return StepReplayed {
             right: true,
             cost: cost,
@@ -106,27 +106,28 @@ fn replay_one(
 // Whether each of m steps in order is right where it stands; if so, what they count for, and the residuals
 // are those after the last. The turns stand in order of end; the places say where.
 fn replay(
-    rest: &mut [i32],
+    residuals: &mut [i32],
     p: Size,
     cols: &[u16; PLACES],
     places: &[u16],
     steps: &[u8],
     m: usize,
 ) -> Replayed
-    requires { ⌜ Residuals (p .count) (now rest) × Held p (now cols) × EndsRise (turnsBy p (now cols))
+    requires { ⌜ Residuals (p .count) (now residuals) × Held p (now cols) × EndsRise (turnsBy p (now cols))
         × (stepSize * m ≤ length (now steps)) × (m ≤ p .count) ⌝ }
-    ensures { λ r. ⌜ (r .right ≡ allRight (turnsBy p (now (cols .entry))) (now (rest .entry)) (movesIn (now (places .entry)) m (now (steps .entry))))
-        × (r .right ≡ true → now (rest .exit)
-        ≡ afterSteps (turnsBy p (now (cols .entry))) (now (rest .entry)) (movesIn (now (places .entry)) m (now (steps .entry))))
-        × (r .right ≡ true → r .cost ≡ costsFrom (turnsBy p (now (cols .entry))) (now (rest .entry)) (movesIn (now (places .entry)) m (now (steps .entry))))
-        × (length (now (rest .exit)) ≡ p .count) ⌝ }
+    ensures { λ r. ⌜ (r .right ≡ allRight (turnsBy p (now (cols .entry))) (now (residuals .entry)) (movesIn (now (places .entry)) m (now (steps .entry))))
+        × (r .right ≡ true → now (residuals .exit)
+        ≡ afterSteps (turnsBy p (now (cols .entry))) (now (residuals .entry)) (movesIn (now (places .entry)) m (now (steps .entry))))
+        × (r .right ≡ true → r .cost
+        ≡ costsFrom (turnsBy p (now (cols .entry))) (now (residuals .entry)) (movesIn (now (places .entry)) m (now (steps .entry))))
+        × (length (now (residuals .exit)) ≡ p .count) ⌝ }
 {
     let mut sum: u32 = 0;
     let mut closed = 0;
     let mut i = 0;
     while i < m {
         let next = move_at(places, steps, i);
-        let one = replay_one(&mut *rest, p, cols, next.place, next.amount, closed);
+        let one = replay_one(&mut *residuals, p, cols, next.place, next.amount, closed);
         if one.right {
             sum += one.cost;
             closed = one.closed;
@@ -146,21 +147,22 @@ fn replay(
 
 // The first cause to refuse m steps, and their ceiling, by place.
 fn judge_moves(
-    rest: &mut [i32],
+    residuals: &mut [i32],
     p: Size,
     cols: &[u16; PLACES],
     places: &[u16],
     steps: &[u8],
     m: usize,
 ) -> Judgement
-    requires { ⌜ (length (now rest) ≡ p .count) × Held p (now cols) × EndsRise (turnsBy p (now cols)) × (stepSize * m ≤ length (now steps)) × (m ≤ p .count) ⌝ }
+    requires { ⌜ (length (now residuals) ≡ p .count) × Held p (now cols) × EndsRise (turnsBy p (now cols)) × (stepSize * m ≤ length (now steps))
+        × (m ≤ p .count) ⌝ }
     ensures { λ r. ⌜ r ≡ judged (firstOf (stepCauses (turnsBy p (now (cols .entry))) (movesIn (now (places .entry)) m (now (steps .entry)))))
         (ceiling (turnsBy p (now (cols .entry))) (movesIn (now (places .entry)) m (now (steps .entry)))) ⌝ }
 {
-    local_ratio::set_initial(&mut *rest, p, cols);
-    let run = replay(&mut *rest, p, cols, places, steps, m);
+    local_ratio::set_initial(&mut *residuals, p, cols);
+    let run = replay(&mut *residuals, p, cols, places, steps, m);
     if run.right {
-        if local_ratio::none_open(&*rest) {
+        if local_ratio::none_open(&*residuals) {
             Judgement {
                 fault: 0,
                 ceiling: run.cost,
@@ -176,14 +178,14 @@ fn judge_moves(
 // The first cause to refuse m steps, and their ceiling. The residuals and the room, in which the turns are
 // put in order of end, are for this function to use.
 pub fn steps_fault(
-    rest: &mut [i32],
+    residuals: &mut [i32],
     p: Size,
     cols: &[u16; PLACES],
     steps: &[u8],
     m: usize,
     room: &mut [u16; PLACES],
 ) -> Judgement
-    requires { ⌜ (length (now rest) ≡ p .count) × Held p (now cols) × (stepSize * m ≤ length (now steps))
+    requires { ⌜ (length (now residuals) ≡ p .count) × Held p (now cols) × (stepSize * m ≤ length (now steps))
         × (m ≤ p .count) × (length (now room) ≡ columnPlaces) ⌝ }
     ensures { λ r. ⌜ r ≡ judged (firstOf (stepCauses (turnsBy p (now (cols .entry))) (stepsIn m (now (steps .entry)))))
         (ceiling (turnsBy p (now (cols .entry))) (stepsIn m (now (steps .entry)))) ⌝ }
@@ -195,5 +197,5 @@ pub fn steps_fault(
     let mut spots = [0u16; MOST_TURNS];
     let places = &mut spots[0..n];
     instance_by_end::put_places(&*order, &mut *places);
-    judge_moves(&mut *rest, p, &*room, &*places, steps, m)
+    judge_moves(&mut *residuals, p, &*room, &*places, steps, m)
 }

@@ -7,15 +7,15 @@ use super::ranking::copy_numbers;
 
 // The limit of some prices takes the place of the lowest so far only if it is lower, and these prices that of
 // its list; returns the limit that stays.
-pub fn keep_lower(seen: u32, limit: u32, prices: &[u16], list: &mut [u16]) -> u32
-    requires { ⌜ length (now prices) ≡ length (now list) ⌝ }
+pub fn keep_lower(seen: u32, limit: u32, prices: &[u16], lowest: &mut [u16]) -> u32
+    requires { ⌜ length (now prices) ≡ length (now lowest) ⌝ }
     ensures { λ r. ⌜ r ≡ cond (ltb seen limit) seen limit ⌝ }
-    ensures { λ _. ⌜ now (list .exit) ≡ cond (ltb seen limit) (now (prices .entry)) (now (list .entry)) ⌝ }
+    ensures { λ _. ⌜ now (lowest .exit) ≡ cond (ltb seen limit) (now (prices .entry)) (now (lowest .entry)) ⌝ }
 {
     if limit <= seen {
         return limit;
     }
-    copy_numbers(prices, &mut *list);
+    copy_numbers(prices, &mut *lowest);
     seen
 }
 

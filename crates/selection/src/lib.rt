@@ -7,7 +7,6 @@ mod rules;
 
 pub use asking::ASKED;
 pub use asking::put_asked;
-pub use choosing::choose_each;
 pub use choosing::choose_turns;
 pub use rules::chosen_worth;
 pub use rules::is_independent;

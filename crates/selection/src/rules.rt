@@ -8,7 +8,7 @@ ghost use Rattle.model.specs.Choice.{has};
 ghost use Rattle.model.specs.Rules.{independent, maximal};
 ghost use Rattle.choice_map.specs.Choice.{choiceIn};
 ghost use Rattle.instance.specs.Columns.{columnPlaces, slopePlaces, turnsBy};
-ghost use Rattle.selection.specs.Bounds.{Lent};
+ghost use Rattle.selection.specs.Bounds.{HeldWithMap};
 ghost use Rattle.selection.specs.Below.{chosenBelow};
 ghost use Rattle.selection.specs.Gathered.{Gathered};
 use super::gathered::fits_beside;
@@ -22,7 +22,7 @@ use instance::row_at;
 // Whether no two chosen turns conflict: each must fit beside those of lower numbers. Their rows are
 // gathered in the lent columns.
 pub fn is_independent(p: Size, cols: &[u16; PLACES], map: &[u8], rows: &mut [u16; PLACES]) -> bool
-    requires { ⌜ Lent p (now cols) (now map) × (length (now rows) ≡ columnPlaces) ⌝ }
+    requires { ⌜ HeldWithMap p (now cols) (now map) × (length (now rows) ≡ columnPlaces) ⌝ }
     ensures { λ r. ⌜ r ≡ independent (turnsBy p (now (cols .entry))) (choiceIn (p .count) (now (map .entry))) ⌝ }
     ensures { λ _. ⌜ length (now (rows .exit)) ≡ columnPlaces ⌝ }
 {
@@ -52,7 +52,7 @@ fn gather_chosen(
     rows: &mut [u16; PLACES],
     flags: &mut [u8; SLOPES],
 ) -> usize
-    requires { ⌜ Lent p (now cols) (now map) × (length (now rows) ≡ columnPlaces) × (now flags ≡ replicate slopePlaces 0) ⌝ }
+    requires { ⌜ HeldWithMap p (now cols) (now map) × (length (now rows) ≡ columnPlaces) × (now flags ≡ replicate slopePlaces 0) ⌝ }
     ensures { λ r. ⌜ Gathered (turnsBy p (now (cols .entry))) (choiceIn (p .count) (now (map .entry))) (p .count) r (now (rows .exit)) (now (flags .exit)) ⌝ }
 {
     let mut c = 0;
@@ -78,7 +78,7 @@ fn are_settled(
     flags: &[u8; SLOPES],
     c: usize,
 ) -> bool
-    requires { ⌜ Lent p (now cols) (now map) × Gathered (turnsBy p (now cols)) (choiceIn (p .count) (now map)) (p .count) c (now rows) (now flags) ⌝ }
+    requires { ⌜ HeldWithMap p (now cols) (now map) × Gathered (turnsBy p (now cols)) (choiceIn (p .count) (now map)) (p .count) c (now rows) (now flags) ⌝ }
     ensures { λ r. ⌜ r ≡ maximal (turnsBy p (now (cols .entry))) (choiceIn (p .count) (now (map .entry))) ⌝ }
 {
     let n = p.count;
@@ -99,7 +99,7 @@ fn are_settled(
 // Whether every turn is chosen or conflicts with a chosen one. The rows of the chosen turns are gathered
 // in the lent columns.
 pub fn is_maximal(p: Size, cols: &[u16; PLACES], map: &[u8], rows: &mut [u16; PLACES]) -> bool
-    requires { ⌜ Lent p (now cols) (now map) × (length (now rows) ≡ columnPlaces) ⌝ }
+    requires { ⌜ HeldWithMap p (now cols) (now map) × (length (now rows) ≡ columnPlaces) ⌝ }
     ensures { λ r. ⌜ r ≡ maximal (turnsBy p (now (cols .entry))) (choiceIn (p .count) (now (map .entry))) ⌝ }
     ensures { λ _. ⌜ length (now (rows .exit)) ≡ columnPlaces ⌝ }
 {
@@ -110,7 +110,7 @@ pub fn is_maximal(p: Size, cols: &[u16; PLACES], map: &[u8], rows: &mut [u16; PL
 
 // A turn's worth if it is chosen, else 0.
 fn worth_if_chosen(p: Size, cols: &[u16; PLACES], map: &[u8], t: usize) -> u32
-    requires { ⌜ (t < p .count) × Lent p (now cols) (now map) ⌝ }
+    requires { ⌜ (t < p .count) × HeldWithMap p (now cols) (now map) ⌝ }
     ensures { λ r. ⌜ (r ≡ cond (has (choiceIn (p .count) (now (map .entry))) t) (turnsBy p (now (cols .entry)) .worth t) 0) × (r < 65536) ⌝ }
 {
     if choice_map::is_chosen(map, t) {
@@ -122,7 +122,7 @@ fn worth_if_chosen(p: Size, cols: &[u16; PLACES], map: &[u8], t: usize) -> u32
 
 // What the chosen turns are worth together.
 pub fn chosen_worth(p: Size, cols: &[u16; PLACES], map: &[u8]) -> u32
-    requires { ⌜ Lent p (now cols) (now map) ⌝ }
+    requires { ⌜ HeldWithMap p (now cols) (now map) ⌝ }
     ensures { λ r. ⌜ r ≡ chosenBelow (turnsBy p (now (cols .entry))) (choiceIn (p .count) (now (map .entry))) (p .count) ⌝ }
 {
     let n = p.count;

@@ -4,7 +4,7 @@ ghost use Prim.Native.Nat.{_≤_, _<_};
 ghost use lib.ListN.{length};
 ghost use Rattle.sheet.specs.Kind.{mostTurns};
 ghost use Rattle.instance.specs.Columns.{columnPlaces, turnsBy, Held};
-ghost use Rattle.prices.specs.Held.{paidTo, Ordered};
+ghost use Rattle.prices.specs.OrdersAndCounts.{paidTo, Ordered};
 ghost use Rattle.selection_by_runs.specs.Runs.{driverColumns, runTurn, runEndAt, withRunPlace, NotReached, OrderFits, ColumnsTo, RunsOf};
 use super::BY_DRIVER;
 use super::BY_GROOMER;

@@ -73,12 +73,12 @@ fn take_of(s: Share, x: Row, y: Row, shares: &[u16; SHARES]) -> u16
 }
 
 // The step, over the windows from the first that may be open on.
-pub fn apply_shares(rest: &mut [i32], p: Size, cols: &[u16; PLACES], s: Share, from: usize)
+pub fn apply_shares(residuals: &mut [i32], p: Size, cols: &[u16; PLACES], s: Share, from: usize)
     requires { ⌜ (s .turn < p .count) × (s .amount ≤ mostWorth) × Held p (now cols) × HalfDraws (s .units) p (now cols) ⌝ }
-    requires { ⌜ Residuals (p .count) (now rest) × ClosedTo from (now rest) ⌝ }
-    ensures { λ _. ⌜ now (rest .exit) ≡ afterStepBy (smallTakes (hallBy (s .units) p (now (cols .entry)))) (now (rest .entry))
+    requires { ⌜ Residuals (p .count) (now residuals) × ClosedTo from (now residuals) ⌝ }
+    ensures { λ _. ⌜ now (residuals .exit) ≡ afterStepBy (smallTakes (hallBy (s .units) p (now (cols .entry)))) (now (residuals .entry))
         (record { turn = s .turn; amount = s .amount }) ⌝ }
-    ensures { λ _. ⌜ Residuals (p .count) (now (rest .exit)) × ClosedTo from (now (rest .exit)) ⌝ }
+    ensures { λ _. ⌜ Residuals (p .count) (now (residuals .exit)) × ClosedTo from (now (residuals .exit)) ⌝ }
 {
     let j = s.turn;
     let x = row_at(cols, j);
@@ -87,7 +87,7 @@ pub fn apply_shares(rest: &mut [i32], p: Size, cols: &[u16; PLACES], s: Share, f
     while t < p.count {
         let y = row_at(cols, t);
         let less = take_of(s, x, y, &shares);
-        lessen(&mut *rest, t, less);
+        lessen(&mut *residuals, t, less);
         t += 1;
     }
 }

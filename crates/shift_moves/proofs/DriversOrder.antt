@@ -21,7 +21,7 @@ use Rattle.best_spec.proofs.Ordering as ordering
 use Rattle.best_table.proofs.OrderCases.{order-length, order-within}
 use Rattle.price_spec.specs.Prices.{paysTurn}
 use Rattle.prices.specs.declared.Extent.{Extent}
-use Rattle.prices.specs.Held.{byDrivers, turnsIn, driverPlace, paidFrom, paidTo, Ordered, Priced}
+use Rattle.prices.specs.OrdersAndCounts.{byDrivers, turnsIn, driversTurn, paidFrom, paidTo, Ordered, Priced}
 use Rattle.refine_spec.specs.Shift.{turnPayers}
 use Rattle.shift_moves.specs.Moves.{payersBefore, PaidRuns, EachOnce}
 use Rattle.shift_moves.proofs.PayerCases.{no-zero}
@@ -75,14 +75,14 @@ module _ (T : Turns) (orders : List ℕ) (o : Ordered T orders) where
         apart = λ i j l h e. order-apart (byDrivers T) i j l (omega (arith, drivers-count)) (sym (o .drivers i (omega arith)) ∙ e ∙ o .drivers j h);
       }
 
-  pub turn-place : (u : ℕ) → u < T .count → (j : ℕ) × (j < T .count) × (driverPlace orders j ≡ u)
+  pub turn-place : (u : ℕ) → u < T .count → (j : ℕ) × (j < T .count) × (driversTurn orders j ≡ u)
   turn-place u h = let (j, l, q) = order-place (byDrivers T) u (omega (arith, drivers-count)) in let k : j < T .count = omega (arith, drivers-count) in (j, k, o .drivers j k ∙ q)
 
   runs-of : T .count ≤ mostTurns → PaidRuns (T .count) orders
   runs-of l = record { places = o .places; few = l; rising = λ t h. o .runs t h .rising; within = λ t h. o .runs t h .within }
 
   -- a place is in the run of just those turns that pay for the turn there
-  in-run : (j t : ℕ) → j < T .count → t < T .count → (ltb (paidFrom orders t) (j + 1) && leb (j + 1) (paidTo orders t)) ≡ paysTurn T (driverPlace orders j) t
+  in-run : (j t : ℕ) → j < T .count → t < T .count → (ltb (paidFrom orders t) (j + 1) && leb (j + 1) (paidTo orders t)) ≡ paysTurn T (driversTurn orders j) t
   in-run j t h l = rw (o .drivers j h) (go (paysTurn T (getD (turnOrder (byDrivers T)) j 0) t) refl)
     where
       go : (b : Bool) → paysTurn T (getD (turnOrder (byDrivers T)) j 0) t ≡ b → (ltb (paidFrom orders t) (j + 1) && leb (j + 1) (paidTo orders t)) ≡ b
@@ -92,9 +92,9 @@ module _ (T : Turns) (orders : List ℕ) (o : Ordered T orders) where
         omega (arith, leb-true (j + 1) (paidTo orders t) (and-2 (ltb (paidFrom orders t) (j + 1)) (leb (j + 1) (paidTo orders t)) q)),
       )) e)
 
-  pub payers-are : (S : List Bool) (j : ℕ) → j < T .count → payersBefore (T .count) S orders (j + 1) ≡ turnPayers T S (driverPlace orders j)
+  pub payers-are : (S : List Bool) (j : ℕ) → j < T .count → payersBefore (T .count) S orders (j + 1) ≡ turnPayers T S (driversTurn orders j)
   unfolding payersBefore turnPayers chosen
-  payers-are S j h = sum-same (λ t. cond (has S t) (cond (ltb (paidFrom orders t) (j + 1) && leb (j + 1) (paidTo orders t)) 1 0) 0) (λ t. cond (has S t) (cond (paysTurn T (driverPlace orders j) t) 1 0) 0) (T .count)
+  payers-are S j h = sum-same (λ t. cond (has S t) (cond (ltb (paidFrom orders t) (j + 1) && leb (j + 1) (paidTo orders t)) 1 0) 0) (λ t. cond (has S t) (cond (paysTurn T (driversTurn orders j) t) 1 0) 0) (T .count)
       (λ t l. ap (λ (b : Bool). cond (has S t) (cond b 1 0) 0) (in-run j t h l))
 
 -- ---- without drivers

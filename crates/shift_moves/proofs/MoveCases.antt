@@ -24,8 +24,8 @@ use Rattle.instance.specs.Columns.{rowIn, turnsBy}
 use Rattle.instance.proofs.Rows.{count-is, slope-at}
 use Rattle.price_spec.specs.Prices.{slopePrice, turnPrice}
 use Rattle.prices.specs.declared.Extent.{Extent}
-use Rattle.prices.specs.Held.{mostPrice, turnsIn, orderPlaces, driverPlace, DriversUpTo, Ordered, Priced}
-use Rattle.prices.proofs.UndrivenCases.{none-named}
+use Rattle.prices.specs.OrdersAndCounts.{mostPrice, turnsIn, orderPlaces, driversTurn, DriversUpTo, Ordered, Priced}
+use Rattle.prices.proofs.DriverlessCases.{none-named}
 use Rattle.refine_spec.specs.Shift.{highestPrice, slopePayers, turnPayers, movedPrice, turnChange, movedPrices}
 use Rattle.shift_moves.specs.Moves.{payerPlaces, numberBehind, timesChosen, payersBefore, nobody, payersAt, payersAfter, slopePayersIn, turnPayersIn, ownPlace, placeBehind, turnPricePlace, SmallNumbers, Times, PaidRuns, Payers, FewPayers, EachOnce, MovedBy}
 use Rattle.shift_moves.proofs.DriversOrder.{turn-place, payers-are, no-payers}
@@ -203,7 +203,7 @@ module _ (change : ℕ) (e : Extent) (orders payers old : List ℕ) where
       unfolding FewPayers
       turns-few f = f j h
 
-      module _ (o : EachOnce (e .size .count) orders) {x : ℕ} (q : x ≡ driverPlace orders j) where
+      module _ (o : EachOnce (e .size .count) orders) {x : ℕ} (q : x ≡ driversTurn orders j) where
         pub turns-fits : e .slopes ≤ mostSlopes → e .size .count ≤ mostTurns → Fits w64 (e .slopes + x)
         turns-fits k l = omega (arith, q, o .inside j h)
 

@@ -12,7 +12,7 @@ use Rattle.model.specs.Choice.{chosen}
 use Rattle.sheet.specs.Kind.{mostTurns}
 use Rattle.choice_map.specs.Choice.{chosenIn, choiceIn}
 use Rattle.prices.specs.declared.Extent.{Extent}
-use Rattle.prices.specs.Held.{turnsIn, orderPlaces, driverPlace, paidFrom, paidTo}
+use Rattle.prices.specs.OrdersAndCounts.{turnsIn, orderPlaces, driversTurn, paidFrom, paidTo}
 use Rattle.refine_spec.specs.Shift.{slopePayers, movedPrice}
 
 -- a place for each number from 0 to the most turns
@@ -68,7 +68,7 @@ placeBehind slopes u = slopes + u
 
 -- and that of the turn at place j of the drivers' order
 abbrev pub turnPricePlace : ℕ → List ℕ → ℕ → ℕ
-turnPricePlace slopes orders j = slopes + driverPlace orders j
+turnPricePlace slopes orders j = slopes + driversTurn orders j
 
 -- ---- as statements
 
@@ -114,8 +114,8 @@ FewPayers n payers = (k : ℕ) → k < n → getD payers k 0 ≤ mostTurns
 
 -- the drivers' order has n turns, each at one place
 pub record EachOnce (n : ℕ) (orders : List ℕ) : Type 0 where
-  pub inside : (j : ℕ) → j < n → driverPlace orders j < n
-  pub apart : (i j : ℕ) → i < j → j < n → driverPlace orders i ≢ driverPlace orders j
+  pub inside : (j : ℕ) → j < n → driversTurn orders j < n
+  pub apart : (i j : ℕ) → i < j → j < n → driversTurn orders i ≢ driversTurn orders j
 
 -- the prices at some n places are moved, each by its own payers, and all others are as before
 pub record MovedBy (change : ℕ) (payers place : ℕ → ℕ) (n : ℕ) (old new : List ℕ) : Type 0 where

@@ -9,7 +9,7 @@ ghost use lib.ListN.{length, getD, set, replicate};
 ghost use Rattle.turn.specs.Turn.{mostWorth};
 ghost use Rattle.sheet.specs.Kind.{mostTurns, mostSlopes};
 ghost use Rattle.choice_map.specs.Choice.{choiceIn, Clean};
-ghost use Rattle.prices.specs.Held.{mostPrice, turnsIn, Ordered, Priced};
+ghost use Rattle.prices.specs.OrdersAndCounts.{mostPrice, turnsIn, Ordered, Priced};
 ghost use Rattle.refine_spec.specs.Shift.{highestPrice, movedPrice, turnChange, movedPrices};
 ghost use Rattle.shift_moves.specs.Moves.{payerPlaces, numberBehind, payersAt, payersAfter, slopePayersIn, turnPayersIn, ownPlace, turnPricePlace};
 ghost use Rattle.shift_moves.specs.Moves.{nobody, placeBehind, SmallNumbers, Times, PaidRuns, Summable, Present, Payers, FewPayers, EachOnce, MovedBy};

@@ -11,8 +11,8 @@ ghost use Rattle.plan_spec.specs.Plan.{planOf};
 ghost use Rattle.listing_spec.specs.List.{listOf};
 ghost use Rattle.assign_spec.specs.Assign.{assignOf};
 ghost use Rattle.sheet.specs.Screen.{readShortOf};
-ghost use Rattle.trial_spec.specs.Trial.{drawOf};
-ghost use Rattle.best_spec.specs.Exact.{exactOf};
+ghost use Rattle.draw_spec.specs.DrawnSheet.{drawOf};
+ghost use Rattle.best_spec.specs.Best.{bestOf};
 ghost use Rattle.price_spec.specs.Limit.{limitOf};
 ghost use Rattle.refine_spec.specs.Refine.{refineOf};
 ghost use Rattle.hall_price_spec.specs.Limit.{chargeLimitOf};
@@ -37,7 +37,7 @@ use play_spec::Standing;
 use price_spec::LimitAnswer;
 use refine_spec::RefineAnswer;
 use refusal::WriteAnswer;
-use search_spec::Improved;
+use search_spec::ImproveAnswer;
 use sheet::ReadAnswer;
 
 #[no_mangle]
@@ -113,7 +113,7 @@ pub extern "C" fn slopeboard_draw(
 ) -> WriteAnswer
     ensures { λ r. ⌜ beside r (now (bytes .exit)) ≡ drawOf seed (countsOf groomers slopes) turns (now (bytes .entry)) ⌝ }
 {
-    trial::draw(seed, groomers, slopes, turns, &mut *bytes)
+    draw::draw(seed, groomers, slopes, turns, &mut *bytes)
 }
 
 #[no_mangle]
@@ -139,13 +139,13 @@ pub extern "C" fn slopeboard_assign(sheet: &[u8], places: &mut [u16]) -> AssignA
 
 #[no_mangle]
 pub extern "C" fn slopeboard_best(sheet: &[u8], map: &mut [u8]) -> BestAnswer
-    ensures { λ r. ⌜ beside r (now (map .exit)) ≡ exactOf (now (sheet .entry)) (now (map .entry)) ⌝ }
+    ensures { λ r. ⌜ beside r (now (map .exit)) ≡ bestOf (now (sheet .entry)) (now (map .entry)) ⌝ }
 {
     best::best(sheet, &mut *map)
 }
 
 #[no_mangle]
-pub extern "C" fn slopeboard_improve(sheet: &[u8], visits: u64, map: &mut [u8]) -> Improved
+pub extern "C" fn slopeboard_improve(sheet: &[u8], visits: u64, map: &mut [u8]) -> ImproveAnswer
     ensures { λ r. ⌜ beside r (now (map .exit)) ≡ improveOf (now (sheet .entry)) visits (now (map .entry)) ⌝ }
 {
     improve::improve(sheet, visits, &mut *map)
@@ -207,7 +207,7 @@ pub extern "C" fn slopeboard_refine(
 pub extern "C" fn slopeboard_charge_limit(sheet: &[u8], prices: &[u16]) -> LimitAnswer
     ensures { λ r. ⌜ r ≡ chargeLimitOf (now (sheet .entry)) (now (prices .entry)) ⌝ }
 {
-    hall_prices::charge_limit(sheet, prices)
+    hall_by_prices::charge_limit(sheet, prices)
 }
 
 #[no_mangle]
@@ -220,5 +220,5 @@ pub extern "C" fn slopeboard_charge_refine(
     ensures { λ r. ⌜ chargeRefinedBy r (now (map .exit)) (now (prices .exit))
         ≡ chargeRefineOf (now (sheet .entry)) rounds (now (map .entry)) (now (prices .entry)) ⌝ }
 {
-    hall_prices::charge_refine(sheet, rounds, &mut *map, &mut *prices)
+    hall_by_prices::charge_refine(sheet, rounds, &mut *map, &mut *prices)
 }

@@ -10,27 +10,27 @@ use Rattle.price_rounds.proofs.make_rounds.Statement.{statement}
 use Rattle.price_rounds.proofs.make_rounds.Tie as tie
 
 abbrev Inv-loop : tie.InvT-loop
-Inv-loop t cols list₀ best₀ room₀ rule tables ranks prices₀ change₀ limit₀ worth₀ made₀ list best room prices change limit worth made =
-    RoundsUnderway t cols list₀ best₀ tables ranks list best room prices change limit worth made
+Inv-loop t cols lowest₀ best₀ room₀ rule orders ranks prices₀ change₀ limit₀ worth₀ made₀ lowest best room prices change limit worth made =
+    RoundsUnderway t cols lowest₀ best₀ orders ranks lowest best room prices change limit worth made
 
 abbrev μ-loop : tie.MeasureT-loop
-μ-loop t cols list₀ best₀ room₀ rule tables ranks prices₀ change₀ limit₀ worth₀ made₀ list best room prices change limit worth made = t .rounds - made
+μ-loop t cols lowest₀ best₀ room₀ rule orders ranks prices₀ change₀ limit₀ worth₀ made₀ lowest best room prices change limit worth made = t .rounds - made
 
 slice-aggregate-prices : tie.Need-slice-aggregate-prices Inv-loop μ-loop
 slice-aggregate-prices c = start-size _ _ _ _ _ (c .before .before .before .before .before .before .before .before .before .before .before .before .pre)
 
 loop-holds : tie.Need-loop-holds Inv-loop μ-loop
 loop-holds c =
-    let tabled = c .before .before .before .before .before .before .before in
-    let start = tabled .before .before .before .before .before .before in
+    let ordered = c .before .before .before .before .before .before .before in
+    let start = ordered .before .before .before .before .before .before in
     record {
       posed = start .pre .posed;
-      tabled = tabled .put-tables .ensures .0;
+      ordered = ordered .put-orders .ensures .0;
       ranked = search start-cases;
       stage = search start-cases;
       list-size = search needs;
       map-size = search needs;
-      runs = tabled .put-tables .ensures .1;
+      runs = ordered .put-orders .ensures .1;
     }
 
 array-borrow-prefix-map : tie.Need-array-borrow-prefix-map Inv-loop μ-loop
@@ -45,7 +45,7 @@ look-at-requires : tie.Need-look-at-requires Inv-loop μ-loop
 look-at-requires c κs =
     let i = c .before .before .before .before .loop .inv in
     let few = rule-few _ _ (i .posed) in
-    ((i .posed, i .tabled, i .stage .prices-are), (zeros-map _ few (i .stage .clean .size), zeros-none-chosen _ few (i .stage .clean .size)))
+    ((i .posed, i .ordered, i .stage .prices-are), (zeros-map _ few (i .stage .clean .size), zeros-none-chosen _ few (i .stage .clean .size)))
 
 keep-lower-requires : tie.Need-keep-lower-requires Inv-loop μ-loop
 keep-lower-requires c κs =
@@ -65,13 +65,13 @@ returns c =
     let lower = better .before .before .before .before .before .before .before in
     let seen = lower .before .before .before .before .before in
     let head = seen .before .before .before .before .before in
-    round-stops _ _ _ _ _ _ _ _ _ _ _ (head .loop .inv .stage) _ _ (seen .look-at .ensures .0) (seen .look-at .ensures .1 .1) (lower .keep-lower .ensures .0) (lower .keep-lower .ensures .1) (better .keep-better .ensures .0) (over .is-over .ensures) (c .before .before .before .before .if1 .taken) (better .keep-better .ensures .1 .0) (c .come-to .ensures)
+    round-stops _ _ _ _ _ _ _ _ _ _ _ (head .loop .inv .stage) _ _ (seen .look-at .ensures .0) (seen .look-at .ensures .1 .1) (lower .keep-lower .ensures .0) (lower .keep-lower .ensures .1) (better .keep-better .ensures .0) (over .is-over .ensures) (c .before .before .before .before .if1 .taken) (better .keep-better .ensures .1 .0) (c .reached-with .ensures)
 
 move-prices-requires : tie.Need-move-prices-requires Inv-loop μ-loop
 move-prices-requires c κs =
     let seen = c .before .before .before .before .before .before .before .before .before .before .before .before .before .before .before .before .before .before .before in
     let i = seen .before .before .before .before .before .loop .inv in
-    ((i .posed, i .tabled, i .stage .prices-are), (seen .look-at .ensures .1 .0, i .stage .small))
+    ((i .posed, i .ordered, i .stage .prices-are), (seen .look-at .ensures .1 .0, i .stage .small))
 
 next-change-requires : tie.Need-next-change-requires Inv-loop μ-loop
 next-change-requires c κs = c .before .before .before .before .before .before .before .before .before .before .before .before .before .before .before .before .before .before .before .before .before .before .before .before .before .before .before .before .loop .inv .stage .small
@@ -102,7 +102,7 @@ loop-again c =
     let i = head .loop .inv in
     record {
       posed = i .posed;
-      tabled = i .tabled;
+      ordered = i .ordered;
       ranked = i .ranked;
       stage = round-goes _ _ _ _ _ _ _ _ _ _ _ (head .loop .inv .stage) _ _ (seen .look-at .ensures .0) (seen .look-at .ensures .1 .1) (lower .keep-lower .ensures .0) (lower .keep-lower .ensures .1) (better .keep-better .ensures .0) (over .is-over .ensures) (c .before .before .before .before .before .before .before .before .if1 .left) (better .keep-better .ensures .1 .0) (c .before .before .before .before .move-prices .ensures) (c .next-change .ensures);
       list-size = search (needs, i .list-size);

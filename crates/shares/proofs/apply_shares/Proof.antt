@@ -12,10 +12,10 @@ use Rattle.shares.proofs.apply_shares.Statement.{statement}
 use Rattle.shares.proofs.apply_shares.Tie as tie
 
 abbrev Inv-loop : tie.InvT-loop
-Inv-loop rest₀ p cols s from j x shares t₀ rest t = (t ≤ p .count) × (x ≡ rowIn cols j) × SharesBy (s .units) (s .amount) shares × Residuals (p .count) rest × Stepped (smallTakes (hallBy (s .units) p cols)) j (s .amount) from t rest₀ rest
+Inv-loop residuals₀ p cols s from j x shares t₀ residuals t = (t ≤ p .count) × (x ≡ rowIn cols j) × SharesBy (s .units) (s .amount) shares × Residuals (p .count) residuals × Stepped (smallTakes (hallBy (s .units) p cols)) j (s .amount) from t residuals₀ residuals
 
 abbrev μ-loop : tie.MeasureT-loop
-μ-loop rest₀ p cols s from j x shares t₀ rest t = p .count - t
+μ-loop residuals₀ p cols s from j x shares t₀ residuals t = p .count - t
 
 loop-again : tie.Need-loop-again Inv-loop μ-loop
 loop-again c = (search needs, search needs, search needs, search (needs, shares-cases), shares-more _ _ _ _ _ _ _ _ _ (search needs) (search needs) (search needs) (c .before .before .before .before .before .row-at2 .ensures) (c .before .before .before .take-of .ensures .0) (c .before .lessen .ensures .0) (c .before .before .before .before .before .before .before .before .loop .inv .3) (c .before .before .before .before .before .before .before .before .loop .inv .4))

@@ -3,7 +3,7 @@ use Rattle.model.specs.Choice.{chooseEach}
 use Rattle.choice_map.specs.Choice.{choiceIn, Clean}
 use Rattle.selection.proofs.Fitting.{turn-inside}
 use Rattle.hall_spec.specs.Plan.{fitsAmong}
-use Rattle.hall_steps.specs.Among.{hallAmong}
+use Rattle.hall_steps.specs.OneKind.{kindHall}
 use Rattle.hall.specs.OneKind.{meant}
 use Rattle.hall.specs.Supply.{Supplied}
 use lib.ListN.{length, drop}
@@ -17,7 +17,7 @@ use Rattle.hall.proofs.choosing.choose_beside.Tie as tie
 
 abbrev Inv-loop : tie.InvT-loop
 Inv-loop a any cols list map₀ used₀ left₀ map used left =
-    (left ≤ length list) × Clean (a .size .count) map × Supplied (hallAmong a cols) (choiceIn (a .size .count) map) used × (choiceIn (a .size .count) map ≡ chooseEach (fitsAmong (hallAmong a cols) (meant a any cols)) (drop left list) (choiceIn (a .size .count) map₀))
+    (left ≤ length list) × Clean (a .size .count) map × Supplied (kindHall a cols) (choiceIn (a .size .count) map) used × (choiceIn (a .size .count) map ≡ chooseEach (fitsAmong (kindHall a cols) (meant a any cols)) (drop left list) (choiceIn (a .size .count) map₀))
 
 abbrev μ-loop : tie.MeasureT-loop
 μ-loop a any cols list map₀ used₀ left₀ map used left = left

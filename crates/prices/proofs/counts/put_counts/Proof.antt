@@ -1,4 +1,4 @@
-use Rattle.prices.proofs.UndrivenCases.{none-named, undriven-prices}
+use Rattle.prices.proofs.DriverlessCases.{none-named, driverless-prices}
 use borrow.Author.Needs.{needs}
 use Rattle.prices.proofs.counts.put_counts.Statement.{statement}
 use Rattle.prices.proofs.counts.put_counts.Tie as tie
@@ -12,4 +12,4 @@ put-counts-spec =
     (λ c. search needs)
     (λ c κs. (search needs, search none-named, search needs))
     (λ c κs. search needs)
-    (λ c. (search needs, (search undriven-prices, search needs))))
+    (λ c. (search needs, (search driverless-prices, search needs))))

@@ -1,7 +1,7 @@
 -- Invariant: the turns before t have what is left of their worths. Measure: the turns left.
 use borrow.Author.Needs.{needs}
 use Rattle.prices.proofs.CountCases.{numbers-cases, left-few}
-use Rattle.prices.specs.Held.{leftAfter, NumbersTo}
+use Rattle.prices.specs.OrdersAndCounts.{leftAfter, NumbersTo}
 use Rattle.instance.specs.Columns.{turnsBy}
 use Prim.Native.Nat.{_-_, _≤_}
 use Rattle.prices.proofs.counts.put_left.Statement.{statement}

@@ -1,7 +1,7 @@
 -- Invariant: the turns before t have what they pay. Measure: the turns left.
 use borrow.Author.Needs.{needs}
 use Rattle.prices.proofs.CountCases.{numbers-cases}
-use Rattle.prices.specs.Held.{turnsIn, PaymentsTo}
+use Rattle.prices.specs.OrdersAndCounts.{turnsIn, PaymentsTo}
 use Prim.Native.Nat.{_-_, _≤_}
 use Rattle.prices.proofs.counts.put_payments.Statement.{statement}
 use Rattle.prices.proofs.counts.put_payments.Tie as tie

@@ -1,14 +1,14 @@
 -- Invariant: the turns and runs of the places before i are put, what stands before them is as it was, and from is where the run of the place before i begins. Measure: the places left.
 use borrow.Author.Needs.{needs}
 use Rattle.prices.proofs.RunCases.{runs-cases, runs-more, before-more}
-use Rattle.prices.specs.Held.{RunBefore, RunsTo}
+use Rattle.prices.specs.OrdersAndCounts.{RunBefore, PlaceRunsTo}
 use Rattle.instance.specs.Columns.{turnsBy}
 use Prim.Native.Nat.{_-_, _≤_}
 use Rattle.prices.proofs.runs.put_runs.Statement.{statement}
 use Rattle.prices.proofs.runs.put_runs.Tie as tie
 
 abbrev Inv-loop : tie.InvT-loop
-Inv-loop p cols order orders₀ from₀ i₀ orders from i = (i ≤ p .count) × RunsTo (turnsBy p cols) orders₀ orders i × RunBefore (turnsBy p cols) i from
+Inv-loop p cols order orders₀ from₀ i₀ orders from i = (i ≤ p .count) × PlaceRunsTo (turnsBy p cols) orders₀ orders i × RunBefore (turnsBy p cols) i from
 
 abbrev μ-loop : tie.MeasureT-loop
 μ-loop p cols order orders₀ from₀ i₀ orders from i = p .count - i

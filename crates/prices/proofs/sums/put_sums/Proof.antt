@@ -1,7 +1,7 @@
 -- Invariant: the sums of the first 0 to j places are put. Measure: the places left.
 use borrow.Author.Needs.{needs}
 use Rattle.prices.proofs.SumCases.{sums-cases}
-use Rattle.prices.specs.Held.{turnsIn, SumsTo}
+use Rattle.prices.specs.OrdersAndCounts.{turnsIn, SumsTo}
 use Prim.Native.Nat.{_-_, _≤_}
 use Rattle.prices.proofs.sums.put_sums.Statement.{statement}
 use Rattle.prices.proofs.sums.put_sums.Tie as tie

@@ -1,7 +1,7 @@
 -- Invariant: the prices of the slopes before k are summed up. Measure: the slopes left.
 use borrow.Author.Needs.{needs}
 use Rattle.prices.proofs.SumCases.{slopes-cases}
-use Rattle.prices.specs.Held.{slopesSum, SummedTo}
+use Rattle.prices.specs.OrdersAndCounts.{slopesSum, SummedTo}
 use Prim.Native.Nat.{_-_}
 use Rattle.prices.proofs.sums.slope_prices.Statement.{statement}
 use Rattle.prices.proofs.sums.slope_prices.Tie as tie

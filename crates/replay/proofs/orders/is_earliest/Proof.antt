@@ -9,10 +9,10 @@ use Rattle.replay.proofs.orders.is_earliest.Statement.{statement}
 use Rattle.replay.proofs.orders.is_earliest.Tie as tie
 
 abbrev Inv-loop : tie.InvT-loop
-Inv-loop rest p cols j from all₀ t₀ all t = (t ≤ p .count) × (all ≡ earliestBelow (turnsBy p cols) rest j t)
+Inv-loop residuals p cols j from all₀ t₀ all t = (t ≤ p .count) × (all ≡ earliestBelow (turnsBy p cols) residuals j t)
 
 abbrev μ-loop : tie.MeasureT-loop
-μ-loop rest p cols j from all₀ t₀ all t = j - t
+μ-loop residuals p cols j from all₀ t₀ all t = j - t
 
 pub is-earliest-spec : {M : Type 1} → statement M
 is-earliest-spec =

@@ -15,10 +15,10 @@ use Rattle.replay.proofs.replay.replay.Statement.{statement}
 use Rattle.replay.proofs.replay.replay.Tie as tie
 
 abbrev Inv-loop : tie.InvT-loop
-Inv-loop rest₀ p cols places steps m sum₀ closed₀ i₀ rest sum closed i = (i ≤ m) × Residuals (p .count) rest × ClosedTo closed rest × (sum ≤ 3 * mostWorth * i) × (allRight (turnsBy p cols) rest (movesFrom places (m - i) i steps) ≡ allRight (turnsBy p cols) rest₀ (movesIn places m steps)) × (afterSteps (turnsBy p cols) rest (movesFrom places (m - i) i steps) ≡ afterSteps (turnsBy p cols) rest₀ (movesIn places m steps)) × (sum + costsFrom (turnsBy p cols) rest (movesFrom places (m - i) i steps) ≡ costsFrom (turnsBy p cols) rest₀ (movesIn places m steps))
+Inv-loop residuals₀ p cols places steps m sum₀ closed₀ i₀ residuals sum closed i = (i ≤ m) × Residuals (p .count) residuals × ClosedTo closed residuals × (sum ≤ 3 * mostWorth * i) × (allRight (turnsBy p cols) residuals (movesFrom places (m - i) i steps) ≡ allRight (turnsBy p cols) residuals₀ (movesIn places m steps)) × (afterSteps (turnsBy p cols) residuals (movesFrom places (m - i) i steps) ≡ afterSteps (turnsBy p cols) residuals₀ (movesIn places m steps)) × (sum + costsFrom (turnsBy p cols) residuals (movesFrom places (m - i) i steps) ≡ costsFrom (turnsBy p cols) residuals₀ (movesIn places m steps))
 
 abbrev μ-loop : tie.MeasureT-loop
-μ-loop rest₀ p cols places steps m sum₀ closed₀ i₀ rest sum closed i = m - i
+μ-loop residuals₀ p cols places steps m sum₀ closed₀ i₀ residuals sum closed i = m - i
 
 pub replay-spec : {M : Type 1} → statement M
 replay-spec =

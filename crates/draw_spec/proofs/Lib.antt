@@ -1,0 +1,4 @@
+pub mod Draws
+pub mod DrawnSheets
+pub mod DrawCauses
+pub mod Worked

@@ -1,0 +1,5 @@
+pub mod Draw
+pub mod DrawnSheet
+pub mod DrawCause
+pub mod Promises
+pub mod Cases

@@ -1,4 +1,0 @@
-pub mod Draws
-pub mod Trials
-pub mod DrawCauses
-pub mod Worked
