@@ -1,5 +1,5 @@
 // Choosing windows: those of a list of numbers, from its last to its first, each with which the set stays
-// allowed. It is the garage's way of choosing with another test of what fits.
+// allowed. A shift's turns are chosen so too, with another test of what fits.
 ghost use mathlib.Core.Path.{_≡_};
 ghost use mathlib.Core.Bool.{false, cond};
 ghost use Prim.Native.Nat.{_*_, _≤_, _<_};
@@ -158,8 +158,9 @@ fn fewer(x: usize, y: usize) -> usize
     if x < y { x } else { y }
 }
 
-// The windows of a list of numbers that are of the kind, or any, from its last to its first, into a map that
-// has none chosen.
+// Chooses windows of the kind, or any, from the list's last number to its first, into a map that has none chosen.
+// First come the numbers behind as many as there are windows: after these most vehicles have a window, and the
+// windows of these vehicles are left out of the others.
 fn choose_each(a: OneKind, any: bool, cols: &[u16; PLACES], list: &[u16], map: &mut [u8])
     requires { ⌜ HallHeld (a .units) (a .size) (now cols) × NumbersOf (a .size .count) (now list) × Clean (a .size .count) (now map) ⌝ }
     requires { ⌜ choiceIn (a .size .count) (now map) ≡ replicate (a .size .count) false ⌝ }

@@ -19,6 +19,7 @@ pub use choosing::choose_listed;
 use choosing::choose_windows;
 use hall_spec::ChargeAnswer;
 use hall_steps::OneKind;
+use instance::MAP_BYTES;
 use instance::MOST_TURNS;
 use instance::PLACES;
 use instance::Size;
@@ -32,9 +33,7 @@ use turn::Refusals;
 // The most units that a hall has.
 const MOST_UNITS: u16 = 48;
 
-// A bit for each window that a sheet can have, and steps for as many.
-const MAP_BYTES: usize = (MOST_TURNS + 7) / 8;
-
+// Steps for as many windows as a sheet can have.
 const STEPS_BYTES: usize = board::STEP_SIZE * MOST_TURNS;
 
 // A charging sheet: its first count is the hall's units, its second the vehicles, and a window's second field

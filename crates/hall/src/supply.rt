@@ -17,7 +17,7 @@ pub const USED: usize = MINUTES + MOST_VEHICLES as usize + 1;
 // So many minutes are looked at together.
 const PART: usize = 32;
 
-// Whether at n minutes from one on no more is used than leaves room. No early exit, so that the loop vectorises.
+// Whether at each of n minutes from one on at most so much is used. No early exit, so that the loop vectorises.
 fn lasts_from(used: &[u8; USED], room: u8, from: usize, n: usize) -> bool
     requires { ⌜ from + n ≤ shiftMinutes ⌝ }
     ensures { λ q. ⌜ q ≡ lastsFor (now (used .entry)) from room n ⌝ }

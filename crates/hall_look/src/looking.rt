@@ -1,4 +1,4 @@
-// A look at the prices: what each vehicle's best window counts for, the limit, and the relaxed set.
+// The limit at some prices, and each vehicle's best window at them.
 ghost use mathlib.Core.Path.{_≡_};
 ghost use mathlib.Core.Bool.{cond};
 ghost use Prim.Native.Nat.{_+_, _*_, _/_, _≤_, _<_};
@@ -15,14 +15,15 @@ use super::sums::PARTS;
 use super::sums::SUMS;
 use super::sums::counts_for;
 use super::sums::put_sums;
-use super::sums::wide;
 use instance::PLACES;
+use instance::as_place;
+use instance::as_u32;
 use instance::row_at;
 
 // A place for each number of a vehicle; place 0 is not used.
 pub const VEHICLES: usize = 61;
 
-// Window t in the place of vehicle v, only if it counts for more than the one there.
+// Takes window t for vehicle v if it counts for more than the one there. Taken has t + 1, and 0 where there is none.
 fn keep_best(
     v: usize,
     count: u16,
@@ -38,12 +39,6 @@ fn keep_best(
         most[v] = count;
         taken[v] = (t + 1) as u16;
     }
-}
-
-fn index(x: u16) -> usize
-    ensures { λ r. ⌜ r ≡ x ⌝ }
-{
-    x as usize
 }
 
 // The vehicles' best windows, where none is there before.
@@ -63,7 +58,13 @@ fn put_bests(
     while t < h.size.count {
         let row = row_at(cols, t);
         let count = counts_for(prices, sums, row);
-        keep_best(index(row.slope), count as u16, t, &mut *most, &mut *taken);
+        keep_best(
+            as_place(row.slope),
+            count as u16,
+            t,
+            &mut *most,
+            &mut *taken,
+        );
         t += 1;
     }
 }
@@ -78,7 +79,7 @@ fn bests_sum(vehicles: u16, most: &[u16; VEHICLES]) -> u32
     let mut v = 0;
     while v < last {
         v += 1;
-        sum += wide(most[v]);
+        sum += as_u32(most[v]);
     }
     sum
 }
@@ -88,7 +89,7 @@ fn supply_cost(h: HallSize, cols: &[u16; PLACES], prices: &[u16], sums: &[u32; S
     requires { ⌜ HallPosed h (now cols) × MinuteSums (now prices) (now sums) ⌝ }
     ensures { λ r. ⌜ (r ≡ supplyCost (hallFor h (now (cols .entry))) (now (prices .entry))) × (r ≤ mostUnits * (shiftMinutes * mostPrice) / priceParts) ⌝ }
 {
-    wide(h.units) * sums[MINUTES] / PARTS
+    as_u32(h.units) * sums[MINUTES] / PARTS
 }
 
 // The limit, and the vehicles' best windows, where none is there before.

@@ -12,7 +12,7 @@ use super::looking::VEHICLES;
 use super::looking::limit_with;
 use instance::PLACES;
 
-// Sets the bit of the window before a number, of none before 0.
+// Sets the bit of window number - 1, and none where the number is 0.
 fn put_before(number: u16, map: &mut [u8])
     requires { ⌜ number ≤ 8 * length (now map) ⌝ }
     ensures { λ _. ⌜ now (map .exit) ≡ withBefore number (now (map .entry)) ⌝ }

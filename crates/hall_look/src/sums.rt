@@ -6,6 +6,7 @@ ghost use Rattle.turn.specs.Turn.{shiftMinutes, mostWorth};
 ghost use Rattle.hall_price_spec.specs.Prices.{minutePrice};
 ghost use Rattle.hall_look.specs.Look.{mostPrice, sumPlaces, rowCost, rowCounts, MinuteSums, WindowRow};
 use instance::Row;
+use instance::as_u32;
 
 pub const MINUTES: usize = turn::SHIFT_MINUTES as usize;
 
@@ -15,18 +16,12 @@ pub const SUMS: usize = MINUTES + 1;
 // Prices are in parts of worth: so many parts are a worth of 1.
 pub const PARTS: u32 = 16;
 
-pub fn wide(x: u16) -> u32
-    ensures { λ r. ⌜ (r ≡ x) × (r ≤ mostPrice) ⌝ }
-{
-    x as u32
-}
-
 // The price of minute m.
 pub fn price_at(prices: &[u16], m: usize) -> u32
     requires { ⌜ m < length (now prices) ⌝ }
     ensures { λ r. ⌜ (r ≡ minutePrice (now (prices .entry)) m) × (r ≤ mostPrice) ⌝ }
 {
-    wide(prices[m])
+    as_u32(prices[m])
 }
 
 // All sums of a list with a price for each minute.
@@ -62,11 +57,11 @@ fn unpaid_of(worth: u32, paid: u32) -> u32
     worth - paid
 }
 
-// What a window counts for.
+// What a window counts for. Its groomer is its draw, as in a hall's columns.
 pub fn counts_for(prices: &[u16], sums: &[u32; SUMS], r: Row) -> u32
     requires { ⌜ WindowRow r × MinuteSums (now prices) (now sums) ⌝ }
     ensures { λ c. ⌜ (c ≡ rowCounts (now (prices .entry)) r) × (c ≤ mostWorth) ⌝ }
 {
     let cost = cost_of(prices, sums, r);
-    unpaid_of(wide(r.worth), wide(r.groomer) * cost / PARTS)
+    unpaid_of(as_u32(r.worth), as_u32(r.groomer) * cost / PARTS)
 }

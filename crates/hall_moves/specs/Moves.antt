@@ -1,4 +1,4 @@
--- How the functions hold what a set draws at each minute; for inner functions only (request P-3). Assumes nothing.
+-- What a set draws at each minute, and the moves of prices, as the functions hold them; for inner functions only (request P-3). Assumes nothing.
 use mathlib.Core.Path.{_≡_}
 use mathlib.Core.Bool.{Bool, cond}
 use mathlib.Core.List.{List}

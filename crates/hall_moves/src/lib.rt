@@ -13,15 +13,10 @@ use hall_look::HallSize;
 use hall_look::MINUTES;
 use instance::PLACES;
 use instance::Row;
+use instance::as_u32;
 use instance::row_at;
 
 const HIGHEST_MINUTE_PRICE: u32 = 65535;
-
-fn wide(x: u16) -> u32
-    ensures { λ r. ⌜ (r ≡ x) × (r ≤ mostPrice) ⌝ }
-{
-    x as u32
-}
 
 // A move is computed once a round for each draw up to four times the units of any hall.
 const MOST_LISTED: usize = 192;
@@ -50,11 +45,11 @@ fn move_by(units: u16, change: u32, drawn: u16) -> u32
     requires { ⌜ (1 ≤ units) × (units ≤ mostUnits) × (drawn ≤ mostDrawn) × (change ≤ mostWorth) ⌝ }
     ensures { λ r. ⌜ (r ≡ moveBy change units drawn) × (r ≤ mostMove) ⌝ }
 {
-    let all = wide(units);
+    let all = as_u32(units);
     if drawn > units {
-        return NO_MOVE + (change * (wide(drawn) - all) + (all - 1)) / all;
+        return NO_MOVE + (change * (as_u32(drawn) - all) + (all - 1)) / all;
     }
-    NO_MOVE - change * (all - wide(drawn)) / all
+    NO_MOVE - change * (all - as_u32(drawn)) / all
 }
 
 // Puts that move for each draw of the list.
@@ -90,7 +85,7 @@ fn moved_minute(by: u32, price: u32) -> u16
 }
 
 // The move of each minute, where it is known what is drawn then.
-fn put_each(
+fn put_minute_moves(
     units: u16,
     change: u32,
     moves: &[u32; MOVES],
@@ -115,7 +110,7 @@ fn move_each(by: &[u32; MINUTES], prices: &mut [u16])
 {
     let mut m = 0;
     while m < MINUTES {
-        let price = wide(prices[m]);
+        let price = as_u32(prices[m]);
         prices[m] = moved_minute(by[m], price);
         m += 1;
     }
@@ -166,6 +161,6 @@ pub fn move_minutes(
     let mut moves = [0u32; MOVES];
     put_moves(h.units, change, &mut moves);
     let mut by = [0u32; MINUTES];
-    put_each(h.units, change, &moves, &drawn, &mut by);
+    put_minute_moves(h.units, change, &moves, &drawn, &mut by);
     move_each(&by, &mut *prices);
 }

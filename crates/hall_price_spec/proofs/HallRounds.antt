@@ -1,10 +1,11 @@
 -- The rounds of a hall, however many: what limit, list, choice and worth are after them. Assumes nothing.
-use mathlib.Core.Path.{_≡_, refl}
+use mathlib.Core.Path.{_≡_, refl, ap, _∙_}
 use mathlib.Core.Logic.{_≢_, _⊎_, inl, inr}
 use mathlib.Core.Bool.{Bool}
 use mathlib.Core.List.{List}
 use Prim.Native.Nat.{ℕ, _+_, _-_, _*_, _/_, _≤_, _<_, min}
 use native.Mathlib.Omega.{arith}
+use native.Mathlib.Nat.{zero-div, mul-zero}
 use native.Mathlib.Decide.{decLt}
 use lib.ListN.{length, getD, replicate, length-replicate, getD-replicate, List·getD-eq-default}
 use borrow.Author.Tests.{lt-ltb, le-ltb}
@@ -33,12 +34,27 @@ module _ (change units drawn price : ℕ) where
   unfolding movedMinute
   moved-within h = rw (le-ltb units drawn h)
 
+  -- only where more than the units is drawn does it rise
+  pub moved-rises : price < movedMinute change units drawn price → units < drawn
+  moved-rises h = go (decLt units drawn)
+    where
+      go : Dec (units < drawn) → units < drawn
+      go (yes l) = l
+      go (no l) = absurd (omega (arith, moved-within (omega arith)))
+
   pub moved-highest : price ≤ highestMinutePrice → movedMinute change units drawn price ≤ highestMinutePrice
   moved-highest h = go (decLt units drawn)
     where
       go : Dec (units < drawn) → movedMinute change units drawn price ≤ highestMinutePrice
       go (yes l) = omega (arith, moved-over l)
       go (no l) = omega (arith, moved-within (omega arith))
+
+-- with exactly the units drawn it stays
+pub moved-level : (change units price : ℕ) → movedMinute change units units price ≡ price
+moved-level change units price =
+    let left : units - units ≡ 0 = omega arith in
+    let fall : change * (units - units) / units ≡ 0 = ap (λ (k : ℕ). change * k / units) left ∙ ap (λ (k : ℕ). k / units) (mul-zero change) ∙ zero-div units in
+    omega (arith, moved-within change units units price (omega arith), fall)
 
 -- ---- price lists
 
@@ -66,6 +82,11 @@ unfolding minutePrice
 first-list = record { minutes = length-replicate {A = ℕ} shiftMinutes 0; highest = zeros-bounded shiftMinutes highestMinutePrice }
 
 module _ (H : Hall) (S : List Bool) (change : ℕ) (prices : List ℕ) where
+  -- a minute's price after a round
+  pub moved-at : (m : ℕ) → m < shiftMinutes → minutePrice (movedMinutes H S change prices) m ≡ movedMinute change (H .units) (drawnAt H S m) (minutePrice prices m)
+  unfolding movedMinutes minutePrice
+  moved-at m l = tab-at shiftMinutes (λ i. movedMinute change (H .units) (drawnAt H S i) (getD prices i 0)) 0 m l
+
   pub moved-list : MinuteList prices → MinuteList (movedMinutes H S change prices)
   unfolding movedMinutes minutePrice
   moved-list k =

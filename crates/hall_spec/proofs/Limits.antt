@@ -2,19 +2,21 @@
 use mathlib.Core.Path.{_≡_, refl}
 use mathlib.Core.Bool.{Bool, true, false, cond}
 use mathlib.Core.List.{List}
-use Prim.Native.Nat.{ℕ, _≤_, _<_}
+use Prim.Native.Nat.{ℕ, _*_, _≤_, _<_}
 use native.Mathlib.Omega.{arith}
-use lib.IntN.{ℤ}
+use lib.IntN.{ℤ, pos, negsuc}
+use lib.Signed.{mag, leZ}
 use lib.ListN.{length}
 use Rattle.model.specs.Turns.{Turns}
-use Rattle.model.specs.Steps.{Step, residual, above, isOpen, initial, lessened, afterStepBy}
+use Rattle.model.specs.Steps.{Step, residual, above, isOpen, initial, lessened, afterStepBy, final}
+use Rattle.model.specs.Rules.{Right, Each, done, step}
 use Rattle.model.proofs.Residuals.{lessened-closed, residual-after-by}
 use Rattle.model.proofs.Planned.{planBy-right, steps-most, opens-most}
-use Rattle.model.proofs.Limits.{Within, AllWithin, initial-within, lessened-within}
+use Rattle.model.proofs.Limits.{Within, AllWithin, within-mag, within-range, initial-within, amount-within, lessened-within, chosen-within}
 use Rattle.hall_spec.specs.Hall.{Hall, windowCount, isSmall}
-use Rattle.hall_spec.specs.Plan.{turnsAmong, smallTakes, smallSteps}
+use Rattle.hall_spec.specs.Plan.{turnsAmong, smallTakes, smallSteps, worthIn}
 use Rattle.hall_spec.proofs.Takes.{takes-most, small-taking}
-use Rattle.hall_spec.proofs.Open.{OnlyKind}
+use Rattle.hall_spec.proofs.Open.{OnlyKind, first-only, after-only}
 
 module _ (H : Hall) (supplied : 0 < H .units) where
   abbrev T : Turns
@@ -46,6 +48,25 @@ module _ (H : Hall) (supplied : 0 < H .units) where
 
     pub first-within : AllWithin 60000 (initial T)
     first-within = initial-within T 60000 kind-worths
+
+    run-within : {s : List ℤ} {xs : List Step} → OnlyKind (isSmall H) s → AllWithin 60000 s → Each next (Right T) s xs → AllWithin 60000 (final next s xs)
+    run-within k h done = h
+    run-within k h (step {s = s} {x = x} q qs) =
+        run-within (after-only (isSmall H) (small-taking H) s x k) (next-within 60000 s x k (amount-within T 60000 h q .1) h) qs
+
+    -- after any right steps each residual is between -59,999 and 60,000
+    pub small-residuals : {xs : List Step} → Each next (Right T) (initial T) xs → (t : ℕ) →
+        let z = residual (final next (initial T) xs) t in
+        (leZ (negsuc 59998) z ≡ true) × (leZ z (pos 60000) ≡ true) × (mag z ≤ 60000)
+    small-residuals {xs} r t =
+        let z = residual (final next (initial T) xs) t in
+        let w : Within 60000 z = run-within (first-only (isSmall H) H) first-within r t in
+        let b = within-range 59998 z w in
+        (b .0, b .1, within-mag 60000 z w)
+
+    pub worth-limit : (S : List Bool) → worthIn H S ≤ windowCount H * 60000
+    unfolding worthIn
+    worth-limit S = chosen-within (windowCount H) S (H .windows .worth) 60000 worths
 
   -- there are at most as many steps as windows
   pub small-few : length (smallSteps H) ≤ windowCount H

@@ -13,8 +13,9 @@ use Rattle.lists.specs.Lists.{sum, below, All, none, more, In, here, later}
 use Rattle.model.specs.Turns.{Turns, PositiveLengths, same-groomer}
 use Rattle.model.specs.Choice.{has, chosen}
 use Rattle.model.specs.Rules.{Independent}
+use Rattle.model.specs.Feasible.{Distinct, empty, other}
 use Rattle.lists.proofs.Bools.{fails, not-apart, and-1, and-2, and-of}
-use Rattle.lists.proofs.Sums.{sum-add, sum-zero, sum-same, sum-swap, sum-hit, all-of, all-append, in-first, in-second}
+use Rattle.lists.proofs.Sums.{sum-add, sum-zero, sum-same, sum-swap, sum-hit, all-of, all-map, all-append, in-first, in-second}
 use Rattle.choice_map.specs.Choice.{onesIn, mapOf}
 use Rattle.choice_map.proofs.Clean.{map-choice, map-clean}
 use Rattle.choice_map.proofs.Counts.{ones-turns}
@@ -170,6 +171,12 @@ round-is T S h apart starts =
       );
       by-start = from-rising T S h apart shiftMinutes 0;
     }
+
+-- ---- each turn of a rising list starts before the next, so that none stands twice
+
+pub round-once : {T : Turns} {us : List ℕ} → Rising T us → Distinct us
+round-once round.none = empty
+round-once {T} (round.more {u} a h) = other {t = u} (all-map (λ v l e. omega (arith, l, ap (T .start) e)) a) (round-once h)
 
 -- ---- how many turns the rounds have
 

@@ -44,8 +44,7 @@ pub struct Lent {
 // The turn in hand where none is.
 const NO_TURN: u16 = 65535;
 
-// A standing packed into one number of 64 bits: the minutes worked count from 1, the others and the turn in hand
-// from these on.
+// A standing packed into 64 bits, 16 for each: minutes worked, driven over, stood, and the turn in hand.
 const DRIVING_UNIT: u64 = 65536;
 
 const STANDING_UNIT: u64 = 4294967296;
@@ -192,7 +191,7 @@ fn prepare_days(
     refused(refusal::BAD_DELAYS)
 }
 
-// For a board and a problem.
+// Judges the board first.
 fn prepare_board(
     p: Size,
     cols: &[u16; PLACES],

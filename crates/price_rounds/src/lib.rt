@@ -8,6 +8,7 @@ ghost use Rattle.price_rule.specs.Rules.{sizeOf, RulePosed, RunsFor};
 ghost use Rattle.price_rounds.specs.Rounds.{shiftTask, hallTask, BetterKept, RoundsStart, ReachedFrom};
 use hall_look::HallSize;
 use hall_look::MINUTES;
+use instance::MAP_BYTES;
 use instance::MOST_TURNS;
 use instance::PLACES;
 use price_rule::RuleFor;
@@ -23,9 +24,6 @@ use round_parts::is_over;
 use round_parts::keep_lower;
 use round_parts::next_change;
 use round_parts::put_ranks;
-
-// A bit for each turn that a sheet can have.
-const MAP_BYTES: usize = (MOST_TURNS + 7) / 8;
 
 // A hall has a price for each minute; the slopes and turns of a shift are fewer.
 const MOST_PRICES: usize = MINUTES;

@@ -84,7 +84,7 @@ fn put_payments(
 }
 
 // What is left of turn t's worth.
-fn left_after(p: Size, cols: &[u16; PLACES], paid: &[u32; MOST_TURNS], t: usize) -> u16
+fn unpaid_at(p: Size, cols: &[u16; PLACES], paid: &[u32; MOST_TURNS], t: usize) -> u16
     requires { ⌜ (t < p .count) × (p .count ≤ mostTurns) ⌝ }
     ensures { λ r. ⌜ r ≡ leftAfter (turnsBy p (now (cols .entry))) (now (paid .entry)) t ⌝ }
 {
@@ -94,20 +94,25 @@ fn left_after(p: Size, cols: &[u16; PLACES], paid: &[u32; MOST_TURNS], t: usize)
 
 // What is left of all turns' worths. It has a loop of its own: in one with the payments the compiler would make
 // a branch for each turn, and the branches would be mispredicted.
-fn put_left(p: Size, cols: &[u16; PLACES], paid: &[u32; MOST_TURNS], counts: &mut [u16; MOST_TURNS])
+fn put_unpaid(
+    p: Size,
+    cols: &[u16; PLACES],
+    paid: &[u32; MOST_TURNS],
+    counts: &mut [u16; MOST_TURNS],
+)
     requires { ⌜ (p .count ≤ mostTurns) × (length (now counts) ≡ mostTurns) ⌝ }
     ensures { λ _. ⌜ NumbersTo (leftAfter (turnsBy p (now (cols .entry))) (now (paid .entry))) (now (counts .exit)) (p .count) ⌝ }
 {
     let n = p.count;
     let mut t = 0;
     while t < n {
-        counts[t] = left_after(p, cols, paid, t);
+        counts[t] = unpaid_at(p, cols, paid, t);
         t += 1;
     }
 }
 
-// What all turns count for, where some may name a driver; returns the prices that the limit has in it.
-fn put_driven_counts(
+// What all turns count for, where some may name a driver; returns the limit's part that is prices.
+fn put_counts_with_drivers(
     e: Extent,
     cols: &[u16; PLACES],
     orders: &[u16; ORDERS],
@@ -122,12 +127,12 @@ fn put_driven_counts(
     put_sums(e, cols, orders, prices, &mut sums);
     let mut paid = [0u32; MOST_TURNS];
     put_payments(e, cols, orders, prices, &sums, &mut paid);
-    put_left(e.size, cols, &paid, &mut *counts);
+    put_unpaid(e.size, cols, &paid, &mut *counts);
     let n = e.size.count;
     slope_prices(prices, e.slopes) + sums[n]
 }
 
-// What all turns count for; returns the prices that the limit has in it.
+// What all turns count for; returns the limit's part that is prices.
 pub fn put_counts(
     e: Extent,
     cols: &[u16; PLACES],
@@ -140,7 +145,7 @@ pub fn put_counts(
     ensures { λ r. ⌜ (r ≡ priceSum (turnsIn e (now (cols .entry))) (e .slopes) (now (prices .entry))) × (r ≤ (mostSlopes + mostTurns) * mostPrice) ⌝ }
 {
     if 0 < driver_bound(e.size, cols) {
-        return put_driven_counts(e, cols, orders, prices, &mut *counts);
+        return put_counts_with_drivers(e, cols, orders, prices, &mut *counts);
     }
     put_slope_counts(e, cols, prices, &mut *counts);
     slope_prices(prices, e.slopes)

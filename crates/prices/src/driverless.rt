@@ -28,7 +28,7 @@ fn greater(x: u16, y: u16) -> u16
     if x < y { y } else { x }
 }
 
-// A number that no turn's driver is above.
+// A number that no turn's driver is above: with 0, no turn names one.
 pub fn driver_bound(p: Size, cols: &[u16; PLACES]) -> u16
     requires { ⌜ p .count ≤ mostTurns ⌝ }
     ensures { λ r. ⌜ DriversUpTo (turnsBy p (now (cols .entry))) (p .count) r ⌝ }

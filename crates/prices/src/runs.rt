@@ -33,7 +33,7 @@ struct Run {
 }
 
 // Whether two turns have one groomer and one end.
-fn in_one_run(x: Row, y: Row) -> bool
+fn end_together(x: Row, y: Row) -> bool
     ensures { λ r. ⌜ r ≡ (eqb (x .groomer) (y .groomer) && eqb (x .end) (y .end)) ⌝ }
 {
     (x.groomer == y.groomer) & (x.end == y.end)
@@ -48,7 +48,7 @@ fn run_start(p: Size, cols: &[u16; PLACES], order: &[u16], i: usize, from: usize
         return 0;
     }
     let last = row_at_place(cols, order, i - 1);
-    if in_one_run(last, row_at_place(cols, order, i)) {
+    if end_together(last, row_at_place(cols, order, i)) {
         return from;
     }
     i

@@ -11,20 +11,15 @@ use super::ORDERS;
 use super::runs::DRIVERS;
 use best_table::ENTRIES;
 use instance::PLACES;
+use instance::as_u32;
 use instance::row_at;
-
-fn wide(x: u16) -> u32
-    ensures { λ r. ⌜ (r ≡ x) × (r ≤ mostPrice) ⌝ }
-{
-    x as u32
-}
 
 // The price at place i.
 pub fn price_at(prices: &[u16], i: usize) -> u32
     requires { ⌜ i < length (now prices) ⌝ }
     ensures { λ r. ⌜ (r ≡ getD (now (prices .entry)) i 0) × (r ≤ mostPrice) ⌝ }
 {
-    wide(prices[i])
+    as_u32(prices[i])
 }
 
 // A price where it is due, else nothing.

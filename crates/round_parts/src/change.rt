@@ -7,13 +7,8 @@ ghost use Rattle.refine_spec.specs.Rounds.{nextChange};
 ghost use Rattle.refine_spec.specs.Shift.{greatestWorth};
 use instance::PLACES;
 use instance::Size;
+use instance::as_u32;
 use instance::row_at;
-
-fn wide(x: u16) -> u32
-    ensures { λ r. ⌜ r ≡ x ⌝ }
-{
-    x as u32
-}
 
 fn greater(x: u32, y: u32) -> u32
     ensures { λ r. ⌜ r ≡ max x y ⌝ }
@@ -38,7 +33,7 @@ pub fn greatest_worth(p: Size, cols: &[u16; PLACES]) -> u32
     let mut t = 0;
     while t < p.count {
         let row = row_at(cols, t);
-        greatest = greater(wide(row.worth), greatest);
+        greatest = greater(as_u32(row.worth), greatest);
         t += 1;
     }
     greatest

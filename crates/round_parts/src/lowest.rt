@@ -19,7 +19,7 @@ pub fn keep_lower(seen: u32, limit: u32, prices: &[u16], lowest: &mut [u16]) -> 
     seen
 }
 
-// Whether no round comes after a look.
+// Whether the rounds are over after a look.
 pub fn is_over(limit: u32, worth: u32, made: u32, rounds: u32) -> bool
     ensures { λ r. ⌜ r ≡ (eqb limit worth || eqb made rounds) ⌝ }
 {

@@ -5,13 +5,8 @@ ghost use Rattle.instance.specs.Columns.{turnsBy, Held};
 ghost use Rattle.selection.specs.Below.{chosenBelow};
 use instance::PLACES;
 use instance::Size;
+use instance::as_u32;
 use instance::row_at;
-
-fn wide(x: u16) -> u32
-    ensures { λ r. ⌜ r ≡ x ⌝ }
-{
-    x as u32
-}
 
 // The worths of the turns that a map has chosen, together; only these are gone through.
 pub fn worth_chosen(p: Size, cols: &[u16; PLACES], map: &[u8]) -> u32
@@ -22,7 +17,7 @@ pub fn worth_chosen(p: Size, cols: &[u16; PLACES], map: &[u8]) -> u32
     let mut t = choice_map::next_chosen(map, 0);
     while t < p.count {
         let row = row_at(cols, t);
-        sum += wide(row.worth);
+        sum += as_u32(row.worth);
         t = choice_map::next_chosen(map, t + 1);
     }
     sum

@@ -14,15 +14,10 @@ use super::RUNS;
 use instance::MOST_TURNS;
 use instance::PLACES;
 use instance::Size;
+use instance::as_place;
 use prices::DRIVERS;
 use prices::ORDERS;
 use prices::TOS;
-
-pub fn index(x: u16) -> usize
-    ensures { λ r. ⌜ r ≡ x ⌝ }
-{
-    x as usize
-}
 
 // A turn of an order, and where its run ends.
 struct Placed {
@@ -61,7 +56,7 @@ fn first_near(runs: &[u16; RUNS], at: usize, low: usize, k: usize) -> usize
 {
     let mut j = low;
     while j < k {
-        if k < index(runs[at + ENDS + j]) {
+        if k < as_place(runs[at + ENDS + j]) {
             return j;
         }
         j += 1;
@@ -74,7 +69,7 @@ fn put_place(runs: &mut [u16; RUNS], at: usize, k: usize, x: Placed, low: usize)
     requires { ⌜ (k < mostTurns) × (x .turn < mostTurns) × (low ≤ k) × (at ≤ driverColumns) × (length (now runs) ≡ columnPlaces) ⌝ }
     ensures { λ _. ⌜ now (runs .exit) ≡ withRunPlace (now (runs .entry)) at k (x .turn) (x .end) low ⌝ }
 {
-    let t = index(x.turn);
+    let t = as_place(x.turn);
     runs[at + t] = k as u16;
     runs[at + ENDS + k] = x.end;
     runs[at + LOWS + k] = low as u16;

@@ -36,7 +36,7 @@ use Rattle.sheet.proofs.Accepting.{sheet-reads}
 use Rattle.write_spec.specs.Order.{turnAtMost, sortedTurns, SameTurns, InWrittenOrder}
 use Rattle.write_spec.specs.Write.{mapFor, recordsOf, allRecords, sheetOf, writtenTurns, turnsCauses, tableCauses, writeCauses, writeOf}
 use Rattle.write_spec.proofs.WriteMaps.{map-good, map-below, map-carries}
-use Rattle.write_spec.proofs.Orders.{sorted-length, sorted-iff, sorted-same, sorted-stay, sorted-twice, unsorted-all}
+use Rattle.write_spec.proofs.Orders.{sorted-length, sorted-iff, sorted-order, sorted-same, sorted-stay, sorted-twice, unsorted-all}
 use Rattle.write_spec.proofs.Writable.{Writable, table-writable, table-numbered, fine-all, all-fine, write-clear}
 use Rattle.write_spec.proofs.Shortest.{shortest, shortest-only}
 use Rattle.refusal.specs.Outcome.{beside, unless}
@@ -166,6 +166,10 @@ pub write-then-read : (counts : Counts) (table out lent : List ℕ) → writeOf 
 write-then-read counts table out lent e l =
     let a = write-accepts counts table out e in
     rw (writing counts table out (a .0) (a .1), take-append-seam) (sheet-back counts table lent (a .0) l)
+
+-- the turns of the table so read are those of the table that was written, each as often, in the written order
+pub read-in-order : (table : List ℕ) → InWrittenOrder (tableTurns table) (tableTurns (rows (writtenTurns table)))
+read-in-order table = rw (turns-rows (writtenTurns table)) (sorted-order (tableTurns table))
 
 -- ---- a sheet that was read, written again
 

@@ -1,4 +1,4 @@
--- `corpus::main` is safe and ends: the count that is left falls with each case.
+-- Invariant: none is needed. Measure: the cases left.
 use borrow.Author.Needs.{needs}
 use Rattle.corpus.proofs.main.Statement.{statement}
 use Rattle.corpus.proofs.main.Tie as tie

@@ -1,11 +1,11 @@
 use Rattle.prices.proofs.CountCases.{left-counts}
 use Rattle.prices.proofs.SumCases.{both-cases}
 use borrow.Author.Needs.{needs}
-use Rattle.prices.proofs.counts.put_driven_counts.Statement.{statement}
-use Rattle.prices.proofs.counts.put_driven_counts.Tie as tie
+use Rattle.prices.proofs.counts.put_counts_with_drivers.Statement.{statement}
+use Rattle.prices.proofs.counts.put_counts_with_drivers.Tie as tie
 
-pub put-driven-counts-spec : {M : Type 1} → statement M
-put-driven-counts-spec =
+pub put-counts-with-drivers-spec : {M : Type 1} → statement M
+put-counts-with-drivers-spec =
     tie.close
     (tie.spec
     (λ c κs. search needs)

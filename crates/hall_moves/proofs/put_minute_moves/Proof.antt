@@ -4,8 +4,8 @@ use Rattle.hall_moves.proofs.MoveCases.{each-cases}
 use Prim.Native.Nat.{_-_, _≤_}
 use Rattle.turn.specs.Turn.{shiftMinutes}
 use Rattle.hall_moves.specs.Moves.{EachTo}
-use Rattle.hall_moves.proofs.put_each.Statement.{statement}
-use Rattle.hall_moves.proofs.put_each.Tie as tie
+use Rattle.hall_moves.proofs.put_minute_moves.Statement.{statement}
+use Rattle.hall_moves.proofs.put_minute_moves.Tie as tie
 
 abbrev Inv-loop : tie.InvT-loop
 Inv-loop units change moves drawn by₀ m₀ by m = EachTo units change drawn by m × (m ≤ shiftMinutes)
@@ -13,8 +13,8 @@ Inv-loop units change moves drawn by₀ m₀ by m = EachTo units change drawn by
 abbrev μ-loop : tie.MeasureT-loop
 μ-loop units change moves drawn by₀ m₀ by m = shiftMinutes - m
 
-pub put-each-spec : {M : Type 1} → statement M
-put-each-spec =
+pub put-minute-moves-spec : {M : Type 1} → statement M
+put-minute-moves-spec =
     tie.close
     (tie.spec
     Inv-loop
