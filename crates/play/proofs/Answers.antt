@@ -12,6 +12,7 @@ use Rattle.lists.specs.Lists.{tab}
 use Rattle.lists.proofs.Bools.{and-1, and-2}
 use Rattle.refusal.specs.Number.{bufferTooSmall, badDelays}
 use Rattle.refusal.specs.Cause.{Cause, firstOf}
+use Rattle.refusal.specs.Outcome.{beside}
 use Rattle.refusal.proofs.Order.{first-stops, first-goes}
 use Rattle.turn.specs.Turn.{shiftMinutes}
 use Rattle.sheet.specs.Kind.{mostGroomers}
@@ -47,7 +48,7 @@ use Rattle.play.specs.declared.Lent.{Lent}
 use Rattle.play_days.specs.Table.{blankTable, GroomersKnown, Playable}
 use Rattle.play_days.proofs.Rows.{blank-places}
 use Rattle.play_spec.specs.Standing.{standingAfter}
-use Rattle.play_spec.specs.Play.{servesFor, lentCauses, playCauses, dayAt, standingsOf, played, playRefused, playOf}
+use Rattle.play_spec.specs.Play.{servesFor, lentCauses, playCauses, dayAt, standingsOf, playRefused, playOf}
 use Rattle.play_spec.specs.Minutes.{minutesFrom}
 use Rattle.play.specs.Prepared.{PreparedBy, PreparedFor}
 use Rattle.play_spec.proofs.ListedStandings.{minutes-say}
@@ -225,19 +226,19 @@ standingsUpTo s b delays k = tab k (λ g. standingAfter (dayOf (sheetTurns s) (b
 
 module _ (s b delays : List ℕ) (lent : List Standing) (p : Prepared) (table : List ℕ) (w : PreparedFor s b delays (length lent) p table) {r : PlayAnswer} (x : r ≡ record { refusal = p .refusal; groomers = p .groomers }) where
   -- where something is refused, the list is as it was
-  pub play-refused : (p .refusal ≡ 0 → ⊥) → played r lent ≡ playOf s b delays lent
+  pub play-refused : (p .refusal ≡ 0 → ⊥) → beside r lent ≡ playOf s b delays lent
   unfolding playOf
   play-refused z =
       let c : r ≡ playRefused (p .refusal) = x ∙ (λ i. record { refusal = p .refusal; groomers = w .none z i }) in
-      rw c (sym (unless-first (playCauses s b delays (length lent)) _ (λ k. played (playRefused k) lent) (p .refusal) (sym (w .number)) z))
+      rw c (sym (unless-first (playCauses s b delays (length lent)) _ (λ k. beside (playRefused k) lent) (p .refusal) (sym (w .number)) z))
 
-  pub play-answer : p .refusal ≡ 0 → {zs : List Standing} → zs ≡ minutesFrom shiftMinutes 0 (p .moved) lent table → played r zs ≡ playOf s b delays lent
+  pub play-answer : p .refusal ≡ 0 → {zs : List Standing} → zs ≡ minutesFrom shiftMinutes 0 (p .moved) lent table → beside r zs ≡ playOf s b delays lent
   unfolding playOf standingsOf dayAt
   play-answer z y =
       let n : p .groomers ≡ countsIn s .groomers = w .groomers-are z in
       let a = y ∙ minutes-say (sheetTurns s) (boardChoice b) (delayIn delays) table (w .days z) (p .moved) (w .few) lent (w .inside) shiftMinutes (omega arith) (omega arith) ∙ ap (λ (k : ℕ). standingsUpTo s b delays k ++ drop k lent) (w .moved-are ∙ n) in
       let c : r ≡ record { refusal = 0; groomers = countsIn s .groomers } = x ∙ (λ i. record { refusal = z i; groomers = n i }) in
-      rw (a, c) (sym (unless-none (playCauses s b delays (length lent)) _ (λ k. played (playRefused k) lent) (sym (w .number) ∙ z)))
+      rw (a, c) (sym (unless-none (playCauses s b delays (length lent)) _ (λ k. beside (playRefused k) lent) (sym (w .number) ∙ z)))
 
 -- ---- the test of a refusal's number, as a branch leaves it
 

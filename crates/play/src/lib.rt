@@ -5,6 +5,7 @@ ghost use mathlib.Core.Bool.{false};
 ghost use mathlib.Core.List.{_++_};
 ghost use Prim.Native.Nat.{_+_, _≤_, _<_};
 ghost use lib.ListN.{length};
+ghost use Rattle.refusal.specs.Outcome.{beside};
 ghost use Rattle.turn.specs.Turn.{shiftMinutes};
 ghost use Rattle.sheet.specs.Kind.{mostGroomers};
 ghost use Rattle.instance.specs.Columns.{turnsBy, Held};
@@ -14,7 +15,7 @@ ghost use Rattle.board_open.specs.Open.{malformed};
 ghost use Rattle.check_spec.specs.Check.{boardCauses};
 ghost use Rattle.play_spec.specs.DayTable.{dayTablePlaces, doingBy};
 ghost use Rattle.play_spec.specs.Standing.{freshOf, movedBy, totalOf};
-ghost use Rattle.play_spec.specs.Play.{servesFor, lentCauses, played, playOf};
+ghost use Rattle.play_spec.specs.Play.{servesFor, lentCauses, playOf};
 ghost use Rattle.play_spec.specs.Minutes.{begunOf, stepOf, minuteOf, minutesFrom, MinuteReady, AllReady};
 ghost use Rattle.play_days.specs.Table.{blankTable, GroomersKnown, Playable};
 ghost use Rattle.play.specs.Packed.{addedBy, mostAdded};
@@ -255,7 +256,7 @@ pub fn play<'a>(
     delays: &'a [u16],
     list: &mut [Standing],
 ) -> PlayAnswer
-    ensures { λ r. ⌜ played r (now (list .exit)) ≡ playOf (now (sheet .entry)) (now (board .entry)) (now (delays .entry)) (now (list .entry)) ⌝ }
+    ensures { λ r. ⌜ beside r (now (list .exit)) ≡ playOf (now (sheet .entry)) (now (board .entry)) (now (delays .entry)) (now (list .entry)) ⌝ }
 {
     let mut table = [MINUTES; DAY_TABLE_PLACES];
     let p = checked(sheet, board, delays, list.len(), &mut table);

@@ -1,4 +1,4 @@
--- The list of standings as it is moved, minute by minute and groomer by groomer, by a table that holds the days. The promises use `minuteOf` and `minutesFrom`; the rest is for inner functions only (request R-13). Assumes nothing.
+-- The list of standings as it is moved, minute by minute and groomer by groomer, by a table that holds the days. The promises use `minuteOf`, which is made of `begunOf` and `stepOf`, and `minutesFrom`; the rest is for inner functions only (request R-13). Assumes nothing.
 use mathlib.Core.Path.{_≡_}
 use Prim.Native.Nat.{ℕ, zero, suc, _+_, _<_, _/_}
 use mathlib.Core.Bool.{cond}

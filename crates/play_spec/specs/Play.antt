@@ -47,10 +47,6 @@ standingsOf s b delays = tab (countsIn s .groomers) (λ g. standingAfter (dayAt 
 abbrev pub playRefused : ℕ → PlayAnswer
 playRefused k = record { refusal = k; groomers = 0 }
 
--- what is returned, and what the lent list holds then
-abbrev pub played : PlayAnswer → List Standing → Outcome PlayAnswer (List Standing)
-played answer list = beside answer list
-
 -- on success the number of groomers, and each one's standing at its place, then what was there; on a refusal all as before
 unfoldable pub playOf : List ℕ → List ℕ → List ℕ → List Standing → Outcome PlayAnswer (List Standing)
 playOf s b delays lent =

@@ -55,7 +55,8 @@ use Rattle.sheet.specs.Kind.{mostGroomers}
 use Rattle.play_spec.specs.declared.Standing.{Standing}
 use Rattle.play.specs.declared.Prepared.{Prepared}
 use Rattle.play_spec.specs.declared.PlayAnswer.{PlayAnswer}
-use Rattle.play_spec.specs.Play.{played, playOf}
+use Rattle.refusal.specs.Outcome.{beside}
+use Rattle.play_spec.specs.Play.{playOf}
 use Rattle.play_spec.specs.Minutes.{minutesFrom}
 use Rattle.play.specs.Prepared.{PreparedFor}
 use Rattle.play_days.specs.Table.{blankTable}
@@ -185,7 +186,7 @@ module _ {M : Type 1} (𝓤 : URA M) (H : Heap 𝓤) (A : Atoms 𝓤) (W : Given
   Post = walkOf 𝓤 H A f.ended stayed (f.clauses 𝓤 H A mem run) .post (((κ′, (κ, tt)), (q′, (q, tt)), tt, a, vals), tt)
 
   -- the exit: what says the list's last value, zs
-  exits : (r : PlayAnswer) (v : Val) (zs : List Standing) → played r zs ≡ playOf (c .now) (d .now) (e .now) ys → length zs ≡ length ys
+  exits : (r : PlayAnswer) (v : Val) (zs : List Standing) → beside r zs ≡ playOf (c .now) (d .now) (e .now) ys → length zs ≡ length ys
       → ent 𝓤 (⋆ 𝓤 H A (‵ (E.the-row .own r (v ∷ [])) ∷ (‵ (flft κ′ q′) ⊛ ‵ (flft κ q) ⊛ ‵ ftrue) ∷ ‵ (finally T.the-row γ zs) ∷ ‵ Sheet ∷ ‵ Board ∷ ‵ Delays ∷ [])) (Post v)
   exits r v zs is as-long =
       qed W (‵ (E.the-row .own r (v ∷ [])) ∷ (‵ (flft κ′ q′) ⊛ ‵ (flft κ q) ⊛ ‵ ftrue) ∷ ‵ (finally T.the-row γ zs) ∷ ‵ Sheet ∷ ‵ Board ∷ ‵ Delays ∷ []) ∵
