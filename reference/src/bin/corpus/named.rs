@@ -414,6 +414,7 @@ const PLANS: &str = "
 0 one end, equally rich: 1 1 0 60 50 0, 2 1 30 30 50 0
 0 one end, poorer by what remains: 1 1 0 30 60 0, 4 1 20 70 109 0, 3 2 30 60 50 0
 0 three groups: 1 1 3 1 5 1, 1 2 3 2 5 0, 2 1 3 2 5 2, 3 3 3 3 5 1
+0 worth above the tally: 1 1 0 60 10 0, 2 1 0 80 100 0, 1 2 0 80 100 0
 ";
 
 /// Each is planned, and its plan is checked.
