@@ -22,7 +22,6 @@ use Rattle.board_open.proofs.Openings.{opened, shut, formed-steps, formed-map, 
 use Rattle.instance.specs.declared.columns.Size.{Size}
 use Rattle.instance.specs.Columns.{turnsBy, Held}
 use Rattle.selection.specs.Bounds.{HeldWithMap}
-use Rattle.selection.specs.Below.{chosenBelow}
 use Rattle.replay.specs.declared.replay.Judgement.{Judgement}
 use Rattle.check_spec.specs.Check.{choiceCauses, stepCauses, ruleCauses, sumCauses, partCauses, boardCauses}
 use Rattle.replay.specs.Judged.{faultAt, judged}
@@ -31,8 +30,8 @@ use Rattle.replay.proofs.Faults.{fault-judged, judged-number, judged-same}
 -- ---- the choice
 
 module _ (p : Size) (cols : List ℕ) (S : List Bool) where
-  chosen-below : chosen (turnsBy p cols .count) S (turnsBy p cols .worth) ≡ chosenBelow (turnsBy p cols) S (p .count)
-  unfolding chosen chosenBelow turnsBy
+  chosen-below : chosen (turnsBy p cols .count) S (turnsBy p cols .worth) ≡ chosen (p .count) S (turnsBy p cols .worth)
+  unfolding chosen chosen turnsBy
   chosen-below = refl
 
   module _ {i : Bool} (e : i ≡ independent (turnsBy p cols) S) where
@@ -70,7 +69,7 @@ module _ (tallied worth amounts earned : ℕ) where
 
 pub ruleset wrong-cases = (wrong-tally, other-worth, wrong-below)
 
-module _ (size : Size) (cols : List ℕ) (S : List Bool) (xs : List Step) (b : List ℕ) {tallied worth amounts earned : ℕ} (r : Bool) (u : tallied ≡ boardTally b) (v : worth ≡ boardWorth b) (p : amounts ≡ tally xs) (q : earned ≡ chosenBelow (turnsBy size cols) S (size .count)) (e : not r ≡ (eqb tallied amounts && (eqb worth earned && leb tallied worth))) where
+module _ (size : Size) (cols : List ℕ) (S : List Bool) (xs : List Step) (b : List ℕ) {tallied worth amounts earned : ℕ} (r : Bool) (u : tallied ≡ boardTally b) (v : worth ≡ boardWorth b) (p : amounts ≡ tally xs) (q : earned ≡ chosen (size .count) S (turnsBy size cols .worth)) (e : not r ≡ (eqb tallied amounts && (eqb worth earned && leb tallied worth))) where
   sums-is : sums (turnsBy size cols) S xs (boardTally b) (boardWorth b) ≡ not r
   unfolding sums
   sums-is = sym (e ∙ rw (p, q, ← chosen-below size cols S, u, v))

@@ -26,7 +26,6 @@ use Rattle.instance_spec.specs.Problem.{problemOf}
 use Rattle.instance.specs.Load.{PosedFor}
 use Rattle.instance_spec.proofs.SheetTurns.{sheet-count-for}
 use Rattle.instance.proofs.Rows.{count-is}
-use Rattle.selection.specs.Below.{chosenBelow}
 use Rattle.selection.specs.Bounds.{StepsOf}
 use Rattle.hall_spec.specs.Hall.{hallGap, Hall, windowCount, isWide, isSmall}
 use Rattle.hall_spec.specs.Plan.{chooseAmong, wideChoice, smallChoice, worthIn, hallChoice, hallWorth}
@@ -72,8 +71,8 @@ module _ (a : OneKind) (cols : List ℕ) (held : HallHeld (a .units) (a .size) c
     unfolding kindChoice
     choice-is = c ∙ ap (chooseAmong (kindHall a cols) (ofKind a cols)) (written-read a cols held e l room p)
 
-    pub kind-worth-is : {r : ℕ} → r ≡ chosenBelow (turnsBy (a .size) cols) (choiceIn (a .size .count) map) (a .size .count) → r ≡ worthIn (kindHall a cols) (kindChoice a cols)
-    unfolding chosenBelow worthIn chosen
+    pub kind-worth-is : {r : ℕ} → r ≡ chosen (a .size .count) (choiceIn (a .size .count) map) (turnsBy (a .size) cols .worth) → r ≡ worthIn (kindHall a cols) (kindChoice a cols)
+    unfolding chosen worthIn chosen
     kind-worth-is q = q ∙ rw (choice-is, count-is (a .size) cols)
 
     pub kind-map-is : Clean (a .size .count) map → map ≡ mapOf (kindChoice a cols)

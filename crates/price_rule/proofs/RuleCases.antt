@@ -12,7 +12,6 @@ use Rattle.best_spec.specs.Table.{bestWorth, bestChoice}
 use Rattle.instance.specs.declared.columns.Size.{Size}
 use Rattle.instance.specs.Columns.{columnPlaces, turnsBy, Held}
 use Rattle.instance.proofs.Rows.{count-is}
-use Rattle.selection.specs.Below.{chosenBelow}
 use Rattle.selection.specs.Asked.{NumbersOf}
 use Rattle.best_table.specs.OrderAndTable.{Ranged}
 use Rattle.price_spec.specs.Prices.{priceSum}
@@ -83,7 +82,7 @@ module _ (r : RuleFor) (e : Extent) (g : r ≡ Shift e) where
     unfolding RunsFor
     shift-by-runs runs h = rw g at h
 
-    pub shift-worth : (map : List ℕ) {x : ℕ} → x ≡ chosenBelow (turnsBy (e .size) cols) (choiceIn (e .size .count) map) (e .size .count) → x ≡ chosenBelow (turnsBy (sizeOf r) cols) (choiceIn (sizeOf r .count) map) (sizeOf r .count)
+    pub shift-worth : (map : List ℕ) {x : ℕ} → x ≡ chosen (e .size .count) (choiceIn (e .size .count) map) (turnsBy (e .size) cols .worth) → x ≡ chosen (sizeOf r .count) (choiceIn (sizeOf r .count) map) (turnsBy (sizeOf r) cols .worth)
     unfolding sizeOf
     shift-worth map q = rw g q
 
@@ -152,7 +151,7 @@ module _ (r : RuleFor) (h : HallSize) (g : r ≡ Hall h) where
     unfolding RunsFor
     hall-runs runs q = rw g q
 
-    pub hall-worth : (map : List ℕ) {x : ℕ} → x ≡ chosenBelow (turnsBy (h .size) cols) (choiceIn (h .size .count) map) (h .size .count) → x ≡ chosenBelow (turnsBy (sizeOf r) cols) (choiceIn (sizeOf r .count) map) (sizeOf r .count)
+    pub hall-worth : (map : List ℕ) {x : ℕ} → x ≡ chosen (h .size .count) (choiceIn (h .size .count) map) (turnsBy (h .size) cols .worth) → x ≡ chosen (sizeOf r .count) (choiceIn (sizeOf r .count) map) (turnsBy (sizeOf r) cols .worth)
     unfolding sizeOf
     hall-worth map q = rw g q
 
@@ -230,8 +229,8 @@ module _ (r : RuleFor) (cols : List ℕ) where
     choice-made f = list-made (sizeOf r) cols ranks e relaxed list count q (fitsOf r cols) f
 
     pub choice-worth : (map : List ℕ) {x : ℕ} → choiceIn (sizeOf r .count) map ≡ chooseEach (fitsOf r cols) (take count list) (replicate (sizeOf r .count) false)
-        → x ≡ chosenBelow (turnsBy (sizeOf r) cols) (choiceIn (sizeOf r .count) map) (sizeOf r .count) → x ≡ ruleWorth r cols (choiceOf r cols (choiceIn (sizeOf r .count) relaxed))
-    unfolding chosenBelow ruleWorth chosen
+        → x ≡ chosen (sizeOf r .count) (choiceIn (sizeOf r .count) map) (turnsBy (sizeOf r) cols .worth) → x ≡ ruleWorth r cols (choiceOf r cols (choiceIn (sizeOf r .count) relaxed))
+    unfolding chosen ruleWorth chosen
     choice-worth map f h = h ∙ rw (choice-made f, count-is (sizeOf r) cols)
 
 pub ruleset from-cases = (rule-held, ranks-numbers, ranks-bits, ranks-fit, list-fits, list-numbers, list-size, choice-made, choice-worth)

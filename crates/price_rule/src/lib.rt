@@ -5,11 +5,10 @@ ghost use mathlib.Core.Bool.{false};
 ghost use Prim.Native.Nat.{_≤_};
 ghost use lib.ListN.{length, replicate};
 ghost use Rattle.turn.specs.Turn.{mostWorth};
-ghost use Rattle.model.specs.Choice.{chooseEach};
+ghost use Rattle.model.specs.Choice.{chooseEach, chosen};
 ghost use Rattle.choice_map.specs.Choice.{choiceIn, Clean};
 ghost use Rattle.instance.specs.Columns.{columnPlaces, turnsBy};
 ghost use Rattle.selection.specs.Asked.{NumbersOf};
-ghost use Rattle.selection.specs.Below.{chosenBelow};
 ghost use Rattle.hall_spec.specs.Hall.{staysAllowed};
 ghost use Rattle.hall_look.specs.Look.{hallFor, HallPosed};
 ghost use Rattle.prices.specs.OrdersAndCounts.{orderPlaces};
@@ -95,7 +94,7 @@ fn choose_in_hall(h: HallSize, cols: &[u16; PLACES], list: &[u16], map: &mut [u8
     ensures { λ _. ⌜ choiceIn (h .size .count) (now (map .exit))
         ≡ chooseEach (staysAllowed (hallFor h (now (cols .entry)))) (now (list .entry)) (replicate (h .size .count) false) ⌝ }
     ensures { λ x. ⌜ Clean (h .size .count) (now (map .exit))
-        × (x ≡ chosenBelow (turnsBy (h .size) (now (cols .entry))) (choiceIn (h .size .count) (now (map .exit))) (h .size .count)) ⌝ }
+        × (x ≡ chosen (h .size .count) (choiceIn (h .size .count) (now (map .exit))) (turnsBy (h .size) (now (cols .entry)) .worth)) ⌝ }
 {
     let p = h.size;
     // wide plays no part: choose_listed takes windows of both kinds.
@@ -121,7 +120,7 @@ fn choose_listed(
     ensures { λ _. ⌜ choiceIn (sizeOf r .count) (now (map .exit))
         ≡ chooseEach (fitsOf r (now (cols .entry))) (now (list .entry)) (replicate (sizeOf r .count) false) ⌝ }
     ensures { λ x. ⌜ Clean (sizeOf r .count) (now (map .exit))
-        × (x ≡ chosenBelow (turnsBy (sizeOf r) (now (cols .entry))) (choiceIn (sizeOf r .count) (now (map .exit))) (sizeOf r .count)) ⌝ }
+        × (x ≡ chosen (sizeOf r .count) (choiceIn (sizeOf r .count) (now (map .exit))) (turnsBy (sizeOf r) (now (cols .entry)) .worth)) ⌝ }
 {
     match r {
         RuleFor::Shift(e) => selection_by_runs::choose_listed(e.size, cols, runs, list, &mut *map),

@@ -22,7 +22,6 @@ use Rattle.instance.specs.declared.ways.Row.{Row}
 use Rattle.instance.specs.declared.columns.Size.{Size}
 use Rattle.instance.specs.Columns.{rowIn, turnsBy, Held}
 use Rattle.instance.proofs.Rows.{worth-at}
-use Rattle.selection.specs.Below.{chosenBelow}
 
 -- what the turns before t that a map has chosen are worth
 unfoldable pub worthBefore : Turns → List ℕ → ℕ → ℕ
@@ -95,8 +94,8 @@ module _ (p : Size) (cols map : List ℕ) (w : Held p cols) (c : Clean (p .count
             is = omega (arith, k .is, f, worth-at p cols t l e, worth-one T map t (k .here l), worth-skip T map (t + 1) u n (λ v i j. next-clear map (t + 1) v i (omega (arith, g))));
           }
 
-  pub worth-done : {t s : ℕ} → p .count ≤ t → WorthTo p cols map s t → s ≡ chosenBelow (turnsBy p cols) (choiceIn (p .count) map) (p .count)
-  unfolding worthBefore chosenBelow chosen
+  pub worth-done : {t s : ℕ} → p .count ≤ t → WorthTo p cols map s t → s ≡ chosen (p .count) (choiceIn (p .count) map) (turnsBy p cols .worth)
+  unfolding worthBefore chosen chosen
   worth-done {t} l k =
       k .is ∙ worth-skip T map (p .count) t l (λ u a b. clear-bits (p .count) map (c .clear) u a (omega (arith, k .within, c .size)))
       ∙ sum-same (λ u. cond (chosenIn map u) (T .worth u) 0) (λ u. cond (has (choiceIn (p .count) map) u) (T .worth u) 0) (p .count) (λ u h. ap (λ (b : Bool). cond b (T .worth u) 0) (sym (choice-has (p .count) map u h)))

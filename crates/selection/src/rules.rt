@@ -4,12 +4,11 @@ ghost use mathlib.Core.Path.{_≡_};
 ghost use mathlib.Core.Bool.{cond};
 ghost use Prim.Native.Nat.{_<_};
 ghost use lib.ListN.{length, replicate};
-ghost use Rattle.model.specs.Choice.{has};
+ghost use Rattle.model.specs.Choice.{has, chosen};
 ghost use Rattle.model.specs.Rules.{independent, maximal};
 ghost use Rattle.choice_map.specs.Choice.{choiceIn};
 ghost use Rattle.instance.specs.Columns.{columnPlaces, slopePlaces, turnsBy};
 ghost use Rattle.selection.specs.Bounds.{HeldWithMap};
-ghost use Rattle.selection.specs.Below.{chosenBelow};
 ghost use Rattle.selection.specs.Gathered.{Gathered};
 use super::gathered::fits_beside;
 use super::gathered::gather_if_fits;
@@ -123,7 +122,7 @@ fn worth_if_chosen(p: Size, cols: &[u16; PLACES], map: &[u8], t: usize) -> u32
 // What the chosen turns are worth together.
 pub fn chosen_worth(p: Size, cols: &[u16; PLACES], map: &[u8]) -> u32
     requires { ⌜ HeldWithMap p (now cols) (now map) ⌝ }
-    ensures { λ r. ⌜ r ≡ chosenBelow (turnsBy p (now (cols .entry))) (choiceIn (p .count) (now (map .entry))) (p .count) ⌝ }
+    ensures { λ r. ⌜ r ≡ chosen (p .count) (choiceIn (p .count) (now (map .entry))) (turnsBy p (now (cols .entry)) .worth) ⌝ }
 {
     let n = p.count;
     let mut sum: u32 = 0;
