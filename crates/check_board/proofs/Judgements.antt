@@ -31,7 +31,7 @@ use Rattle.replay.proofs.Faults.{fault-judged, judged-number, judged-same}
 
 module _ (p : Size) (cols : List ℕ) (S : List Bool) where
   chosen-below : chosen (turnsBy p cols .count) S (turnsBy p cols .worth) ≡ chosen (p .count) S (turnsBy p cols .worth)
-  unfolding chosen chosen turnsBy
+  unfolding chosen turnsBy
   chosen-below = refl
 
   module _ {i : Bool} (e : i ≡ independent (turnsBy p cols) S) where

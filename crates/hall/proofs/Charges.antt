@@ -72,7 +72,7 @@ module _ (a : OneKind) (cols : List ℕ) (held : HallHeld (a .units) (a .size) c
     choice-is = c ∙ ap (chooseAmong (kindHall a cols) (ofKind a cols)) (written-read a cols held e l room p)
 
     pub kind-worth-is : {r : ℕ} → r ≡ chosen (a .size .count) (choiceIn (a .size .count) map) (turnsBy (a .size) cols .worth) → r ≡ worthIn (kindHall a cols) (kindChoice a cols)
-    unfolding chosen worthIn chosen
+    unfolding chosen worthIn
     kind-worth-is q = q ∙ rw (choice-is, count-is (a .size) cols)
 
     pub kind-map-is : Clean (a .size .count) map → map ≡ mapOf (kindChoice a cols)

@@ -252,10 +252,10 @@ module _ (most : List ℕ) (n : ℕ) (few : n ≤ mostVehicles) where
   pub sum-place : {k sum : ℕ} → SummedBests most n k sum → k < n → k + 1 < vehiclePlaces
   sum-place s l = omega arith
 
-  pub sum-fits : {k sum x : ℕ} → SummedBests most n k sum → k < n → x ≤ mostPrice → Fits w32 (sum + x)
+  pub sum-fits : {k sum x : ℕ} → SummedBests most n k sum → k < n → x < 65536 → Fits w32 (sum + x)
   sum-fits s l h = omega (arith, s .small)
 
-  pub sum-more : {k sum x : ℕ} → SummedBests most n k sum → k < n → x ≡ getD most (k + 1) 0 → x ≤ mostPrice → SummedBests most n (k + 1) (sum + x)
+  pub sum-more : {k sum x : ℕ} → SummedBests most n k sum → k < n → x ≡ getD most (k + 1) 0 → x < 65536 → SummedBests most n (k + 1) (sum + x)
   unfolding bestsSum
   sum-more {k} {sum} {x} s l e h = record { within = omega arith; is = let z = s .is in rw (add-one k) (omega (arith, z, e)); small = omega (arith, s .small) }
 

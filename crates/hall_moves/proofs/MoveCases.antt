@@ -183,7 +183,7 @@ module _ (by old : List ℕ) where
     pub moved-inside : m < shiftMinutes → m < length new
     moved-inside h = omega (arith, moved-long)
 
-    pub moved-more : {p x : ℕ} → m < shiftMinutes → p ≡ getD new m 0 → p ≤ mostPrice → x ≡ min highestMinutePrice (p + getD by m 0 - noMove) → MovedTo (set new m x) (m + 1)
+    pub moved-more : {p x : ℕ} → m < shiftMinutes → p ≡ getD new m 0 → p < 65536 → x ≡ min highestMinutePrice (p + getD by m 0 - noMove) → MovedTo (set new m x) (m + 1)
     moved-more {x = x} h e a f =
         record {
           within = omega arith;

@@ -230,7 +230,7 @@ module _ (r : RuleFor) (cols : List ℕ) where
 
     pub choice-worth : (map : List ℕ) {x : ℕ} → choiceIn (sizeOf r .count) map ≡ chooseEach (fitsOf r cols) (take count list) (replicate (sizeOf r .count) false)
         → x ≡ chosen (sizeOf r .count) (choiceIn (sizeOf r .count) map) (turnsBy (sizeOf r) cols .worth) → x ≡ ruleWorth r cols (choiceOf r cols (choiceIn (sizeOf r .count) relaxed))
-    unfolding chosen ruleWorth chosen
+    unfolding chosen ruleWorth
     choice-worth map f h = h ∙ rw (choice-made f, count-is (sizeOf r) cols)
 
 pub ruleset from-cases = (rule-held, ranks-numbers, ranks-bits, ranks-fit, list-fits, list-numbers, list-size, choice-made, choice-worth)

@@ -95,7 +95,7 @@ module _ (p : Size) (cols map : List ℕ) (w : Held p cols) (c : Clean (p .count
           }
 
   pub worth-done : {t s : ℕ} → p .count ≤ t → WorthTo p cols map s t → s ≡ chosen (p .count) (choiceIn (p .count) map) (turnsBy p cols .worth)
-  unfolding worthBefore chosen chosen
+  unfolding worthBefore chosen
   worth-done {t} l k =
       k .is ∙ worth-skip T map (p .count) t l (λ u a b. clear-bits (p .count) map (c .clear) u a (omega (arith, k .within, c .size)))
       ∙ sum-same (λ u. cond (chosenIn map u) (T .worth u) 0) (λ u. cond (has (choiceIn (p .count) map) u) (T .worth u) 0) (p .count) (λ u h. ap (λ (b : Bool). cond b (T .worth u) 0) (sym (choice-has (p .count) map u h)))
