@@ -6,6 +6,8 @@ use mathlib.Core.List.{List}
 use native.Mathlib.Omega.{arith}
 use native.Mathlib.Numerals.{add-one}
 use native.Mathlib.Decide.{decLt, ℕ-discrete}
+use mir.Syntax.{w64}
+use mir.Val.{Fits}
 use lib.Dec.{ltb, leb, eqb}
 use lib.ListN.{length, getD, set, replicate, length-set, length-replicate, getD-replicate}
 use lib.Seq.{getD-set-same, getD-set-other}
@@ -17,8 +19,8 @@ use Rattle.sheet.specs.Kind.{mostTurns}
 use Rattle.model.specs.Choice.{has, chosen}
 use Rattle.choice_map.specs.Choice.{chosenIn, choiceIn, Clean}
 use Rattle.choice_map.proofs.Clean.{choice-has, clean-bits}
-use Rattle.prices.specs.OrdersAndCounts.{paidFrom, paidTo}
-use Rattle.shift_moves.specs.Moves.{payerPlaces, numberBehind, timesChosen, timesBefore, payersBefore, payersPresent, SmallNumbers, Times, PaidRuns, Summable, Present, Payers}
+use Rattle.prices.specs.OrdersAndCounts.{orderPlaces, driversTurn, paidFrom, paidTo}
+use Rattle.shift_moves.specs.Moves.{payerPlaces, numberBehind, timesChosen, timesBefore, payersBefore, payersPresent, SmallNumbers, Times, PaidRuns, Summable, Present, Payers, EachOnce}
 
 -- ---- a count is no more than what is counted
 
@@ -162,7 +164,7 @@ module _ (n : ℕ) (S : List Bool) (orders : List ℕ) (r : PaidRuns n orders) w
           joined = λ m l. omega (arith, js .values m (omega (arith, r .few)), times-most n S (paidFrom orders) m, r .few);
         }
 
-    pub payers-present : (payers : List ℕ) → Present joining leaving payers n → Payers n S orders payers
+    pub payers-present : (payers : List ℕ) → Present orders joining leaving payers n → Payers n S orders payers
     payers-present payers p = record { values = λ j l. omega (arith, p .values j l, sums-are (j + 1) (omega arith)) }
 
 module _ (n : ℕ) (orders : List ℕ) (r : PaidRuns n orders) where
@@ -176,53 +178,58 @@ pub ruleset payer-cases = (runs-from, runs-to, payers-summable, payers-present)
 
 -- ---- summing up
 
--- the payers of the first i places are put, and those of the place before the next are at hand
-pub record Along (n : ℕ) (joining leaving payers : List ℕ) (here i : ℕ) : Type 0 where
+-- the turns at the first i places have their payers, and those of the last of these places are at hand
+pub record Along (n : ℕ) (orders joining leaving payers : List ℕ) (here i : ℕ) : Type 0 where
   pub within : i ≤ n
-  pub present : Present joining leaving payers i
+  pub present : Present orders joining leaving payers i
   pub now-here : here ≡ payersPresent joining leaving i
 
-module _ (n : ℕ) (joining leaving : List ℕ) (w : Summable n joining leaving) where
-  pub along-start : Along n joining leaving joining 0 0
-  along-start = record { within = omega arith; present = record { places = w .places; values = λ j l. absurd (omega arith); others = λ j l. refl }; now-here = omega arith }
+module _ (n : ℕ) (orders joining leaving : List ℕ) (w : Summable n joining leaving) where
+  pub along-start : {payers : List ℕ} → length payers ≡ payerPlaces → Along n orders joining leaving payers 0 0
+  along-start l = record { within = omega arith; present = record { places = l; values = λ j l. absurd (omega arith) }; now-here = omega arith }
 
-  module _ (payers : List ℕ) {here i : ℕ} (s : Along n joining leaving payers here i) where
+  module _ (payers : List ℕ) {here i : ℕ} (s : Along n orders joining leaving payers here i) where
     module _ (h : i < n) where
       pub along-inside : i < payerPlaces
       along-inside = omega (arith, w .few)
 
-      joined-here : getD payers i 0 ≡ getD joining i 0
-      joined-here = s .present .others i (omega arith)
+      pub along-read : 2 * mostTurns + i < orderPlaces
+      along-read = omega (arith, w .few)
 
-      pub along-fits : here + getD payers i 0 < 65536
-      along-fits = omega (arith, s .now-here, joined-here, w .small i (omega arith), w .joined i h)
+      pub along-fits : here + getD joining i 0 < 65536
+      along-fits = omega (arith, s .now-here, w .small i (omega arith), w .joined i h)
 
       next-sums : (sumBefore joining (i + 1) ≡ getD joining i 0 + sumBefore joining i) × (sumBefore leaving (i + 1) ≡ getD leaving i 0 + sumBefore leaving i)
       next-sums = (rw (add-one i), rw (add-one i))
 
-      pub along-left : getD leaving i 0 ≤ here + getD payers i 0
-      along-left = let (a, b) = next-sums in omega (arith, s .now-here, joined-here, w .left i (omega arith), w .left (i + 1) (omega arith))
+      pub along-left : getD leaving i 0 ≤ here + getD joining i 0
+      along-left = let (a, b) = next-sums in omega (arith, s .now-here, w .left i (omega arith), w .left (i + 1) (omega arith))
 
-      pub along-more : Along n joining leaving (set payers i (here + getD payers i 0 - getD leaving i 0)) (here + getD payers i 0 - getD leaving i 0) (i + 1)
-      along-more =
-          record {
-            within = omega arith;
-            present = record {
-              places = length-set payers i (here + getD payers i 0 - getD leaving i 0) ∙ s .present .places;
-              values = λ j l. value j l (ℕ-discrete j i);
-              others = λ j l. getD-set-other payers i j (here + getD payers i 0 - getD leaving i 0) 0 (omega arith) ∙ s .present .others j (omega arith);
-            };
-            now-here = now-next;
-          }
-        where
-          now-next : here + getD payers i 0 - getD leaving i 0 ≡ payersPresent joining leaving (i + 1)
-          now-next = let (a, b) = next-sums in omega (arith, s .now-here, joined-here, w .left i (omega arith))
+      module _ (o : EachOnce n orders) {u : ℕ} (q : u ≡ driversTurn orders i) where
+        pub along-place : u < payerPlaces
+        along-place = omega (arith, q, o .inside i h, w .few)
 
-          value : (j : ℕ) → j < i + 1 → Dec (j ≡ i) → getD (set payers i (here + getD payers i 0 - getD leaving i 0)) j 0 ≡ payersPresent joining leaving (j + 1)
-          value j l (yes q) = rw q (getD-set-same payers i (here + getD payers i 0 - getD leaving i 0) 0 (omega (arith, s .present .places, w .few)) ∙ now-next)
-          value j l (no q) = getD-set-other payers i j (here + getD payers i 0 - getD leaving i 0) 0 q ∙ s .present .values j (omega arith)
+        pub along-scaled : Fits w64 (u * 2)
+        along-scaled = omega (arith, along-place)
 
-    pub along-done : n ≤ i → Present joining leaving payers n
+        pub along-more : Along n orders joining leaving (set payers u (here + getD joining i 0 - getD leaving i 0)) (here + getD joining i 0 - getD leaving i 0) (i + 1)
+        along-more =
+            record {
+              within = omega arith;
+              present = record { places = length-set payers u (here + getD joining i 0 - getD leaving i 0) ∙ s .present .places; values = λ j l. value j l (ℕ-discrete j i) };
+              now-here = now-next;
+            }
+          where
+            now-next : here + getD joining i 0 - getD leaving i 0 ≡ payersPresent joining leaving (i + 1)
+            now-next = let (a, b) = next-sums in omega (arith, s .now-here, w .left i (omega arith))
+
+            value : (j : ℕ) → j < i + 1 → Dec (j ≡ i) → getD (set payers u (here + getD joining i 0 - getD leaving i 0)) (driversTurn orders j) 0 ≡ payersPresent joining leaving (j + 1)
+            value j l (yes z) =
+                rw (z, sym q) (getD-set-same payers u (here + getD joining i 0 - getD leaving i 0) 0 (omega (arith, s .present .places, along-place)) ∙ now-next)
+            value j l (no z) =
+                getD-set-other payers u (driversTurn orders j) (here + getD joining i 0 - getD leaving i 0) 0 (λ e. o .apart j i (omega arith) h (e ∙ q)) ∙ s .present .values j (omega arith)
+
+    pub along-done : n ≤ i → Present orders joining leaving payers n
     along-done h = let q : i ≡ n = omega (arith, s .within) in rw q at (s .present)
 
-pub ruleset along-cases = (along-start, along-inside, along-fits, along-left, along-more, along-done)
+pub ruleset along-cases = (along-start, along-inside, along-read, along-fits, along-left, along-place, along-scaled, along-more, along-done)
