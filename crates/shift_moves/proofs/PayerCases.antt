@@ -1,5 +1,5 @@
 -- Who pays, counted and summed up, by cases in the form in which the code's loops leave them. Assumes nothing.
-use Prim.Native.Nat.{ℕ, zero, suc, _+_, _-_, _*_, _≤_, _<_}
+use Prim.Native.Nat.{ℕ, zero, suc, _+_, _-_, _*_, _/_, _≤_, _<_}
 use mathlib.Core.Path.{_≡_, refl, sym, ap, _∙_}
 use mathlib.Core.Bool.{Bool, true, false, cond, _&&_}
 use mathlib.Core.List.{List}
@@ -20,7 +20,7 @@ use Rattle.model.specs.Choice.{has, chosen}
 use Rattle.choice_map.specs.Choice.{chosenIn, choiceIn, Clean}
 use Rattle.choice_map.proofs.Clean.{choice-has, clean-bits}
 use Rattle.prices.specs.OrdersAndCounts.{orderPlaces, driversTurn, paidFrom, paidTo}
-use Rattle.shift_moves.specs.Moves.{payerPlaces, numberBehind, timesChosen, timesBefore, payersBefore, payersPresent, SmallNumbers, Times, PaidRuns, Summable, Present, Payers, EachOnce}
+use Rattle.shift_moves.specs.Moves.{payerPlaces, numberBehind, timesChosen, timesBefore, payersBefore, payersPresent, SmallNumbers, TimesTo, Times, PaidRuns, Summable, Present, Payers, EachOnce}
 
 -- ---- a count is no more than what is counted
 
@@ -46,11 +46,15 @@ payers-most n S orders m = sum-most (has S) (λ t. ltb (paidFrom orders t) m && 
 
 -- ---- counting the turns of a map by their numbers
 
--- the turns of the map before t are counted
-pub record TimesTo (n : ℕ) (map numbers : List ℕ) (at : ℕ) (times : List ℕ) (t : ℕ) : Type 0 where
+-- the turns of the map before t are counted, and these are no more than n
+pub record CountedTo (n : ℕ) (map numbers : List ℕ) (at : ℕ) (times : List ℕ) (t : ℕ) : Type 0 where
   pub within : t ≤ n
-  pub places : length times ≡ payerPlaces
-  pub values : (k : ℕ) → k ≤ mostTurns → getD times k 0 ≡ timesBefore map (numberBehind numbers at) t k
+  pub counted : TimesTo map numbers at times t
+
+-- those of the first q bytes are
+pub record BytesTo (n : ℕ) (map numbers : List ℕ) (at : ℕ) (times : List ℕ) (q : ℕ) : Type 0 where
+  pub within : q ≤ n / 8
+  pub counted : TimesTo map numbers at times (8 * q)
 
 pub no-zero : (s : Bool) → _≡_ {A = ℕ} (cond s 0 0) 0
 no-zero true = refl
@@ -64,13 +68,8 @@ module _ (n : ℕ) (relaxed numbers : List ℕ) (at : ℕ) where
   abbrev f : ℕ → ℕ
   f = numberBehind numbers at
 
-  pub times-start : {times : List ℕ} → times ≡ replicate payerPlaces 0 → TimesTo n relaxed numbers at times 0
-  unfolding timesBefore
-  times-start q =
-      record { within = omega arith; places = rw q (length-replicate {A = ℕ} payerPlaces 0); values = λ k m. rw q (getD-replicate {A = ℕ} payerPlaces k 0 0 (omega arith)) }
-
-  pub times-bit : {t : ℕ} → Clean n relaxed → t < n → t < 8 * length relaxed
-  times-bit c h = omega (arith, clean-bits c)
+  pub times-start : (times : List ℕ) {t : ℕ} → t ≤ n → TimesTo relaxed numbers at times t → CountedTo n relaxed numbers at times t
+  times-start times l s = record { within = l; counted = s }
 
   module _ (w : SmallNumbers n numbers at) {t : ℕ} (h : t < n) where
     pub times-read : at + t < length numbers
@@ -80,35 +79,66 @@ module _ (n : ℕ) (relaxed numbers : List ℕ) (at : ℕ) where
       pub times-inside : k ≤ mostTurns
       times-inside = omega (arith, g, w .small t h)
 
-      module _ (times : List ℕ) (s : TimesTo n relaxed numbers at times t) where
+      module _ (times : List ℕ) (s : CountedTo n relaxed numbers at times t) where
         pub times-room : getD times k 0 < mostTurns
-        times-room = omega (arith, s .values k times-inside, before-most relaxed f t k, w .few)
+        times-room = omega (arith, s .counted .values k times-inside, before-most relaxed f t k, w .few)
 
-        pub times-more : {b : Bool} {x : ℕ} {times′ : List ℕ} → b ≡ chosenIn relaxed t → x ≡ cond b 1 0 → times′ ≡ set times k (getD times k 0 + x) → TimesTo n relaxed numbers at times′ (t + 1)
+        pub times-more : {b : Bool} {x : ℕ} {times′ : List ℕ} → b ≡ chosenIn relaxed t → x ≡ cond b 1 0 → times′ ≡ set times k (getD times k 0 + x) → CountedTo n relaxed numbers at times′ (t + 1)
         times-more {b} {x} e d q =
-            rw q (record { within = omega arith; places = length-set times k (getD times k 0 + x) ∙ s .places; values = λ m l. one m l (ℕ-discrete m k) ∙ sym (times-step relaxed f t m) })
+            rw q (record { within = omega arith; counted = record { places = length-set times k (getD times k 0 + x) ∙ s .counted .places; values = λ m l. one m l (ℕ-discrete m k) ∙ sym (times-step relaxed f t m) } })
           where
             adds : x ≡ cond (chosenIn relaxed t) 1 0
             adds = d ∙ ap (λ (c : Bool). cond c 1 0) e
 
             one : (m : ℕ) → m ≤ mostTurns → Dec (m ≡ k) → getD (set times k (getD times k 0 + x)) m 0 ≡ cond (chosenIn relaxed t) (cond (eqb (f t) m) 1 0) 0 + timesBefore relaxed f t m
             one m l (yes z) =
-                rw (z, getD-set-same times k (getD times k 0 + x) 0 (omega (arith, s .places, times-inside)), eq-eqb (getD numbers (at + t) 0) k (sym g)) (omega (arith, s .values k times-inside, adds))
+                rw (z, getD-set-same times k (getD times k 0 + x) 0 (omega (arith, s .counted .places, times-inside)), eq-eqb (getD numbers (at + t) 0) k (sym g)) (omega (arith, s .counted .values k times-inside, adds))
             one m l (no z) =
-                rw (getD-set-other times k m (getD times k 0 + x) 0 z, ne-eqb (getD numbers (at + t) 0) m (λ y. z (sym y ∙ sym g))) (omega (arith, s .values m l, no-zero (chosenIn relaxed t)))
+                rw (getD-set-other times k m (getD times k 0 + x) 0 z, ne-eqb (getD numbers (at + t) 0) m (λ y. z (sym y ∙ sym g))) (omega (arith, s .counted .values m l, no-zero (chosenIn relaxed t)))
 
-  pub times-done : (times : List ℕ) {t : ℕ} → n ≤ t → TimesTo n relaxed numbers at times t → Times n (choiceIn n relaxed) (numberBehind numbers at) times
+  pub times-done : (times : List ℕ) {t : ℕ} → n ≤ t → CountedTo n relaxed numbers at times t → TimesTo relaxed numbers at times n
+  times-done times {t} h s = let e : t ≡ n = omega (arith, s .within) in rw e at (s .counted)
+
+pub ruleset times-cases = (times-start, times-read, times-inside, times-room, times-more, times-done)
+
+-- ---- byte by byte of the map
+
+module _ (n : ℕ) (relaxed numbers : List ℕ) (at : ℕ) where
+  pub bytes-start : {times : List ℕ} → times ≡ replicate payerPlaces 0 → BytesTo n relaxed numbers at times 0
+  unfolding timesBefore
+  bytes-start q =
+      record { within = omega arith; counted = record { places = rw q (length-replicate {A = ℕ} payerPlaces 0); values = λ k m. rw q (getD-replicate {A = ℕ} payerPlaces k 0 0 (omega arith)) } }
+
+  module _ {q : ℕ} (h : q < n / 8) where
+    pub bytes-numbers : SmallNumbers n numbers at → SmallNumbers (8 * q + 8) numbers at
+    bytes-numbers w = record { few = omega (arith, w .few); within = omega (arith, w .within); small = λ t l. w .small t (omega arith) }
+
+    pub bytes-bits : Clean n relaxed → 8 * q + 8 ≤ 8 * length relaxed
+    bytes-bits c = omega (arith, clean-bits c)
+
+    pub bytes-more : (times : List ℕ) → TimesTo relaxed numbers at times (8 * q + 8) → BytesTo n relaxed numbers at times (q + 1)
+    bytes-more times s = let e : 8 * q + 8 ≡ 8 * (q + 1) = omega arith in record { within = omega arith; counted = rw e at s }
+
+  pub bytes-counted : (times : List ℕ) {q : ℕ} → BytesTo n relaxed numbers at times q → TimesTo relaxed numbers at times (8 * q)
+  bytes-counted times s = s .counted
+
+  pub bytes-done : (times : List ℕ) {q : ℕ} → n / 8 ≤ q → BytesTo n relaxed numbers at times q → TimesTo relaxed numbers at times (8 * (n / 8))
+  bytes-done times {q} h s = let e : q ≡ n / 8 = omega (arith, s .within) in rw e at (s .counted)
+
+  pub bytes-end : Clean n relaxed → n ≤ 8 * length relaxed
+  bytes-end c = clean-bits c
+
+  pub bytes-all : (times : List ℕ) → TimesTo relaxed numbers at times n → Times n (choiceIn n relaxed) (numberBehind numbers at) times
   unfolding timesChosen timesBefore chosen
-  times-done times {t} h s =
-      let e : t ≡ n = omega (arith, s .within) in
+  bytes-all times s =
+      let f : ℕ → ℕ = numberBehind numbers at in
       record {
         places = s .places;
         values = λ k m. s .values k m
-            ∙ ap (λ (u : ℕ). timesBefore relaxed f u k) e
             ∙ sum-same (λ u. cond (chosenIn relaxed u) (cond (eqb (f u) k) 1 0) 0) (λ u. cond (has (choiceIn n relaxed) u) (cond (eqb (f u) k) 1 0) 0) n (λ u l. ap (λ (b : Bool). cond b (cond (eqb (f u) k) 1 0) 0) (sym (choice-has n relaxed u l)));
       }
 
-pub ruleset times-cases = (times-start, times-bit, times-read, times-inside, times-room, times-more, times-done)
+pub ruleset bytes-cases = (bytes-start, bytes-numbers, bytes-bits, bytes-more, bytes-counted, bytes-done, bytes-end, bytes-all)
 
 -- ---- along the drivers' order
 

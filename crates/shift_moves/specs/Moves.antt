@@ -78,6 +78,11 @@ pub record SmallNumbers (n : ℕ) (numbers : List ℕ) (at : ℕ) : Type 0 where
   pub within : at + n ≤ length numbers
   pub small : (t : ℕ) → t < n → numberBehind numbers at t ≤ mostTurns
 
+-- for each number, how many of the first t turns that a map has chosen have it
+pub record TimesTo (map numbers : List ℕ) (at : ℕ) (times : List ℕ) (t : ℕ) : Type 0 where
+  pub places : length times ≡ payerPlaces
+  pub values : (k : ℕ) → k ≤ mostTurns → getD times k 0 ≡ timesBefore map (numberBehind numbers at) t k
+
 -- for each number, how many turns of a set have it
 pub record Times (n : ℕ) (S : List Bool) (f : ℕ → ℕ) (times : List ℕ) : Type 0 where
   pub places : length times ≡ payerPlaces
