@@ -68,15 +68,16 @@ module _ (T : Turns) (orders : List ℕ) (o : Ordered T orders) where
   unfolding byDrivers
   drivers-count = refl
 
+  pub turn-place : (u : ℕ) → u < T .count → (j : ℕ) × (j < T .count) × (driversTurn orders j ≡ u)
+  turn-place u h = let (j, l, q) = order-place (byDrivers T) u (omega (arith, drivers-count)) in let k : j < T .count = omega (arith, drivers-count) in (j, k, o .drivers j k ∙ q)
+
   each-once : EachOnce (T .count) orders
   each-once =
       record {
         inside = λ j h. omega (arith, o .drivers j h, order-within (byDrivers T) j (omega (arith, drivers-count)), drivers-count);
         apart = λ i j l h e. order-apart (byDrivers T) i j l (omega (arith, drivers-count)) (sym (o .drivers i (omega arith)) ∙ e ∙ o .drivers j h);
+        all = turn-place;
       }
-
-  pub turn-place : (u : ℕ) → u < T .count → (j : ℕ) × (j < T .count) × (driversTurn orders j ≡ u)
-  turn-place u h = let (j, l, q) = order-place (byDrivers T) u (omega (arith, drivers-count)) in let k : j < T .count = omega (arith, drivers-count) in (j, k, o .drivers j k ∙ q)
 
   runs-of : T .count ≤ mostTurns → PaidRuns (T .count) orders
   runs-of l = record { places = o .places; few = l; rising = λ t h. o .runs t h .rising; within = λ t h. o .runs t h .within }

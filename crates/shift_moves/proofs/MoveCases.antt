@@ -24,7 +24,7 @@ use Rattle.instance.specs.Columns.{rowIn, turnsBy}
 use Rattle.instance.proofs.Rows.{count-is, slope-at}
 use Rattle.price_spec.specs.Prices.{slopePrice, turnPrice}
 use Rattle.prices.specs.declared.Extent.{Extent}
-use Rattle.prices.specs.OrdersAndCounts.{mostPrice, turnsIn, orderPlaces, driversTurn, DriversUpTo, Ordered, Priced}
+use Rattle.prices.specs.OrdersAndCounts.{mostPrice, turnsIn, driversTurn, DriversUpTo, Ordered, Priced}
 use Rattle.prices.proofs.DriverlessCases.{none-named}
 use Rattle.refine_spec.specs.Shift.{highestPrice, slopePayers, turnPayers, movedPrice, turnChange, movedPrices}
 use Rattle.shift_moves.specs.Moves.{payerPlaces, numberBehind, timesChosen, payersBefore, nobody, payersAt, payersAfter, slopePayersIn, turnPayersIn, ownPlace, placeBehind, turnPricePlace, SmallNumbers, Times, PaidRuns, Payers, FewPayers, EachOnce, MovedBy}
@@ -176,92 +176,75 @@ pub ruleset slope-cases = (slope-numbers, slope-few, slope-moved, slope-within)
 
 -- ---- the turns' prices
 
-module _ (change : ℕ) (e : Extent) (orders payers old : List ℕ) where
-  -- those of the turns at the first j places of the drivers' order are moved
-  pub record TurnsMoved (new : List ℕ) (j : ℕ) : Type 0 where
-    pub within : j ≤ e .size .count
-    pub moved : MovedBy change (payersAt payers) (turnPricePlace (e .slopes) orders) j old new
+module _ (change : ℕ) (e : Extent) (payers : ℕ → ℕ) (old : List ℕ) where
+  -- those of the first u turns are moved
+  pub record TurnsMoved (new : List ℕ) (u : ℕ) : Type 0 where
+    pub within : u ≤ e .size .count
+    pub moved : MovedBy change payers (placeBehind (e .slopes)) u old new
 
   pub turns-start : TurnsMoved old 0
-  turns-start = record { within = omega arith; moved = moved-none change (payersAt payers) (turnPricePlace (e .slopes) orders) old }
+  turns-start = record { within = omega arith; moved = moved-none change payers (placeBehind (e .slopes)) old }
 
-  module _ (new : List ℕ) {j : ℕ} (s : TurnsMoved new j) where
+  module _ (new : List ℕ) {u : ℕ} (s : TurnsMoved new u) where
     pub turns-long : length new ≡ length old
     turns-long = s .moved .size
 
-    pub turns-done : e .size .count ≤ j → MovedBy change (payersAt payers) (turnPricePlace (e .slopes) orders) (e .size .count) old new
-    turns-done h = let q : j ≡ e .size .count = omega (arith, s .within) in rw q at (s .moved)
+    pub turns-done : e .size .count ≤ u → MovedBy change payers (placeBehind (e .slopes)) (e .size .count) old new
+    turns-done h = let q : u ≡ e .size .count = omega (arith, s .within) in rw q at (s .moved)
 
-    module _ (h : j < e .size .count) where
-      pub turns-place : e .size .count ≤ mostTurns → j < payerPlaces
-      turns-place l = omega arith
+    module _ (h : u < e .size .count) where
+      pub turns-fits : e .slopes ≤ mostSlopes → e .size .count ≤ mostTurns → Fits w64 (e .slopes + u)
+      turns-fits k l = omega arith
 
-      pub turns-read : e .size .count ≤ mostTurns → 2 * mostTurns + j < orderPlaces
-      turns-read l = omega arith
+      module _ (l : length old ≡ e .slopes + e .size .count) where
+        pub turns-inside : e .slopes + u < length new
+        turns-inside = omega (arith, turns-long)
 
-      pub turns-few : FewPayers (e .size .count) payers → getD payers j 0 ≤ mostTurns
-      unfolding FewPayers
-      turns-few f = f j h
+        pub turns-more : {new′ : List ℕ} → new′ ≡ set new (e .slopes + u) (movedPrice change (payers u) (getD new (e .slopes + u) 0)) → TurnsMoved new′ (u + 1)
+        turns-more g = rw g (record { within = omega arith; moved = moved-more change payers (placeBehind (e .slopes)) old u new (omega arith) (λ i m z. omega arith) (s .moved) })
 
-      module _ (o : EachOnce (e .size .count) orders) {x : ℕ} (q : x ≡ driversTurn orders j) where
-        pub turns-fits : e .slopes ≤ mostSlopes → e .size .count ≤ mostTurns → Fits w64 (e .slopes + x)
-        turns-fits k l = omega (arith, q, o .inside j h)
+-- by those that a table has
+module _ (e : Extent) (payers : List ℕ) {u : ℕ} (h : u < e .size .count) where
+  pub paid-place : e .size .count ≤ mostTurns → u < payerPlaces
+  paid-place l = omega arith
 
-        module _ (l : length old ≡ e .slopes + e .size .count) where
-          pub turns-inside : e .slopes + x < length new
-          turns-inside = omega (arith, q, o .inside j h, turns-long)
-
-          pub turns-more : {new′ : List ℕ} → new′ ≡ set new (e .slopes + x) (movedPrice change (getD payers j 0) (getD new (e .slopes + x) 0)) → TurnsMoved new′ (j + 1)
-          turns-more g =
-              rw (g, q) (record {
-                within = omega arith;
-                moved = moved-more change (payersAt payers) (turnPricePlace (e .slopes) orders) old j new (omega (arith, o .inside j h)) (λ i m z. o .apart i j m h (omega arith)) (s .moved);
-              })
-
-pub ruleset turns-moved-cases = (turns-start, turns-long, turns-done, turns-place, turns-read, turns-few, turns-fits, turns-inside, turns-more)
-
-module _ (e : Extent) (orders relaxed : List ℕ) (r : PaidRuns (e .size .count) orders) (payers : List ℕ) (ps : Payers (e .size .count) (choiceIn (e .size .count) relaxed) orders payers) where
-  pub turn-few : FewPayers (e .size .count) payers
+  pub paid-few : FewPayers (e .size .count) payers → getD payers u 0 ≤ mostTurns
   unfolding FewPayers
-  turn-few k h = omega (arith, ps .values k h, payers-most (e .size .count) (choiceIn (e .size .count) relaxed) orders (k + 1), r .few)
+  paid-few f = f u h
 
-  pub turn-moved : (change : ℕ) (old new : List ℕ) {c : ℕ} → c ≡ turnChange change → MovedBy c (payersAt payers) (turnPricePlace (e .slopes) orders) (e .size .count) old new
+pub ruleset turns-moved-cases = (turns-start, turns-long, turns-done, turns-fits, turns-inside, turns-more, paid-place, paid-few)
+
+-- where none has a payer, all of them fall
+pub lowered-more : (change : ℕ) (e : Extent) (old new : List ℕ) {u : ℕ} → TurnsMoved change e nobody old new u → u < e .size .count → length old ≡ e .slopes + e .size .count → {new′ : List ℕ} →
+    new′ ≡ set new (e .slopes + u) (getD new (e .slopes + u) 0 - change) → TurnsMoved change e nobody old new′ (u + 1)
+unfolding movedPrice
+lowered-more change e old new s h l g = turns-more change e nobody old new s h l g
+
+pub ruleset lowered-cases = (turns-start, turns-long, turns-done, turns-fits, turns-inside, lowered-more)
+
+module _ (e : Extent) (orders relaxed payers : List ℕ) (ps : Payers (e .size .count) (choiceIn (e .size .count) relaxed) orders payers) (o : EachOnce (e .size .count) orders) where
+  pub turn-few : PaidRuns (e .size .count) orders → FewPayers (e .size .count) payers
+  unfolding FewPayers
+  turn-few r u h =
+      let (j, l, q) = o .all u h in
+      let p : getD payers u 0 ≡ payersBefore (e .size .count) (choiceIn (e .size .count) relaxed) orders (j + 1) = ap (λ (x : ℕ). getD payers x 0) (sym q) ∙ ps .values j l in
+      omega (arith, p, payers-most (e .size .count) (choiceIn (e .size .count) relaxed) orders (j + 1), r .few)
+
+  -- turn by turn is place by place of the drivers' order
+  pub turn-moved : (change : ℕ) (old new : List ℕ) {c : ℕ} → c ≡ turnChange change → MovedBy c (payersAt payers) (placeBehind (e .slopes)) (e .size .count) old new
       → MovedBy (turnChange change) (turnPayersIn e orders relaxed) (turnPricePlace (e .slopes) orders) (e .size .count) old new
-  turn-moved change old new q s = moved-same (turnChange change) (payersAt payers) (turnPricePlace (e .slopes) orders) old (turnPayersIn e orders relaxed) (e .size .count) new (ps .values) (rw q at s)
+  turn-moved change old new q s =
+      let m : MovedBy (turnChange change) (payersAt payers) (placeBehind (e .slopes)) (e .size .count) old new = rw q at s in
+      record {
+        size = m .size;
+        done = λ j l. m .done (driversTurn orders j) (o .inside j l) ∙ ap (λ (k : ℕ). movedPrice (turnChange change) k (getD old (e .slopes + driversTurn orders j) 0)) (ps .values j l);
+        others = λ x h. m .others x (λ u k z. let (j, l, p) = o .all u k in h j l (ap (λ (y : ℕ). e .slopes + y) p ∙ z));
+      }
 
 pub turn-count : (e : Extent) (orders : List ℕ) → PaidRuns (e .size .count) orders → e .size .count ≤ mostTurns
 turn-count e orders r = r .few
 
 pub ruleset turn-cases = (turn-few, turn-moved, turn-count)
-
--- ---- the turns' prices where none has a payer
-
-module _ (change : ℕ) (e : Extent) (old : List ℕ) where
-  -- those of the first u turns are moved
-  pub record TurnsLowered (new : List ℕ) (u : ℕ) : Type 0 where
-    pub within : u ≤ e .size .count
-    pub moved : MovedBy change nobody (placeBehind (e .slopes)) u old new
-
-  pub lowered-start : TurnsLowered old 0
-  lowered-start = record { within = omega arith; moved = moved-none change nobody (placeBehind (e .slopes)) old }
-
-  module _ (new : List ℕ) {u : ℕ} (s : TurnsLowered new u) where
-    pub lowered-done : e .size .count ≤ u → MovedBy change nobody (placeBehind (e .slopes)) (e .size .count) old new
-    lowered-done h = let q : u ≡ e .size .count = omega (arith, s .within) in rw q at (s .moved)
-
-    module _ (h : u < e .size .count) where
-      pub lowered-fits : e .slopes ≤ mostSlopes → e .size .count ≤ mostTurns → Fits w64 (e .slopes + u)
-      lowered-fits k l = omega arith
-
-      module _ (l : length old ≡ e .slopes + e .size .count) where
-        pub lowered-inside : e .slopes + u < length new
-        lowered-inside = omega (arith, s .moved .size)
-
-        pub lowered-more : {new′ : List ℕ} → new′ ≡ set new (e .slopes + u) (getD new (e .slopes + u) 0 - change) → TurnsLowered new′ (u + 1)
-        unfolding movedPrice
-        lowered-more g = rw g (record { within = omega arith; moved = moved-more change nobody (placeBehind (e .slopes)) old u new (omega arith) (λ i m z. omega arith) (s .moved) })
-
-pub ruleset lowered-cases = (lowered-start, lowered-done, lowered-fits, lowered-inside, lowered-more)
 
 -- ---- all prices
 

@@ -1,11 +1,13 @@
 -- Who pays, counted and summed up, by cases in the form in which the code's loops leave them. Assumes nothing.
-use Prim.Native.Nat.{ℕ, zero, suc, _+_, _-_, _*_, _≤_, _<_}
+use Prim.Native.Nat.{ℕ, zero, suc, _+_, _-_, _*_, _/_, _≤_, _<_}
 use mathlib.Core.Path.{_≡_, refl, sym, ap, _∙_}
 use mathlib.Core.Bool.{Bool, true, false, cond, _&&_}
 use mathlib.Core.List.{List}
 use native.Mathlib.Omega.{arith}
 use native.Mathlib.Numerals.{add-one}
 use native.Mathlib.Decide.{decLt, ℕ-discrete}
+use mir.Syntax.{w64}
+use mir.Val.{Fits}
 use lib.Dec.{ltb, leb, eqb}
 use lib.ListN.{length, getD, set, replicate, length-set, length-replicate, getD-replicate}
 use lib.Seq.{getD-set-same, getD-set-other}
@@ -17,8 +19,8 @@ use Rattle.sheet.specs.Kind.{mostTurns}
 use Rattle.model.specs.Choice.{has, chosen}
 use Rattle.choice_map.specs.Choice.{chosenIn, choiceIn, Clean}
 use Rattle.choice_map.proofs.Clean.{choice-has, clean-bits}
-use Rattle.prices.specs.OrdersAndCounts.{paidFrom, paidTo}
-use Rattle.shift_moves.specs.Moves.{payerPlaces, numberBehind, timesChosen, timesBefore, payersBefore, payersPresent, SmallNumbers, Times, PaidRuns, Summable, Present, Payers}
+use Rattle.prices.specs.OrdersAndCounts.{orderPlaces, driversTurn, paidFrom, paidTo}
+use Rattle.shift_moves.specs.Moves.{payerPlaces, numberBehind, timesChosen, timesBefore, payersBefore, payersPresent, SmallNumbers, TimesTo, Times, PaidRuns, Summable, Present, Payers, EachOnce}
 
 -- ---- a count is no more than what is counted
 
@@ -44,11 +46,15 @@ payers-most n S orders m = sum-most (has S) (λ t. ltb (paidFrom orders t) m && 
 
 -- ---- counting the turns of a map by their numbers
 
--- the turns of the map before t are counted
-pub record TimesTo (n : ℕ) (map numbers : List ℕ) (at : ℕ) (times : List ℕ) (t : ℕ) : Type 0 where
+-- the turns of the map before t are counted, and these are no more than n
+pub record CountedTo (n : ℕ) (map numbers : List ℕ) (at : ℕ) (times : List ℕ) (t : ℕ) : Type 0 where
   pub within : t ≤ n
-  pub places : length times ≡ payerPlaces
-  pub values : (k : ℕ) → k ≤ mostTurns → getD times k 0 ≡ timesBefore map (numberBehind numbers at) t k
+  pub counted : TimesTo map numbers at times t
+
+-- those of the first q bytes are
+pub record BytesTo (n : ℕ) (map numbers : List ℕ) (at : ℕ) (times : List ℕ) (q : ℕ) : Type 0 where
+  pub within : q ≤ n / 8
+  pub counted : TimesTo map numbers at times (8 * q)
 
 pub no-zero : (s : Bool) → _≡_ {A = ℕ} (cond s 0 0) 0
 no-zero true = refl
@@ -62,13 +68,8 @@ module _ (n : ℕ) (relaxed numbers : List ℕ) (at : ℕ) where
   abbrev f : ℕ → ℕ
   f = numberBehind numbers at
 
-  pub times-start : {times : List ℕ} → times ≡ replicate payerPlaces 0 → TimesTo n relaxed numbers at times 0
-  unfolding timesBefore
-  times-start q =
-      record { within = omega arith; places = rw q (length-replicate {A = ℕ} payerPlaces 0); values = λ k m. rw q (getD-replicate {A = ℕ} payerPlaces k 0 0 (omega arith)) }
-
-  pub times-bit : {t : ℕ} → Clean n relaxed → t < n → t < 8 * length relaxed
-  times-bit c h = omega (arith, clean-bits c)
+  pub times-start : (times : List ℕ) {t : ℕ} → t ≤ n → TimesTo relaxed numbers at times t → CountedTo n relaxed numbers at times t
+  times-start times l s = record { within = l; counted = s }
 
   module _ (w : SmallNumbers n numbers at) {t : ℕ} (h : t < n) where
     pub times-read : at + t < length numbers
@@ -78,35 +79,66 @@ module _ (n : ℕ) (relaxed numbers : List ℕ) (at : ℕ) where
       pub times-inside : k ≤ mostTurns
       times-inside = omega (arith, g, w .small t h)
 
-      module _ (times : List ℕ) (s : TimesTo n relaxed numbers at times t) where
+      module _ (times : List ℕ) (s : CountedTo n relaxed numbers at times t) where
         pub times-room : getD times k 0 < mostTurns
-        times-room = omega (arith, s .values k times-inside, before-most relaxed f t k, w .few)
+        times-room = omega (arith, s .counted .values k times-inside, before-most relaxed f t k, w .few)
 
-        pub times-more : {b : Bool} {x : ℕ} {times′ : List ℕ} → b ≡ chosenIn relaxed t → x ≡ cond b 1 0 → times′ ≡ set times k (getD times k 0 + x) → TimesTo n relaxed numbers at times′ (t + 1)
+        pub times-more : {b : Bool} {x : ℕ} {times′ : List ℕ} → b ≡ chosenIn relaxed t → x ≡ cond b 1 0 → times′ ≡ set times k (getD times k 0 + x) → CountedTo n relaxed numbers at times′ (t + 1)
         times-more {b} {x} e d q =
-            rw q (record { within = omega arith; places = length-set times k (getD times k 0 + x) ∙ s .places; values = λ m l. one m l (ℕ-discrete m k) ∙ sym (times-step relaxed f t m) })
+            rw q (record { within = omega arith; counted = record { places = length-set times k (getD times k 0 + x) ∙ s .counted .places; values = λ m l. one m l (ℕ-discrete m k) ∙ sym (times-step relaxed f t m) } })
           where
             adds : x ≡ cond (chosenIn relaxed t) 1 0
             adds = d ∙ ap (λ (c : Bool). cond c 1 0) e
 
             one : (m : ℕ) → m ≤ mostTurns → Dec (m ≡ k) → getD (set times k (getD times k 0 + x)) m 0 ≡ cond (chosenIn relaxed t) (cond (eqb (f t) m) 1 0) 0 + timesBefore relaxed f t m
             one m l (yes z) =
-                rw (z, getD-set-same times k (getD times k 0 + x) 0 (omega (arith, s .places, times-inside)), eq-eqb (getD numbers (at + t) 0) k (sym g)) (omega (arith, s .values k times-inside, adds))
+                rw (z, getD-set-same times k (getD times k 0 + x) 0 (omega (arith, s .counted .places, times-inside)), eq-eqb (getD numbers (at + t) 0) k (sym g)) (omega (arith, s .counted .values k times-inside, adds))
             one m l (no z) =
-                rw (getD-set-other times k m (getD times k 0 + x) 0 z, ne-eqb (getD numbers (at + t) 0) m (λ y. z (sym y ∙ sym g))) (omega (arith, s .values m l, no-zero (chosenIn relaxed t)))
+                rw (getD-set-other times k m (getD times k 0 + x) 0 z, ne-eqb (getD numbers (at + t) 0) m (λ y. z (sym y ∙ sym g))) (omega (arith, s .counted .values m l, no-zero (chosenIn relaxed t)))
 
-  pub times-done : (times : List ℕ) {t : ℕ} → n ≤ t → TimesTo n relaxed numbers at times t → Times n (choiceIn n relaxed) (numberBehind numbers at) times
+  pub times-done : (times : List ℕ) {t : ℕ} → n ≤ t → CountedTo n relaxed numbers at times t → TimesTo relaxed numbers at times n
+  times-done times {t} h s = let e : t ≡ n = omega (arith, s .within) in rw e at (s .counted)
+
+pub ruleset times-cases = (times-start, times-read, times-inside, times-room, times-more, times-done)
+
+-- ---- byte by byte of the map
+
+module _ (n : ℕ) (relaxed numbers : List ℕ) (at : ℕ) where
+  pub bytes-start : {times : List ℕ} → times ≡ replicate payerPlaces 0 → BytesTo n relaxed numbers at times 0
+  unfolding timesBefore
+  bytes-start q =
+      record { within = omega arith; counted = record { places = rw q (length-replicate {A = ℕ} payerPlaces 0); values = λ k m. rw q (getD-replicate {A = ℕ} payerPlaces k 0 0 (omega arith)) } }
+
+  module _ {q : ℕ} (h : q < n / 8) where
+    pub bytes-numbers : SmallNumbers n numbers at → SmallNumbers (8 * q + 8) numbers at
+    bytes-numbers w = record { few = omega (arith, w .few); within = omega (arith, w .within); small = λ t l. w .small t (omega arith) }
+
+    pub bytes-bits : Clean n relaxed → 8 * q + 8 ≤ 8 * length relaxed
+    bytes-bits c = omega (arith, clean-bits c)
+
+    pub bytes-more : (times : List ℕ) → TimesTo relaxed numbers at times (8 * q + 8) → BytesTo n relaxed numbers at times (q + 1)
+    bytes-more times s = let e : 8 * q + 8 ≡ 8 * (q + 1) = omega arith in record { within = omega arith; counted = rw e at s }
+
+  pub bytes-counted : (times : List ℕ) {q : ℕ} → BytesTo n relaxed numbers at times q → TimesTo relaxed numbers at times (8 * q)
+  bytes-counted times s = s .counted
+
+  pub bytes-done : (times : List ℕ) {q : ℕ} → n / 8 ≤ q → BytesTo n relaxed numbers at times q → TimesTo relaxed numbers at times (8 * (n / 8))
+  bytes-done times {q} h s = let e : q ≡ n / 8 = omega (arith, s .within) in rw e at (s .counted)
+
+  pub bytes-end : Clean n relaxed → n ≤ 8 * length relaxed
+  bytes-end c = clean-bits c
+
+  pub bytes-all : (times : List ℕ) → TimesTo relaxed numbers at times n → Times n (choiceIn n relaxed) (numberBehind numbers at) times
   unfolding timesChosen timesBefore chosen
-  times-done times {t} h s =
-      let e : t ≡ n = omega (arith, s .within) in
+  bytes-all times s =
+      let f : ℕ → ℕ = numberBehind numbers at in
       record {
         places = s .places;
         values = λ k m. s .values k m
-            ∙ ap (λ (u : ℕ). timesBefore relaxed f u k) e
             ∙ sum-same (λ u. cond (chosenIn relaxed u) (cond (eqb (f u) k) 1 0) 0) (λ u. cond (has (choiceIn n relaxed) u) (cond (eqb (f u) k) 1 0) 0) n (λ u l. ap (λ (b : Bool). cond b (cond (eqb (f u) k) 1 0) 0) (sym (choice-has n relaxed u l)));
       }
 
-pub ruleset times-cases = (times-start, times-bit, times-read, times-inside, times-room, times-more, times-done)
+pub ruleset bytes-cases = (bytes-start, bytes-numbers, bytes-bits, bytes-more, bytes-counted, bytes-done, bytes-end, bytes-all)
 
 -- ---- along the drivers' order
 
@@ -162,7 +194,7 @@ module _ (n : ℕ) (S : List Bool) (orders : List ℕ) (r : PaidRuns n orders) w
           joined = λ m l. omega (arith, js .values m (omega (arith, r .few)), times-most n S (paidFrom orders) m, r .few);
         }
 
-    pub payers-present : (payers : List ℕ) → Present joining leaving payers n → Payers n S orders payers
+    pub payers-present : (payers : List ℕ) → Present orders joining leaving payers n → Payers n S orders payers
     payers-present payers p = record { values = λ j l. omega (arith, p .values j l, sums-are (j + 1) (omega arith)) }
 
 module _ (n : ℕ) (orders : List ℕ) (r : PaidRuns n orders) where
@@ -176,53 +208,58 @@ pub ruleset payer-cases = (runs-from, runs-to, payers-summable, payers-present)
 
 -- ---- summing up
 
--- the payers of the first i places are put, and those of the place before the next are at hand
-pub record Along (n : ℕ) (joining leaving payers : List ℕ) (here i : ℕ) : Type 0 where
+-- the turns at the first i places have their payers, and those of the last of these places are at hand
+pub record Along (n : ℕ) (orders joining leaving payers : List ℕ) (here i : ℕ) : Type 0 where
   pub within : i ≤ n
-  pub present : Present joining leaving payers i
+  pub present : Present orders joining leaving payers i
   pub now-here : here ≡ payersPresent joining leaving i
 
-module _ (n : ℕ) (joining leaving : List ℕ) (w : Summable n joining leaving) where
-  pub along-start : Along n joining leaving joining 0 0
-  along-start = record { within = omega arith; present = record { places = w .places; values = λ j l. absurd (omega arith); others = λ j l. refl }; now-here = omega arith }
+module _ (n : ℕ) (orders joining leaving : List ℕ) (w : Summable n joining leaving) where
+  pub along-start : {payers : List ℕ} → length payers ≡ payerPlaces → Along n orders joining leaving payers 0 0
+  along-start l = record { within = omega arith; present = record { places = l; values = λ j l. absurd (omega arith) }; now-here = omega arith }
 
-  module _ (payers : List ℕ) {here i : ℕ} (s : Along n joining leaving payers here i) where
+  module _ (payers : List ℕ) {here i : ℕ} (s : Along n orders joining leaving payers here i) where
     module _ (h : i < n) where
       pub along-inside : i < payerPlaces
       along-inside = omega (arith, w .few)
 
-      joined-here : getD payers i 0 ≡ getD joining i 0
-      joined-here = s .present .others i (omega arith)
+      pub along-read : 2 * mostTurns + i < orderPlaces
+      along-read = omega (arith, w .few)
 
-      pub along-fits : here + getD payers i 0 < 65536
-      along-fits = omega (arith, s .now-here, joined-here, w .small i (omega arith), w .joined i h)
+      pub along-fits : here + getD joining i 0 < 65536
+      along-fits = omega (arith, s .now-here, w .small i (omega arith), w .joined i h)
 
       next-sums : (sumBefore joining (i + 1) ≡ getD joining i 0 + sumBefore joining i) × (sumBefore leaving (i + 1) ≡ getD leaving i 0 + sumBefore leaving i)
       next-sums = (rw (add-one i), rw (add-one i))
 
-      pub along-left : getD leaving i 0 ≤ here + getD payers i 0
-      along-left = let (a, b) = next-sums in omega (arith, s .now-here, joined-here, w .left i (omega arith), w .left (i + 1) (omega arith))
+      pub along-left : getD leaving i 0 ≤ here + getD joining i 0
+      along-left = let (a, b) = next-sums in omega (arith, s .now-here, w .left i (omega arith), w .left (i + 1) (omega arith))
 
-      pub along-more : Along n joining leaving (set payers i (here + getD payers i 0 - getD leaving i 0)) (here + getD payers i 0 - getD leaving i 0) (i + 1)
-      along-more =
-          record {
-            within = omega arith;
-            present = record {
-              places = length-set payers i (here + getD payers i 0 - getD leaving i 0) ∙ s .present .places;
-              values = λ j l. value j l (ℕ-discrete j i);
-              others = λ j l. getD-set-other payers i j (here + getD payers i 0 - getD leaving i 0) 0 (omega arith) ∙ s .present .others j (omega arith);
-            };
-            now-here = now-next;
-          }
-        where
-          now-next : here + getD payers i 0 - getD leaving i 0 ≡ payersPresent joining leaving (i + 1)
-          now-next = let (a, b) = next-sums in omega (arith, s .now-here, joined-here, w .left i (omega arith))
+      module _ (o : EachOnce n orders) {u : ℕ} (q : u ≡ driversTurn orders i) where
+        pub along-place : u < payerPlaces
+        along-place = omega (arith, q, o .inside i h, w .few)
 
-          value : (j : ℕ) → j < i + 1 → Dec (j ≡ i) → getD (set payers i (here + getD payers i 0 - getD leaving i 0)) j 0 ≡ payersPresent joining leaving (j + 1)
-          value j l (yes q) = rw q (getD-set-same payers i (here + getD payers i 0 - getD leaving i 0) 0 (omega (arith, s .present .places, w .few)) ∙ now-next)
-          value j l (no q) = getD-set-other payers i j (here + getD payers i 0 - getD leaving i 0) 0 q ∙ s .present .values j (omega arith)
+        pub along-scaled : Fits w64 (u * 2)
+        along-scaled = omega (arith, along-place)
 
-    pub along-done : n ≤ i → Present joining leaving payers n
+        pub along-more : Along n orders joining leaving (set payers u (here + getD joining i 0 - getD leaving i 0)) (here + getD joining i 0 - getD leaving i 0) (i + 1)
+        along-more =
+            record {
+              within = omega arith;
+              present = record { places = length-set payers u (here + getD joining i 0 - getD leaving i 0) ∙ s .present .places; values = λ j l. value j l (ℕ-discrete j i) };
+              now-here = now-next;
+            }
+          where
+            now-next : here + getD joining i 0 - getD leaving i 0 ≡ payersPresent joining leaving (i + 1)
+            now-next = let (a, b) = next-sums in omega (arith, s .now-here, w .left i (omega arith))
+
+            value : (j : ℕ) → j < i + 1 → Dec (j ≡ i) → getD (set payers u (here + getD joining i 0 - getD leaving i 0)) (driversTurn orders j) 0 ≡ payersPresent joining leaving (j + 1)
+            value j l (yes z) =
+                rw (z, sym q) (getD-set-same payers u (here + getD joining i 0 - getD leaving i 0) 0 (omega (arith, s .present .places, along-place)) ∙ now-next)
+            value j l (no z) =
+                getD-set-other payers u (driversTurn orders j) (here + getD joining i 0 - getD leaving i 0) 0 (λ e. o .apart j i (omega arith) h (e ∙ q)) ∙ s .present .values j (omega arith)
+
+    pub along-done : n ≤ i → Present orders joining leaving payers n
     along-done h = let q : i ≡ n = omega (arith, s .within) in rw q at (s .present)
 
-pub ruleset along-cases = (along-start, along-inside, along-fits, along-left, along-more, along-done)
+pub ruleset along-cases = (along-start, along-inside, along-read, along-fits, along-left, along-place, along-scaled, along-more, along-done)

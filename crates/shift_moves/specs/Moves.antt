@@ -78,6 +78,11 @@ pub record SmallNumbers (n : ℕ) (numbers : List ℕ) (at : ℕ) : Type 0 where
   pub within : at + n ≤ length numbers
   pub small : (t : ℕ) → t < n → numberBehind numbers at t ≤ mostTurns
 
+-- for each number, how many of the first t turns that a map has chosen have it
+pub record TimesTo (map numbers : List ℕ) (at : ℕ) (times : List ℕ) (t : ℕ) : Type 0 where
+  pub places : length times ≡ payerPlaces
+  pub values : (k : ℕ) → k ≤ mostTurns → getD times k 0 ≡ timesBefore map (numberBehind numbers at) t k
+
 -- for each number, how many turns of a set have it
 pub record Times (n : ℕ) (S : List Bool) (f : ℕ → ℕ) (times : List ℕ) : Type 0 where
   pub places : length times ≡ payerPlaces
@@ -98,15 +103,14 @@ pub record Summable (n : ℕ) (joining leaving : List ℕ) : Type 0 where
   pub small : (m : ℕ) → m ≤ n → payersPresent joining leaving m ≤ mostTurns
   pub joined : (m : ℕ) → m < n → getD joining m 0 ≤ mostTurns
 
--- at the first i places stand the payers of each, at the others who joins there
-pub record Present (joining leaving payers : List ℕ) (i : ℕ) : Type 0 where
+-- the turns at the first i places of the drivers' order have the payers of their places
+pub record Present (orders joining leaving payers : List ℕ) (i : ℕ) : Type 0 where
   pub places : length payers ≡ payerPlaces
-  pub values : (j : ℕ) → j < i → getD payers j 0 ≡ payersPresent joining leaving (j + 1)
-  pub others : (j : ℕ) → i ≤ j → getD payers j 0 ≡ getD joining j 0
+  pub values : (j : ℕ) → j < i → getD payers (driversTurn orders j) 0 ≡ payersPresent joining leaving (j + 1)
 
--- the payers of the first n places of the drivers' order
+-- the payers of n turns: those of their places in the drivers' order
 pub record Payers (n : ℕ) (S : List Bool) (orders payers : List ℕ) : Type 0 where
-  pub values : (j : ℕ) → j < n → getD payers j 0 ≡ payersBefore n S orders (j + 1)
+  pub values : (j : ℕ) → j < n → getD payers (driversTurn orders j) 0 ≡ payersBefore n S orders (j + 1)
 
 -- no more payers at the first n places than there can be turns
 unfoldable pub FewPayers : ℕ → List ℕ → Type 0
@@ -116,6 +120,7 @@ FewPayers n payers = (k : ℕ) → k < n → getD payers k 0 ≤ mostTurns
 pub record EachOnce (n : ℕ) (orders : List ℕ) : Type 0 where
   pub inside : (j : ℕ) → j < n → driversTurn orders j < n
   pub apart : (i j : ℕ) → i < j → j < n → driversTurn orders i ≢ driversTurn orders j
+  pub all : (u : ℕ) → u < n → (j : ℕ) × (j < n) × (driversTurn orders j ≡ u)
 
 -- the prices at some n places are moved, each by its own payers, and all others are as before
 pub record MovedBy (change : ℕ) (payers place : ℕ → ℕ) (n : ℕ) (old new : List ℕ) : Type 0 where

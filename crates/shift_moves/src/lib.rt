@@ -3,7 +3,7 @@
 // where the run starts and where it ends, and sums along the order give the payers at each place.
 ghost use mathlib.Core.Path.{_≡_};
 ghost use mathlib.Core.Bool.{cond};
-ghost use Prim.Native.Nat.{_+_, _-_, _≤_, _<_, max, min};
+ghost use Prim.Native.Nat.{_+_, _-_, _*_, _≤_, _<_, max, min};
 ghost use lib.Dec.{ltb};
 ghost use lib.ListN.{length, getD, set, replicate};
 ghost use Rattle.turn.specs.Turn.{mostWorth};
@@ -12,7 +12,7 @@ ghost use Rattle.choice_map.specs.Choice.{choiceIn, Clean};
 ghost use Rattle.prices.specs.OrdersAndCounts.{mostPrice, turnsIn, Ordered, Priced};
 ghost use Rattle.refine_spec.specs.Shift.{highestPrice, movedPrice, turnChange, movedPrices};
 ghost use Rattle.shift_moves.specs.Moves.{payerPlaces, numberBehind, payersAt, payersAfter, slopePayersIn, turnPayersIn, ownPlace, turnPricePlace};
-ghost use Rattle.shift_moves.specs.Moves.{nobody, placeBehind, SmallNumbers, Times, PaidRuns, Summable, Present, Payers, FewPayers, EachOnce, MovedBy};
+ghost use Rattle.shift_moves.specs.Moves.{nobody, placeBehind, SmallNumbers, TimesTo, Times, PaidRuns, Summable, Present, Payers, FewPayers, EachOnce, MovedBy};
 use instance::MOST_TURNS;
 use instance::PLACES;
 use prices::DRIVERS;
@@ -131,14 +131,22 @@ fn add_payer(payers: &mut [u16; PAYERS], k: usize, more: u16)
     payers[k] = x + more;
 }
 
-// For each number, how many turns of the relaxed set have it in the column that starts at a place. Each turn adds 1
-// or 0: a branch per turn would be mispredicted.
-fn count_numbers(n: usize, relaxed: &[u8], numbers: &[u16], at: usize, times: &mut [u16; PAYERS])
-    requires { ⌜ Clean n (now relaxed) × SmallNumbers n (now numbers) at × (now times ≡ replicate payerPlaces 0) ⌝ }
-    ensures { λ _. ⌜ Times n (choiceIn n (now (relaxed .entry))) (numberBehind (now (numbers .entry)) at) (now (times .exit)) ⌝ }
+// Counts the turns of the relaxed set between two places by their numbers, where those before are counted. Each turn adds
+// 1 or 0: a branch per turn would be mispredicted.
+fn count_between(
+    from: usize,
+    to: usize,
+    relaxed: &[u8],
+    numbers: &[u16],
+    at: usize,
+    times: &mut [u16; PAYERS],
+)
+    requires { ⌜ (from ≤ to) × (to ≤ 8 * length (now relaxed)) × SmallNumbers to (now numbers) at ⌝ }
+    requires { ⌜ TimesTo (now relaxed) (now numbers) at (now times) from ⌝ }
+    ensures { λ _. ⌜ TimesTo (now (relaxed .entry)) (now (numbers .entry)) at (now (times .exit)) to ⌝ }
 {
-    let mut t = 0;
-    while t < n {
+    let mut t = from;
+    while t < to {
         let k = as_place(numbers[at + t]);
         let more = one_if(choice_map::is_chosen(relaxed, t));
         add_payer(&mut *times, k, more);
@@ -146,31 +154,55 @@ fn count_numbers(n: usize, relaxed: &[u8], numbers: &[u16], at: usize, times: &m
     }
 }
 
-// The payers at each place, from those that join and those that leave there.
-fn sum_payers(n: usize, payers: &mut [u16; PAYERS], leaving: &[u16; PAYERS])
-    requires { ⌜ Summable n (now payers) (now leaving) ⌝ }
-    ensures { λ _. ⌜ Present (now (payers .entry)) (now (leaving .entry)) (now (payers .exit)) n ⌝ }
+// For each number, how many turns of the relaxed set have it in the column that starts at a place. Eight turns at a
+// time, so that the compiler reads each byte of the map once.
+fn count_numbers(n: usize, relaxed: &[u8], numbers: &[u16], at: usize, times: &mut [u16; PAYERS])
+    requires { ⌜ Clean n (now relaxed) × SmallNumbers n (now numbers) at × (now times ≡ replicate payerPlaces 0) ⌝ }
+    ensures { λ _. ⌜ Times n (choiceIn n (now (relaxed .entry))) (numberBehind (now (numbers .entry)) at) (now (times .exit)) ⌝ }
+{
+    let bytes = n / 8;
+    let mut q = 0;
+    while q < bytes {
+        count_between(8 * q, 8 * q + 8, relaxed, numbers, at, &mut *times);
+        q += 1;
+    }
+    count_between(8 * bytes, n, relaxed, numbers, at, &mut *times);
+}
+
+// The payers of each turn, from those that join and those that leave at each place of the drivers' order. They stand by
+// the turns' numbers, so that prices and payers are read side by side and a loop takes many at once.
+fn sum_payers(
+    n: usize,
+    orders: &[u16; ORDERS],
+    joining: &[u16; PAYERS],
+    leaving: &[u16; PAYERS],
+    payers: &mut [u16; PAYERS],
+)
+    requires { ⌜ Summable n (now joining) (now leaving) × EachOnce n (now orders) × (length (now payers) ≡ payerPlaces) ⌝ }
+    ensures { λ _. ⌜ Present (now (orders .entry)) (now (joining .entry)) (now (leaving .entry)) (now (payers .exit)) n ⌝ }
 {
     let mut here: u16 = 0;
     let mut j = 0;
     while j < n {
-        let met = here + payers[j];
+        let met = here + joining[j];
         here = met - leaving[j];
-        payers[j] = here;
+        let u = as_place(orders[DRIVERS + j]);
+        payers[u] = here;
         j += 1;
     }
 }
 
-// The payers of the turn at each place of the drivers' order.
+// The payers of each turn.
 fn count_payers(n: usize, orders: &[u16; ORDERS], relaxed: &[u8], payers: &mut [u16; PAYERS])
-    requires { ⌜ Clean n (now relaxed) × PaidRuns n (now orders) × (now payers ≡ replicate payerPlaces 0) ⌝ }
+    requires { ⌜ Clean n (now relaxed) × PaidRuns n (now orders) × EachOnce n (now orders) × (length (now payers) ≡ payerPlaces) ⌝ }
     ensures { λ _. ⌜ Payers n (choiceIn n (now (relaxed .entry))) (now (orders .entry)) (now (payers .exit)) ⌝ }
 {
     let all = &orders[..];
+    let mut joining = [0u16; PAYERS];
     let mut leaving = [0u16; PAYERS];
-    count_numbers(n, relaxed, all, FROMS, &mut *payers);
+    count_numbers(n, relaxed, all, FROMS, &mut joining);
     count_numbers(n, relaxed, all, TOS, &mut leaving);
-    sum_payers(n, &mut *payers, &leaving);
+    sum_payers(n, orders, &joining, &leaving, &mut *payers);
 }
 
 // Moves the prices of the slopes. Place s of the payers is for slope s.
@@ -185,25 +217,17 @@ fn move_slope_prices(slopes: usize, payers: &[u16; PAYERS], change: u32, prices:
     }
 }
 
-// Moves the prices of the turns, where those that pay are known by the place in the drivers' order. Summing the payers
-// up is a loop of its own: in one loop with this it was slower.
-fn move_turn_prices(
-    e: Extent,
-    orders: &[u16; ORDERS],
-    payers: &[u16; PAYERS],
-    change: u32,
-    prices: &mut [u16],
-)
+// Moves the prices of the turns. Place u of the payers is for turn u.
+fn move_turn_prices(e: Extent, payers: &[u16; PAYERS], change: u32, prices: &mut [u16])
     requires { ⌜ (e .slopes ≤ mostSlopes) × (e .size .count ≤ mostTurns) × (length (now prices) ≡ e .slopes + e .size .count) ⌝ }
-    requires { ⌜ EachOnce (e .size .count) (now orders) × (change ≤ mostWorth) × FewPayers (e .size .count) (now payers) ⌝ }
-    ensures { λ _. ⌜ MovedBy change (payersAt (now (payers .entry))) (turnPricePlace (e .slopes) (now (orders .entry))) (e .size .count)
+    requires { ⌜ (change ≤ mostWorth) × FewPayers (e .size .count) (now payers) ⌝ }
+    ensures { λ _. ⌜ MovedBy change (payersAt (now (payers .entry))) (placeBehind (e .slopes)) (e .size .count)
         (now (prices .entry)) (now (prices .exit)) ⌝ }
 {
-    let mut j = 0;
-    while j < e.size.count {
-        let at = e.slopes + as_place(orders[DRIVERS + j]);
-        move_price(change, payers[j], &mut *prices, at);
-        j += 1;
+    let mut u = 0;
+    while u < e.size.count {
+        move_price(change, payers[u], &mut *prices, e.slopes + u);
+        u += 1;
     }
 }
 
@@ -246,7 +270,7 @@ fn move_turns(e: Extent, orders: &[u16; ORDERS], relaxed: &[u8], change: u32, pr
 {
     let mut payers = [0u16; PAYERS];
     count_payers(e.size.count, orders, relaxed, &mut payers);
-    move_turn_prices(e, orders, &payers, turn_change(change), &mut *prices);
+    move_turn_prices(e, &payers, turn_change(change), &mut *prices);
 }
 
 // Moves every price by how many turns of the relaxed set pay it.

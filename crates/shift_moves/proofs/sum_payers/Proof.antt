@@ -1,4 +1,4 @@
--- Invariant: the places before j have their payers, and those of the last of them are at hand. Measure: the places left.
+-- Invariant: the turns at the places before j have their payers, and those of the last of these places are at hand. Measure: the places left.
 use borrow.Author.Needs.{needs}
 use Rattle.shift_moves.proofs.PayerCases.{Along, along-cases}
 use Prim.Native.Nat.{_-_}
@@ -6,10 +6,10 @@ use Rattle.shift_moves.proofs.sum_payers.Statement.{statement}
 use Rattle.shift_moves.proofs.sum_payers.Tie as tie
 
 abbrev Inv-loop : tie.InvT-loop
-Inv-loop n payers₀ leaving here₀ j₀ payers here j = Along n payers₀ leaving payers here j
+Inv-loop n orders joining leaving payers₀ here₀ j₀ payers here j = Along n orders joining leaving payers here j
 
 abbrev μ-loop : tie.MeasureT-loop
-μ-loop n payers₀ leaving here₀ j₀ payers here j = n - j
+μ-loop n orders joining leaving payers₀ here₀ j₀ payers here j = n - j
 
 pub sum-payers-spec : {M : Type 1} → statement M
 sum-payers-spec =
@@ -24,6 +24,10 @@ sum-payers-spec =
     (λ c. search (needs, along-cases))
     (λ c. search (needs, along-cases))
     (λ c. search (needs, along-cases))
+    (λ c. search (needs, along-cases))
+    (λ c. search (needs, along-cases))
+    (λ c. search (needs, along-cases))
+    (λ c κs. search (needs, along-cases))
     (λ c. search (needs, along-cases))
     (λ c. search (needs, along-cases))
     (λ c. search (needs, along-cases))
