@@ -59,10 +59,10 @@ module _ (change payers price : ℕ) {a b : ℕ} (e : a ≡ price) (f : b ≡ pa
   pub rise-fits : change ≤ mostWorth → payers ≤ mostTurns → Fits w32 (b * change)
   rise-fits l m = omega (arith, rise-most l m)
 
-  pub raised-fits : change ≤ mostWorth → payers ≤ mostTurns → a ≤ mostPrice → Fits w32 (a + b * change)
+  pub raised-fits : change ≤ mostWorth → payers ≤ mostTurns → a < 65536 → Fits w32 (a + b * change)
   raised-fits l m n = omega (arith, rise-most l m)
 
-  pub moved-is : {l m r : ℕ} → a ≤ mostPrice → l ≡ a + b * change - change → m ≡ cond (ltb payers 2) mostPrice highestPrice → r ≡ min l m → r ≡ movedPrice change payers price
+  pub moved-is : {l m r : ℕ} → a < 65536 → l ≡ a + b * change - change → m ≡ cond (ltb payers 2) mostPrice highestPrice → r ≡ min l m → r ≡ movedPrice change payers price
   unfolding movedPrice
   moved-is {l} {m} {r} n g h k = go (ℕ-discrete payers 0) (ℕ-discrete payers 1)
     where

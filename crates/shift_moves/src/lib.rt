@@ -15,6 +15,8 @@ ghost use Rattle.shift_moves.specs.Moves.{payerPlaces, numberBehind, pay
 ghost use Rattle.shift_moves.specs.Moves.{nobody, placeBehind, SmallNumbers, TimesTo, Times, PaidRuns, Summable, Present, Payers, FewPayers, EachOnce, MovedBy};
 use instance::MOST_TURNS;
 use instance::PLACES;
+use instance::as_place;
+use instance::as_u32;
 use prices::DRIVERS;
 use prices::Extent;
 use prices::FROMS;
@@ -30,18 +32,6 @@ const HIGHEST_PRICE: u32 = 60000;
 
 // A place for each number from 0 to the most turns.
 const PAYERS: usize = MOST_TURNS + 1;
-
-fn wide(x: u16) -> u32
-    ensures { λ r. ⌜ (r ≡ x) × (r ≤ mostPrice) ⌝ }
-{
-    x as u32
-}
-
-fn as_place(x: u16) -> usize
-    ensures { λ r. ⌜ r ≡ x ⌝ }
-{
-    x as usize
-}
 
 fn narrow(x: u32) -> u16
     requires { ⌜ x ≤ mostPrice ⌝ }
@@ -102,7 +92,7 @@ fn moved_price(change: u32, payers: u16, price: u16) -> u16
     requires { ⌜ (change ≤ mostWorth) × (payers ≤ mostTurns) ⌝ }
     ensures { λ r. ⌜ r ≡ movedPrice change payers price ⌝ }
 {
-    let raised = wide(price) + wide(payers) * change;
+    let raised = as_u32(price) + as_u32(payers) * change;
     smaller(left_after(raised, change), most_price(payers)) as u16
 }
 
