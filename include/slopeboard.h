@@ -29,11 +29,11 @@
  * - All working space is on the caller's stack: at most SLOPEBOARD_STACK_.. bytes, given for each function below. No
  *   function calls itself but the search of slopeboard_improve, one level deeper for each of at most 64 turns.
  * - Times, measured and not proved, in microseconds: one call on the slowest sheets known, the best of many rounds
- *   over 64 sheets (reference/bench), on one core of an Intel Xeon server. slopeboard_list 189, slopeboard_plan 161,
- *   slopeboard_play 103, slopeboard_check 73, slopeboard_charge 70, slopeboard_limit 21, slopeboard_keep 15,
- *   slopeboard_assign 13, slopeboard_draw 9.0, slopeboard_charge_limit 6.7, slopeboard_best 4.8,
- *   slopeboard_restore 4.8, slopeboard_write 4.1, slopeboard_read 2.8; slopeboard_improve 30 for 10,000 visits;
- *   slopeboard_refine 670 and slopeboard_charge_refine 730 for 50 rounds. A slower sheet may exist.
+ *   over 64 sheets (reference/bench), on one core of an AMD EPYC server. slopeboard_list 149, slopeboard_plan 134,
+ *   slopeboard_charge 63, slopeboard_play 61, slopeboard_check 58, slopeboard_keep 12, slopeboard_limit 10,
+ *   slopeboard_assign 9.7, slopeboard_draw 7.6, slopeboard_charge_limit 5.9, slopeboard_write 4.2,
+ *   slopeboard_restore 4.1, slopeboard_best 2.9, slopeboard_read 2.5; slopeboard_improve 26 for 10,000 visits;
+ *   slopeboard_refine 282 and slopeboard_charge_refine 462 for 50 rounds. A slower sheet may exist.
  */
 #ifndef SLOPEBOARD_H
 #define SLOPEBOARD_H
@@ -118,7 +118,7 @@ enum {
 #define SLOPEBOARD_STACK_BEST 14016
 #define SLOPEBOARD_STACK_CHARGE 25632
 #define SLOPEBOARD_STACK_CHARGE_LIMIT 13744
-#define SLOPEBOARD_STACK_CHARGE_REFINE 28344
+#define SLOPEBOARD_STACK_CHARGE_REFINE 28376
 #define SLOPEBOARD_STACK_CHECK 13344
 #define SLOPEBOARD_STACK_COUNT 8
 #define SLOPEBOARD_STACK_DRAW 6872
@@ -132,7 +132,7 @@ enum {
 #define SLOPEBOARD_STACK_PLAY 27312
 #define SLOPEBOARD_STACK_READ 4992
 #define SLOPEBOARD_STACK_READ_SHORT 4992
-#define SLOPEBOARD_STACK_REFINE 28320
+#define SLOPEBOARD_STACK_REFINE 28352
 #define SLOPEBOARD_STACK_RESTORE 4888
 #define SLOPEBOARD_STACK_STEPS 16
 #define SLOPEBOARD_STACK_WRITE 6872
