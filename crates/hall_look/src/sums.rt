@@ -48,7 +48,7 @@ fn cost_of(prices: &[u16], sums: &[u32; SUMS], r: Row) -> u32
 }
 
 // What is left of a worth, nothing if all of it is paid.
-fn unpaid_of(worth: u32, paid: u32) -> u32
+fn net_of(worth: u32, paid: u32) -> u32
     ensures { λ r. ⌜ (r ≡ worth - paid) × (r ≤ worth) ⌝ }
 {
     if worth <= paid {
@@ -63,5 +63,5 @@ pub fn counts_for(prices: &[u16], sums: &[u32; SUMS], r: Row) -> u32
     ensures { λ c. ⌜ (c ≡ rowCounts (now (prices .entry)) r) × (c ≤ mostWorth) ⌝ }
 {
     let cost = cost_of(prices, sums, r);
-    unpaid_of(as_u32(r.worth), as_u32(r.groomer) * cost / PARTS)
+    net_of(as_u32(r.worth), as_u32(r.groomer) * cost / PARTS)
 }

@@ -39,7 +39,7 @@ fn at_least(x: u32, least: u32) -> u32
 }
 
 // What is left of a worth, nothing if all of it is paid. Branch-free: a branch per turn would be mispredicted.
-pub fn unpaid_of(worth: u16, paid: u32) -> u16
+pub fn net_of(worth: u16, paid: u32) -> u16
     ensures { λ r. ⌜ r ≡ worth - paid ⌝ }
 {
     (at_least(worth as u32, paid) - paid) as u16
@@ -84,29 +84,24 @@ fn put_payments(
 }
 
 // What is left of turn t's worth.
-fn unpaid_at(p: Size, cols: &[u16; PLACES], paid: &[u32; MOST_TURNS], t: usize) -> u16
+fn net_at(p: Size, cols: &[u16; PLACES], paid: &[u32; MOST_TURNS], t: usize) -> u16
     requires { ⌜ (t < p .count) × (p .count ≤ mostTurns) ⌝ }
     ensures { λ r. ⌜ r ≡ leftAfter (turnsBy p (now (cols .entry))) (now (paid .entry)) t ⌝ }
 {
     let row = row_at(cols, t);
-    unpaid_of(row.worth, paid[t])
+    net_of(row.worth, paid[t])
 }
 
 // What is left of all turns' worths. It has a loop of its own: in one with the payments the compiler would make
 // a branch for each turn, and the branches would be mispredicted.
-fn put_unpaid(
-    p: Size,
-    cols: &[u16; PLACES],
-    paid: &[u32; MOST_TURNS],
-    counts: &mut [u16; MOST_TURNS],
-)
+fn put_nets(p: Size, cols: &[u16; PLACES], paid: &[u32; MOST_TURNS], counts: &mut [u16; MOST_TURNS])
     requires { ⌜ (p .count ≤ mostTurns) × (length (now counts) ≡ mostTurns) ⌝ }
     ensures { λ _. ⌜ NumbersTo (leftAfter (turnsBy p (now (cols .entry))) (now (paid .entry))) (now (counts .exit)) (p .count) ⌝ }
 {
     let n = p.count;
     let mut t = 0;
     while t < n {
-        counts[t] = unpaid_at(p, cols, paid, t);
+        counts[t] = net_at(p, cols, paid, t);
         t += 1;
     }
 }
@@ -127,7 +122,7 @@ fn put_counts_with_drivers(
     put_sums(e, cols, orders, prices, &mut sums);
     let mut paid = [0u32; MOST_TURNS];
     put_payments(e, cols, orders, prices, &sums, &mut paid);
-    put_unpaid(e.size, cols, &paid, &mut *counts);
+    put_nets(e.size, cols, &paid, &mut *counts);
     let n = e.size.count;
     slope_prices(prices, e.slopes) + sums[n]
 }

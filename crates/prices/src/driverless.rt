@@ -12,7 +12,7 @@ ghost use Rattle.price_spec.specs.Prices.{countsFor, priceSum};
 ghost use Rattle.prices.specs.OrdersAndCounts.{countedTurns, turnsIn, orderPlaces, Priced, CountsTo, DriversUpTo};
 use super::Extent;
 use super::ORDERS;
-use super::counts::unpaid_of;
+use super::counts::net_of;
 use super::sums::price_at;
 use super::sums::slope_prices;
 use best_table::ENTRIES;
@@ -50,7 +50,7 @@ fn slope_count(e: Extent, cols: &[u16; PLACES], prices: &[u16], t: usize) -> u16
 {
     let row = row_at(cols, t);
     let paid = price_at(prices, row.slope as usize - 1);
-    unpaid_of(row.worth, paid)
+    net_of(row.worth, paid)
 }
 
 // What all turns count for.

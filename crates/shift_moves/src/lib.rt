@@ -33,7 +33,7 @@ const HIGHEST_PRICE: u32 = 60000;
 // A place for each number from 0 to the most turns.
 const PAYERS: usize = MOST_TURNS + 1;
 
-fn narrow(x: u32) -> u16
+fn as_u16(x: u32) -> u16
     requires { ⌜ x ≤ mostPrice ⌝ }
     ensures { λ r. ⌜ r ≡ x ⌝ }
 {
@@ -282,5 +282,5 @@ pub fn move_prices(
         move_turns(e, orders, relaxed, change, &mut *prices);
         return;
     }
-    lower_turn_prices(e, narrow(turn_change(change)), &mut *prices);
+    lower_turn_prices(e, as_u16(turn_change(change)), &mut *prices);
 }

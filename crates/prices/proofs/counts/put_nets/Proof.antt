@@ -4,8 +4,8 @@ use Rattle.prices.proofs.CountCases.{numbers-cases, left-few}
 use Rattle.prices.specs.OrdersAndCounts.{leftAfter, NumbersTo}
 use Rattle.instance.specs.Columns.{turnsBy}
 use Prim.Native.Nat.{_-_, _≤_}
-use Rattle.prices.proofs.counts.put_unpaid.Statement.{statement}
-use Rattle.prices.proofs.counts.put_unpaid.Tie as tie
+use Rattle.prices.proofs.counts.put_nets.Statement.{statement}
+use Rattle.prices.proofs.counts.put_nets.Tie as tie
 
 abbrev Inv-loop : tie.InvT-loop
 Inv-loop p cols paid counts₀ n t₀ counts t = (t ≤ p .count) × NumbersTo (leftAfter (turnsBy p cols) paid) counts t
@@ -13,8 +13,8 @@ Inv-loop p cols paid counts₀ n t₀ counts t = (t ≤ p .count) × NumbersTo (
 abbrev μ-loop : tie.MeasureT-loop
 μ-loop p cols paid counts₀ n t₀ counts t = p .count - t
 
-pub put-unpaid-spec : {M : Type 1} → statement M
-put-unpaid-spec =
+pub put-nets-spec : {M : Type 1} → statement M
+put-nets-spec =
     tie.close
     (tie.spec
     Inv-loop
