@@ -10,8 +10,8 @@ use Rattle.model.specs.Steps.{Step}
 use Rattle.model.specs.Pick.{steps}
 use Rattle.board.specs.Board.{stepBytes}
 use Rattle.instance.specs.Columns.{turnsBy}
-use Rattle.model_relabel.specs.Relabelling.{Places, SameTimes, SameTakes, TiesKept, relabelAll}
-use Rattle.model_relabel.proofs.Relabelling.{steps-same-by}
+use Rattle.model_relabel.specs.Relabelling.{Places, SameTimes, SameWorths, SameTakes, TiesKept, relabelAll}
+use Rattle.model_relabel.proofs.Relabelling.{steps-same-by, first-alike}
 use Rattle.hall_spec.specs.Hall.{Hall, draw, isWide, isSmall, sameVehicle, shareMinute}
 use Rattle.hall_spec.specs.Plan.{turnsAmong, smallTakes, wideSteps, smallSteps}
 use Rattle.hall_spec.proofs.Windows.{small-is}
@@ -69,7 +69,11 @@ module _ (a : OneKind) (cols : List ℕ) where
 
     same-turns : SameTimes (turnsAmong H (isSmall H)) (engineTurns a cols) (λ t. t)
     unfolding engineTurns turnsAmong
-    same-turns = record { counts = refl; ends = λ i h. refl; worths = λ i h. ap (λ (b : Bool). cond b (H .windows .worth i) 0) (kind-small i) }
+    same-turns = record { counts = refl; ends = λ i h. refl }
+
+    same-worths : SameWorths (turnsAmong H (isSmall H)) (engineTurns a cols) (λ t. t)
+    unfolding engineTurns turnsAmong
+    same-worths = record { counts = refl; worths = λ i h. ap (λ (b : Bool). cond b (H .windows .worth i) 0) (kind-small i) }
 
     -- a window with a worth is small, and the engine gets its draw
     own-draw : (t : ℕ) → 0 < turnsAmong H (isSmall H) .worth t → engineTurns a cols .groomer t ≡ draw H t
@@ -89,7 +93,7 @@ module _ (a : OneKind) (cols : List ℕ) where
 
     small-steps : stepsFor (Shares (a .units)) (engineTurns a cols) ≡ smallSteps H
     unfolding stepsFor planFor nextBy smallSteps engineTurns turnsAmong TiesKept relabelAll
-    small-steps = sym (relabel-none _) ∙ steps-same-by places same-turns same-takes (λ i k h l e. h)
+    small-steps = sym (relabel-none _) ∙ steps-same-by places same-turns same-takes (λ i k h l e. h) (first-alike places same-worths)
       where
         places : Places (turnsAmong H (isSmall H) .count) (λ t. t) (λ t. t)
         places = record { turn-inside = λ i l. l; place-inside = λ t l. l; place-outside = λ t l. l; place-turn = λ i l. refl; turn-place = λ t l. refl }

@@ -1,2 +1,3 @@
 pub mod Orders
 pub mod Placed
+pub mod Numbers

@@ -22,7 +22,7 @@ use Rattle.instance.proofs.Rows.{count-is}
 use Rattle.model_relabel.specs.Relabelling.{relabel, relabelAll}
 use Rattle.model_relabel.proofs.Relabelling.{first-alike, none-open-same, all-right-same, after-all-same, costs-same}
 use Rattle.instance_by_end.specs.Placing.{placeAt, PutByEnd, PlacesOfAll}
-use Rattle.instance_by_end.proofs.Placed.{put-relabelled, list-places}
+use Rattle.instance_by_end.proofs.Placed.{put-relabelled, put-worths, list-places}
 use Rattle.local_ratio.specs.Bounds.{Residuals, ClosedTo}
 use Rattle.local_ratio.specs.Below.{closedBelow}
 use Rattle.local_ratio.specs.Counting.{costsFrom}
@@ -192,17 +192,17 @@ module _ {p : Size} {cols order own places : List ℕ} (h : PutByEnd p cols orde
 
   right-same : allRight U (initial U) (movesIn places m bytes) ≡ allRight T (initial T) xs
   unfolding movesIn
-  right-same = all-right-same (list-places h o) (put-relabelled h) xs (first-alike (list-places h o) (put-relabelled h))
+  right-same = all-right-same (list-places h o) (put-relabelled h) xs (first-alike (list-places h o) (put-worths h))
 
   closed-same : allRight T (initial T) xs ≡ true → noneOpen U (afterSteps U (initial U) (movesIn places m bytes)) ≡ noneOpen T (afterSteps T (initial T) xs)
   unfolding movesIn
   closed-same e =
       none-open-same (list-places h o) (put-relabelled h)
-      (after-all-same (list-places h o) (put-relabelled h) xs (first-alike (list-places h o) (put-relabelled h)) e)
+      (after-all-same (list-places h o) (put-relabelled h) xs (first-alike (list-places h o) (put-worths h)) e)
 
   ceiling-same : allRight T (initial T) xs ≡ true → ceiling U (movesIn places m bytes) ≡ ceiling T xs
   unfolding movesIn ceiling
-  ceiling-same e = costs-same (list-places h o) (put-relabelled h) xs (first-alike (list-places h o) (put-relabelled h)) e
+  ceiling-same e = costs-same (list-places h o) (put-relabelled h) xs (first-alike (list-places h o) (put-worths h)) e
 
   by-number : judged (firstOf (stepCauses U (movesIn places m bytes))) (ceiling U (movesIn places m bytes)) ≡ judged (firstOf (stepCauses T xs)) (ceiling T xs)
   unfolding judged stepCauses firstOf
