@@ -33,8 +33,8 @@ pub const GROOMERS: usize = sheet::MOST_GROOMERS as usize;
 // Each stint that is over has driven over, so that no more than these come up in a shift.
 const DAY_ROWS: usize = (turn::SHIFT_MINUTES / OVER_MINUTES as u32) as usize;
 
-// Turn, begin, end, and a place that is left free: rows of eight bytes are found faster than rows of six.
-const ROW_SIZE: usize = 4;
+// Turn, begin, end.
+const ROW_SIZE: usize = 3;
 
 const DAY_PLACES: usize = DAY_ROWS * ROW_SIZE;
 
