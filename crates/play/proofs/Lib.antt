@@ -2,3 +2,6 @@ pub mod Again
 pub mod Whole
 pub mod Answers
 pub mod Packed
+pub mod Agenda
+pub mod Listed
+pub mod Sums

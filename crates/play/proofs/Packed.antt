@@ -1,15 +1,18 @@
 -- A minute as one sum: what it adds to a packed standing, by cases, and that the sum's parts are the standing a minute later. Assumes nothing.
-use mathlib.Core.Path.{_≡_}
+use mathlib.Core.Path.{_≡_, _∙_, ap}
+use mathlib.Core.List.{List}
 use Prim.Native.Nat.{ℕ, _+_, _*_, _<_, _≤_, _/_, _%_}
 use native.Mathlib.Omega.{arith}
 use borrow.Author.Tests.{lt-ltb, le-ltb}
 use Rattle.turn.specs.Turn.{shiftMinutes}
 use Rattle.play_spec.specs.declared.Stint.{Stint}
-use Rattle.play_spec.specs.Day.{Doing, works, drives, stands}
-use Rattle.play_spec.specs.DayTable.{doingBy}
+use Rattle.play_spec.specs.Day.{overMinutes, Doing, works, drives, stands}
+use Rattle.play_spec.specs.DayTable.{stintIn, doingBy}
+use Rattle.play_spec.specs.Minutes.{begunOf, stepOf, MinuteReady}
 use Rattle.play_spec.specs.declared.Standing.{Standing}
 use Rattle.play_spec.specs.Standing.{noTurnInHand, movedBy, totalOf}
-use Rattle.play.specs.Packed.{drivingUnit, standingUnit, turnUnit, packedCounts, addedBy}
+use Rattle.play.specs.Agenda.{sumFor}
+use Rattle.play.specs.Packed.{drivingUnit, standingUnit, turnUnit, packedCounts, unpacked, addedBy, mostAdded}
 
 -- ---- what a minute adds
 
@@ -32,10 +35,6 @@ module _ (turn begin end m : ℕ) where
 pub ruleset added-cases = (added-stands, added-works, added-drives)
 
 -- ---- the sum
-
--- the standing that a number packs
-abbrev unpacked : ℕ → Standing
-unpacked x = record { working = x % drivingUnit; driving = x / drivingUnit % drivingUnit; standing = x / standingUnit % drivingUnit; turn = x / turnUnit }
 
 low : (y a c : ℕ) → a < drivingUnit → y ≡ a + c * drivingUnit → y % drivingUnit ≡ a
 low y a c l e = omega (arith, e)
@@ -65,5 +64,26 @@ module _ (b : Standing) (room : totalOf b < shiftMinutes) where
   moved-parts drives = parts (packedCounts b + (drivingUnit + noTurnInHand * turnUnit)) (b .working) (b .driving + 1) (b .standing) noTurnInHand (omega (arith, room)) (omega (arith, room)) (omega (arith, room)) (omega arith)
   moved-parts stands = parts (packedCounts b + (standingUnit + noTurnInHand * turnUnit)) (b .working) (b .driving) (b .standing + 1) noTurnInHand (omega (arith, room)) (omega (arith, room)) (omega (arith, room)) (omega arith)
 
-pub sum-is : (b : Standing) (k : Stint) (m : ℕ) {a : ℕ} → totalOf b < shiftMinutes → a ≡ addedBy (doingBy k m) → unpacked (packedCounts b + a) ≡ movedBy b (doingBy k m)
-sum-is b k m room e = rw e (moved-parts b room (doingBy k m))
+-- a minute by the sum that is in force
+pub step-by-sum : (s : Standing) (table : List ℕ) (g m : ℕ) {a : ℕ} {r : Standing} → MinuteReady table g m s → a ≡ sumFor table m g s → r ≡ unpacked (packedCounts (begunOf s m) + a) → r ≡ stepOf s table g m
+unfolding stepOf
+step-by-sum s table g m ready e f =
+    let room : totalOf (begunOf s m) < shiftMinutes = omega (arith, ready .2, ready .3) in
+    f ∙ ap (λ (x : ℕ). unpacked (packedCounts (begunOf s m) + x)) e ∙ moved-parts (begunOf s m) room (doingBy (stintIn table g (begunOf s m .driving / overMinutes)) m)
+
+-- ---- a step by its cases
+
+module _ (s : Standing) (m : ℕ) {b : Standing} (e : b ≡ begunOf s m) where
+  pub step-is : (a : ℕ) → unpacked (packedCounts b + a) ≡ unpacked (packedCounts (begunOf s m) + a)
+  step-is a = rw e
+
+  pub counts-room : totalOf (begunOf s m) < shiftMinutes → totalOf b < shiftMinutes
+  counts-room l = rw e l
+
+  pub sum-fits : (a : ℕ) → totalOf (begunOf s m) < shiftMinutes → a ≤ mostAdded → packedCounts b + a < 18446744073709551616
+  sum-fits a l k = let t : totalOf b ≡ totalOf (begunOf s m) = ap totalOf e in omega (arith, t)
+
+  pub turn-fits : (a : ℕ) → totalOf (begunOf s m) < shiftMinutes → a ≤ mostAdded → (packedCounts b + a) / turnUnit < 65536
+  turn-fits a l k = let t : totalOf b ≡ totalOf (begunOf s m) = ap totalOf e in omega (arith, t)
+
+pub ruleset step-cases = (step-is, counts-room, sum-fits, turn-fits)

@@ -1,7 +1,9 @@
 -- A local array of numbers that is put down whole, lent whole, and had back. Assumes `Given`.
 --     all-typed        the machine's value of n times one number has the array's type
 --     all-in           a local that holds it, as an array in memory: what is lent as one value
---     elements         a local that holds an array, as its elements side by side: what is lent as a shared slice
+--     apart            an array in memory as its elements side by side: what is lent as a shared slice
+--     together         and back
+--     elements         a local that holds an array, as its elements
 --     elements-back    and back, once the slice is
 use mathlib.Core.Path.{_≡_, refl, sym}
 use Prim.Native.Nat.{ℕ, suc, zero, _<_, _^_}
@@ -50,13 +52,19 @@ module _ {M : Type 1} (𝓤 : URA M) (H : Heap 𝓤) (A : Atoms 𝓤) (W : Given
       move ! (1 ∷ 0 ∷ []) $ use2 W (‵ (partAt (Numbers w n) fullShare (replicate n x) b 0)) (part-in 𝓤 H A W (Numbers w n) refl fullShare (replicate n x) b 0 value) $ done !
 
 module _ {M : Type 1} (𝓤 : URA M) (H : Heap 𝓤) (A : Atoms 𝓤) (W : Given 𝓤 H A) (w : Width) (n b : ℕ) (xs : List ℕ) (size : length xs ≡ n) where
+  pub apart : ent 𝓤 (sem 𝓤 H A (partAt (Numbers w n) fullShare xs b 0)) (sem 𝓤 H A (arr-parts (shares (UInt w)) (length xs) .part fullShare xs b 0))
+  apart =
+      qed W (‵ (partAt (Numbers w n) fullShare xs b 0) ∷ []) ∵ use1 W (‵ (arr-parts (shares (UInt w)) n .part fullShare xs b 0)) (array-apart 𝓤 H A W (UInt w) fullShare tt n xs b 0) $
+      rewrite ! 0 (λ (k : ℕ). ‵ (arr-parts (shares (UInt w)) k .part fullShare xs b 0)) (sym size) refl $ done !
+
+  pub together : ent 𝓤 (sem 𝓤 H A (arr-parts (shares (UInt w)) (length xs) .part fullShare xs b 0)) (sem 𝓤 H A (partAt (Numbers w n) fullShare xs b 0))
+  together =
+      qed W (‵ (arr-parts (shares (UInt w)) (length xs) .part fullShare xs b 0) ∷ []) ∵ rewrite ! 0 (λ (k : ℕ). ‵ (arr-parts (shares (UInt w)) k .part fullShare xs b 0)) size refl $ by ! (array-whole 𝓤 H A W (UInt w) fullShare n xs b 0)
+
   pub elements : (v : Val) → ent 𝓤 (⋆ 𝓤 H A (‵ (fat fullShare (tyArray (tyInt w) n) b 0 v) ∷ ‵ (Numbers w n .own xs (v ∷ [])) ∷ [])) (sem 𝓤 H A (arr-parts (shares (UInt w)) (length xs) .part fullShare xs b 0))
   elements v =
-      qed W (‵ (fat fullShare (tyArray (tyInt w) n) b 0 v) ∷ ‵ (Numbers w n .own xs (v ∷ [])) ∷ []) ∵ use2 W (‵ (partAt (Numbers w n) fullShare xs b 0)) (part-in 𝓤 H A W (Numbers w n) refl fullShare xs b 0 v) $
-      use1 W (‵ (arr-parts (shares (UInt w)) n .part fullShare xs b 0)) (array-apart 𝓤 H A W (UInt w) fullShare tt n xs b 0) $
-      rewrite ! 0 (λ (k : ℕ). ‵ (arr-parts (shares (UInt w)) k .part fullShare xs b 0)) (sym size) refl $ done !
+      qed W (‵ (fat fullShare (tyArray (tyInt w) n) b 0 v) ∷ ‵ (Numbers w n .own xs (v ∷ [])) ∷ []) ∵ use2 W (‵ (partAt (Numbers w n) fullShare xs b 0)) (part-in 𝓤 H A W (Numbers w n) refl fullShare xs b 0 v) $ by ! apart
 
   pub elements-back : ent 𝓤 (sem 𝓤 H A (arr-parts (shares (UInt w)) (length xs) .part fullShare xs b 0)) (ex 𝓤 (λ (v : Val). sep 𝓤 (H .at fullShare (tyArray (tyInt w) n) b 0 v) (sem 𝓤 H A (Numbers w n .own xs (v ∷ [])))))
   elements-back =
-      qed W (‵ (arr-parts (shares (UInt w)) (length xs) .part fullShare xs b 0) ∷ []) ∵ rewrite ! 0 (λ (k : ℕ). ‵ (arr-parts (shares (UInt w)) k .part fullShare xs b 0)) size refl $
-      use1 W (‵ (partAt (Numbers w n) fullShare xs b 0)) (array-whole 𝓤 H A W (UInt w) fullShare n xs b 0) $ by ! (part-out 𝓤 H A W (Numbers w n) refl fullShare xs b 0)
+      qed W (‵ (arr-parts (shares (UInt w)) (length xs) .part fullShare xs b 0) ∷ []) ∵ use1 W (‵ (partAt (Numbers w n) fullShare xs b 0)) together $ by ! (part-out 𝓤 H A W (Numbers w n) refl fullShare xs b 0)

@@ -1,5 +1,5 @@
 -- A standing packed into one number: its counts and the turn in hand, each in 16 bits of its own. For inner functions only (request R-13). Assumes nothing.
-use Prim.Native.Nat.{ℕ, _+_, _*_}
+use Prim.Native.Nat.{ℕ, _+_, _*_, _/_, _%_}
 use Rattle.play_spec.specs.Day.{Doing, works, drives, stands}
 use Rattle.play_spec.specs.declared.Standing.{Standing}
 use Rattle.play_spec.specs.Standing.{noTurnInHand}
@@ -18,7 +18,11 @@ turnUnit = 281474976710656
 abbrev pub packedCounts : Standing → ℕ
 packedCounts s = s .working + s .driving * drivingUnit + s .standing * standingUnit
 
--- what a minute adds to them
+-- the standing that a number packs
+abbrev pub unpacked : ℕ → Standing
+unpacked x = record { working = x % drivingUnit; driving = x / drivingUnit % drivingUnit; standing = x / standingUnit % drivingUnit; turn = x / turnUnit }
+
+-- what a minute adds to the counts
 unfoldable pub addedBy : Doing → ℕ
 addedBy (works u) = 1 + u * turnUnit
 addedBy drives = drivingUnit + noTurnInHand * turnUnit

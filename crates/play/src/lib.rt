@@ -2,9 +2,9 @@
 // each groomer, which every minute moves on.
 ghost use mathlib.Core.Path.{_≡_};
 ghost use mathlib.Core.Bool.{false};
-ghost use mathlib.Core.List.{_++_};
-ghost use Prim.Native.Nat.{_+_, _≤_, _<_};
-ghost use lib.ListN.{length};
+ghost use mathlib.Core.List.{List, _++_};
+ghost use Prim.Native.Nat.{ℕ, _+_, _≤_, _<_};
+ghost use lib.ListN.{length, getD};
 ghost use Rattle.refusal.specs.Outcome.{beside};
 ghost use Rattle.turn.specs.Turn.{shiftMinutes};
 ghost use Rattle.sheet.specs.Kind.{mostGroomers};
@@ -13,21 +13,23 @@ ghost use Rattle.instance_spec.specs.Problem.{shiftGap};
 ghost use Rattle.board.specs.Board.{boardTurns, boardChoice};
 ghost use Rattle.board_open.specs.Open.{malformed};
 ghost use Rattle.check_spec.specs.Check.{boardCauses};
-ghost use Rattle.play_spec.specs.DayTable.{dayTablePlaces, doingBy};
-ghost use Rattle.play_spec.specs.Standing.{freshOf, movedBy, totalOf};
+ghost use Rattle.play_spec.specs.DayTable.{dayRows, dayTablePlaces, doingBy};
+ghost use Rattle.play_spec.specs.Standing.{freshOf, totalOf};
 ghost use Rattle.play_spec.specs.Play.{servesFor, lentCauses, playOf};
-ghost use Rattle.play_spec.specs.Minutes.{begunOf, stepOf, minuteOf, minutesFrom, MinuteReady, AllReady};
+ghost use Rattle.play_spec.specs.Minutes.{begunOf, minuteOf, minutesFrom, AllReady};
 ghost use Rattle.play_days.specs.Table.{blankTable, GroomersKnown, Playable};
-ghost use Rattle.play.specs.Packed.{addedBy, mostAdded};
+ghost use Rattle.play.specs.Packed.{packedCounts, unpacked, addedBy, mostAdded};
+ghost use Rattle.play.specs.Agenda.{minutePlaces, agendaPlaces, changeAfter, stintsOver, enlisted, noneListed, allListed, rowOver};
+ghost use Rattle.play.specs.Agenda.{renewedSums, renewedAgenda, InForce, FirstKnown, RenewedFirst};
 ghost use Rattle.play.specs.Prepared.{PreparedBy, PreparedFor};
 use instance::PLACES;
 use instance::Size;
 use play_days::DAY_TABLE_PLACES;
+use play_days::GROOMERS;
 use play_days::MINUTES;
 use play_days::OVER_MINUTES;
 use play_spec::PlayAnswer;
 use play_spec::Standing;
-use play_spec::Stint;
 
 // What is known before the first minute: the answer, and how many standings are moved.
 pub struct Prepared {
@@ -53,6 +55,15 @@ const STANDING_UNIT: u64 = 4294967296;
 const TURN_UNIT: u64 = 281474976710656;
 
 const NONE_IN_HAND: u64 = NO_TURN as u64 * TURN_UNIT;
+
+// When the groomers' sums change. For each minute the groomer whose sum changes then, one above its place, 0 if
+// none does; driving over may end after the shift. Then for each groomer the next one of the same minute, and
+// behind that how many stints it has over.
+const OTHERS: usize = (MINUTES + OVER_MINUTES) as usize;
+
+const ROWS: usize = OTHERS + GROOMERS;
+
+const AGENDA_PLACES: usize = ROWS + GROOMERS;
 
 // Before the first minute.
 fn fresh() -> Standing
@@ -91,15 +102,108 @@ fn added(turn: u16, begin: u16, end: u16, m: u16) -> u64
     DRIVING_UNIT + NONE_IN_HAND
 }
 
-// A minute later. The counts are packed into one number, so that the minute is one sum.
-fn moved(b: Standing, k: Stint, m: u16) -> Standing
-    requires { ⌜ totalOf b < shiftMinutes ⌝ }
-    ensures { λ r. ⌜ r ≡ movedBy b (doingBy k m) ⌝ }
+// In which minute, after minute m of a stint, the sum that it adds changes: when the turn begins, ends, or has
+// been driven over from.
+fn change_after(begin: u16, end: u16, m: u16) -> usize
+    requires { ⌜ m < shiftMinutes ⌝ }
+    ensures { λ r. ⌜ (r ≡ changeAfter begin end m) × (r < minutePlaces) ⌝ }
 {
+    if m < begin {
+        return play_days::cut_off(begin) as usize;
+    }
+    if m < end {
+        return play_days::cut_off(end) as usize;
+    }
+    (m + OVER_MINUTES) as usize
+}
+
+// How many stints are over by then: one if the groomer drives over.
+fn stints_over(begin: u16, end: u16, m: u16) -> u8
+    ensures { λ r. ⌜ (r ≡ stintsOver begin end m) × (r ≤ 1) ⌝ }
+{
+    if m < begin {
+        return 0;
+    }
+    if m < end {
+        return 0;
+    }
+    1
+}
+
+// Puts groomer g in front of those whose sum changes in minute u.
+fn enlist(agenda: &mut [u8; AGENDA_PLACES], g: usize, u: usize)
+    requires { ⌜ (length (now agenda) ≡ agendaPlaces) × (g < mostGroomers) × (u < minutePlaces) ⌝ }
+    ensures { λ _. ⌜ now (agenda .exit) ≡ enlisted (now (agenda .entry)) g u ⌝ }
+{
+    agenda[OTHERS + g] = agenda[u];
+    agenda[u] = (g + 1) as u8;
+}
+
+// At first the sums of all n groomers are to be found in minute 0.
+fn enlist_all(agenda: &mut [u8; AGENDA_PLACES], n: usize)
+    requires { ⌜ (n ≤ mostGroomers) × (now agenda ≡ noneListed) ⌝ }
+    ensures { λ _. ⌜ now (agenda .exit) ≡ allListed n ⌝ }
+{
+    let mut g = 0;
+    while g < n {
+        enlist(&mut *agenda, g, 0);
+        g += 1;
+    }
+}
+
+// Finds groomer g's sum for minute m, and when it changes.
+fn renew(
+    table: &[u16],
+    sums: &mut [u64; GROOMERS],
+    agenda: &mut [u8; AGENDA_PLACES],
+    g: usize,
+    m: u16,
+)
+    requires { ⌜ (length (now table) ≡ dayTablePlaces) × (length (now sums) ≡ mostGroomers) × (length (now agenda) ≡ agendaPlaces) ⌝ }
+    requires { ⌜ (g < mostGroomers) × (m < shiftMinutes) × (rowOver (now agenda) g < dayRows) ⌝ }
+    ensures { λ _. ⌜ (now (sums .exit) ≡ renewedSums (now (table .entry)) (now (agenda .entry)) g m (now (sums .entry)))
+        × (now (agenda .exit) ≡ renewedAgenda (now (table .entry)) g m (now (agenda .entry))) × (getD (now (sums .exit)) g 0 ≤ mostAdded) ⌝ }
+{
+    let j = agenda[ROWS + g];
+    let k = play_days::stint_in(table, g, j as usize);
+    sums[g] = added(k.turn, k.begin, k.end, m);
+    agenda[ROWS + g] = j + stints_over(k.begin, k.end, m);
+    enlist(&mut *agenda, g, change_after(k.begin, k.end, m));
+}
+
+// Takes the first groomer whose sum changes in minute m off the agenda, and finds its sum anew. Returns
+// whether there was one.
+fn renew_first<'a>(
+    table: &[u16],
+    sums: &'a mut [u64; GROOMERS],
+    agenda: &'a mut [u8; AGENDA_PLACES],
+    m: u16,
+) -> bool
+    requires { ⌜ (length (now table) ≡ dayTablePlaces) × (length (now sums) ≡ mostGroomers) × (length (now agenda) ≡ agendaPlaces)
+        × (m < shiftMinutes) × FirstKnown (now agenda) m ⌝ }
+    ensures { λ r. ⌜ RenewedFirst (now (table .entry)) m (now (sums .entry)) (now (agenda .entry)) r (now (sums .exit)) (now (agenda .exit)) ⌝ }
+{
+    let first = agenda[m as usize];
+    if first == 0 {
+        return false;
+    }
+    let g = (first - 1) as usize;
+    agenda[m as usize] = agenda[OTHERS + g];
+    renew(table, &mut *sums, &mut *agenda, g, m);
+    true
+}
+
+// A minute of the groomer at place g, later by the sum in force. The counts are packed into one number, so
+// that the minute is one sum.
+pub fn step(s: Standing, sums: &[u64], g: usize, m: u16) -> Standing
+    requires { ⌜ (totalOf (begunOf s m) < shiftMinutes) × (g < length (now sums)) × (getD (now sums) g 0 ≤ mostAdded) ⌝ }
+    ensures { λ r. ⌜ r ≡ unpacked (packedCounts (begunOf s m) + getD (now (sums .entry)) g 0) ⌝ }
+{
+    let b = begun(s, m);
     let counts = b.working as u64
         + b.driving as u64 * DRIVING_UNIT
         + b.standing as u64 * STANDING_UNIT;
-    let x = counts + added(k.turn, k.begin, k.end, m);
+    let x = counts + sums[g];
     Standing {
         working: (x % DRIVING_UNIT) as u16,
         driving: (x / DRIVING_UNIT % DRIVING_UNIT) as u16,
@@ -108,37 +212,33 @@ fn moved(b: Standing, k: Stint, m: u16) -> Standing
     }
 }
 
-// A minute of the groomer at place g. By its minutes of driving over it is known how many stints it has
-// behind it, and so which one is in hand or next.
-pub fn step(s: Standing, table: &[u16], g: usize, m: u16) -> Standing
-    requires { ⌜ MinuteReady (now table) g m s ⌝ }
-    ensures { λ r. ⌜ r ≡ stepOf s (now (table .entry)) g m ⌝ }
-{
-    let b = begun(s, m);
-    let k = play_days::stint_in(table, g, (b.driving / OVER_MINUTES) as usize);
-    moved(b, k, m)
-}
-
-// A minute of the first n groomers, in the caller's list.
-pub fn minute(list: &mut [Standing], table: &[u16], n: usize, m: u16)
-    requires { ⌜ (n ≤ length (now list)) × AllReady (now table) m n (now list) ⌝ }
-    ensures { λ _. ⌜ now (list .exit) ≡ minuteOf n 0 (now (list .entry)) (now (table .entry)) m ⌝ }
+// A minute of the first n groomers, in the caller's list, by the sums that are in force for a table of days.
+pub fn minute(list: &mut [Standing], sums: &[u64], n: usize, m: u16)
+    ghost { List ℕ }
+    requires { λ table. ⌜ (n ≤ length (now list)) × AllReady table m n (now list) × InForce table m n (now list) (now sums) ⌝ }
+    ensures { λ table _. ⌜ now (list .exit) ≡ minuteOf n 0 (now (list .entry)) table m ⌝ }
 {
     let mut g = 0;
     while g < n {
-        list[g] = step(list[g], table, g, m);
+        list[g] = step(list[g], sums, g, m);
         g = g + 1;
     }
 }
 
-// All minutes of the shift.
+// All minutes of the shift. A groomer's sum is found anew only in the minutes in which it changes.
 pub fn minutes(list: &mut [Standing], table: &[u16], n: usize)
     requires { ⌜ (n ≤ length (now list)) × (n ≤ mostGroomers) × (length (now table) ≡ dayTablePlaces) ⌝ }
     ensures { λ _. ⌜ now (list .exit) ≡ minutesFrom shiftMinutes 0 n (now (list .entry)) (now (table .entry)) ⌝ }
 {
+    let mut sums = [0u64; GROOMERS];
+    let mut agenda = [0u8; AGENDA_PLACES];
+    enlist_all(&mut agenda, n);
     let mut m = 0;
     while m < MINUTES {
-        minute(list, table, n, m);
+        if renew_first(table, &mut sums, &mut agenda, m) {
+            continue;
+        }
+        minute(list, &sums, n, m);
         m = m + 1;
     }
 }

@@ -28,13 +28,13 @@ const MOST_DELAY: u16 = 120;
 pub const MINUTES: u16 = turn::SHIFT_MINUTES as u16;
 
 // As many groomers as a sheet can have.
-const GROOMERS: usize = sheet::MOST_GROOMERS as usize;
+pub const GROOMERS: usize = sheet::MOST_GROOMERS as usize;
 
 // Each stint that is over has driven over, so that no more than these come up in a shift.
 const DAY_ROWS: usize = (turn::SHIFT_MINUTES / OVER_MINUTES as u32) as usize;
 
-// Turn, begin, end, and a place that is left free: rows of eight bytes are found faster than rows of six.
-const ROW_SIZE: usize = 4;
+// Turn, begin, end.
+const ROW_SIZE: usize = 3;
 
 const DAY_PLACES: usize = DAY_ROWS * ROW_SIZE;
 
@@ -44,7 +44,7 @@ pub const DAY_TABLE_PLACES: usize = GROOMERS * DAY_PLACES;
 const PROGRESS_PLACES: usize = GROOMERS + GROOMERS;
 
 // A minute, or the shift's end where that is earlier.
-fn cut_off(x: u16) -> u16
+pub fn cut_off(x: u16) -> u16
     ensures { λ r. ⌜ (r ≡ cut x) × (r ≤ shiftMinutes) ⌝ }
 {
     if x < MINUTES {

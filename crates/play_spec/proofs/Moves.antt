@@ -12,11 +12,10 @@ use lib.Seq.{getD-set-same, getD-set-other}
 use borrow.Author.Tests.{eq-eqb, ne-eqb}
 use Rattle.turn.specs.Turn.{shiftMinutes}
 use Rattle.sheet.specs.Kind.{mostGroomers}
-use Rattle.play_spec.specs.declared.Stint.{Stint}
 use Rattle.play_spec.specs.Day.{overMinutes}
-use Rattle.play_spec.specs.DayTable.{dayRows, dayTablePlaces, stintIn, doingBy}
+use Rattle.play_spec.specs.DayTable.{dayTablePlaces, stintIn, doingBy}
 use Rattle.play_spec.specs.declared.Standing.{Standing}
-use Rattle.play_spec.specs.Standing.{freshOf, movedBy, totalOf}
+use Rattle.play_spec.specs.Standing.{freshOf, totalOf}
 use Rattle.play_spec.proofs.Standings.{moved-total}
 use Rattle.play_spec.specs.Minutes.{begunOf, stepOf, minuteOf, minutesFrom, MinuteReady, AllReady}
 
@@ -35,34 +34,6 @@ begun-later s m e = rw (ne-eqb m 0 e)
 
 pub ruleset begun-cases = (begun-anew, begun-later)
 
-pub step-is : (b s : Standing) (table : List ℕ) (g m : ℕ) {k : Stint} {r : Standing} → b ≡ begunOf s m → k ≡ stintIn table g (b .driving / overMinutes) → r ≡ movedBy b (doingBy k m) → r ≡ stepOf s table g m
-unfolding stepOf
-step-is b s table g m {k} e f h =
-    let q : k ≡ stintIn table g (begunOf s m .driving / overMinutes) = f ∙ ap (λ (x : Standing). stintIn table g (x .driving / overMinutes)) e in h ∙ (λ i. movedBy (e i) (doingBy (q i) m))
-
--- ---- a step has room
-
-module _ (b s : Standing) (table : List ℕ) (g m : ℕ) (e : b ≡ begunOf s m) (r : MinuteReady table g m s) where
-  total-is : totalOf b ≡ m
-  total-is = ap totalOf e ∙ r .3
-
-  pub minute-room : totalOf b < shiftMinutes
-  minute-room = omega (arith, total-is, r .2)
-
-  pub row-room : b .driving / overMinutes < dayRows
-  row-room = omega (arith, total-is, r .2)
-
-  pub row-fits : b .driving / overMinutes < 18446744073709551616
-  row-fits = omega (arith, total-is, r .2)
-
-pub table-room : (s : Standing) (table : List ℕ) (g m : ℕ) → MinuteReady table g m s → length table ≡ dayTablePlaces
-table-room s table g m r = r .0
-
-pub groomer-room : (s : Standing) (table : List ℕ) (g m : ℕ) → MinuteReady table g m s → g < mostGroomers
-groomer-room s table g m r = r .1
-
-pub ruleset step-cases = (step-is, minute-room, row-room, row-fits, table-room, groomer-room)
-
 -- ---- a step makes one more minute
 
 step-total : (s : Standing) (table : List ℕ) (g m : ℕ) → MinuteReady table g m s → totalOf (stepOf s table g m) ≡ m + 1
@@ -80,10 +51,11 @@ pub record Mid (n : ℕ) (ys : List Standing) (table : List ℕ) (m g : ℕ) (l 
   pub same : length l ≡ length ys
   pub rest : minuteOf (n - g) g l table m ≡ minuteOf n 0 ys table m
   pub ready : (j : ℕ) → g ≤ j → j < n → MinuteReady table j m (getD l j freshOf)
+  pub kept : (j : ℕ) → g ≤ j → getD l j freshOf ≡ getD ys j freshOf
 
 module _ (n : ℕ) (ys : List Standing) (table : List ℕ) (m : ℕ) where
   pub mid-start : AllReady table m n ys → Mid n ys table m 0 ys
-  mid-start h = record { upto = omega arith; same = refl; rest = rw sub-zero; ready = λ j _ l. h j l }
+  mid-start h = record { upto = omega arith; same = refl; rest = rw sub-zero; ready = λ j _ l. h j l; kept = λ j _. refl }
 
   pub mid-next : (g : ℕ) (l : List Standing) → g < n → Mid n ys table m g l → Mid n ys table m (g + 1) (set l g (stepOf (getD l g freshOf) table g m))
   unfolding minuteOf
@@ -93,6 +65,7 @@ module _ (n : ℕ) (ys : List Standing) (table : List ℕ) (m : ℕ) where
     rest = let k : n - g ≡ suc (n - (g + 1)) = omega arith in rw k at (i .rest);
     ready = λ j from to. let other : j ≡ g → ⊥ = λ e. omega arith in let e : getD (set l g (stepOf (getD l g freshOf) table g m)) j freshOf ≡ getD l j freshOf = getD-set-other l g j (stepOf (getD l g freshOf) table g m) freshOf other in
         let below : g ≤ j = omega arith in rw e (i .ready j below to);
+    kept = λ j from. let other : j ≡ g → ⊥ = λ e. omega arith in getD-set-other l g j (stepOf (getD l g freshOf) table g m) freshOf other ∙ i .kept j (omega arith);
   }
 
   pub mid-end : (g : ℕ) (l : List Standing) → n ≤ g → Mid n ys table m g l → l ≡ minuteOf n 0 ys table m

@@ -1,4 +1,4 @@
--- The days of all groomers as one table of numbers: for each groomer rows of four places, a stint each in the first three, cut off at the shift's end (request R-13). Assumes nothing.
+-- The days of all groomers as one table of numbers: for each groomer rows of three places, a stint each, cut off at the shift's end (request R-13). Assumes nothing.
 use mathlib.Core.Path.{_≡_}
 use mathlib.Core.Bool.{Bool, cond}
 use mathlib.Core.List.{List, [], _∷_}
@@ -15,9 +15,9 @@ use Rattle.play_spec.specs.Day.{overMinutes, mostDelay, delayIn, dayOf, 
 abbrev pub dayRows : ℕ
 dayRows = shiftMinutes / overMinutes
 
--- a row's places: the three numbers of a stint, and one that is left free
+-- a row's places: the three numbers of a stint
 abbrev pub rowSize : ℕ
-rowSize = 4
+rowSize = 3
 
 abbrev pub dayPlaces : ℕ
 dayPlaces = dayRows * rowSize

@@ -106,7 +106,7 @@ abbrev prepared-ty : Ty
 prepared-ty = spell pieces.table (pointee (P.the-row .written))
 
 abbrev array-ty : Ty
-array-ty = tyArray (tyInt w16) 6144
+array-ty = tyArray (tyInt w16) 4608
 
 abbrev again-ref : Ty
 again-ref = tyRef erased mut (pointee (T.the-row .written))
@@ -124,7 +124,7 @@ abbrev word : Ty
 word = tyInt w64
 
 abbrev Tab : RattleType
-Tab = Array u16 6144
+Tab = Array u16 4608
 
 abbrev mut-ref : Ty
 mut-ref = tyRef erased mut array-ty
@@ -221,7 +221,7 @@ module _ {M : Type 1} (𝓤 : URA M) (H : Heap 𝓤) (A : Atoms 𝓤) (W : Given
     abbrev prepared-val : Val
     prepared-val = LL.val P.the-type P′.the-laws p
 
-    abbrev size : length xs ≡ 6144
+    abbrev size : length xs ≡ 4608
     size = found .places-are
 
     table-room : Room u16 (length xs)
@@ -242,7 +242,7 @@ module _ {M : Type 1} (𝓤 : URA M) (H : Heap 𝓤) (A : Atoms 𝓤) (W : Given
 
     -- what `minutes` binds outside, and what it asks
     abbrev ts : ℕ → Val
-    ts k = sliceVal (k, 0) 6144
+    ts k = sliceVal (k, 0) 4608
 
     abbrev to-minutes : ℕ → ℕ → GName → Minutes 𝓤 H A mem run .Ghost
     to-minutes k ν δ = (((κ, (ν ∷ [], tt)), (q, (fullShare, tt)), tt, (x, (tx k δ xs, (p .moved, tt))), (sl ∷ [], (ts k ∷ [], (vint w64 (p .moved) ∷ [], tt)))), tt)
@@ -273,7 +273,7 @@ module _ {M : Type 1} (𝓤 : URA M) (H : Heap 𝓤) (A : Atoms 𝓤) (W : Given
           assigns ! (agg ! (and-then ! (load ! (from ! (stop !)) (look ! 13 refl)) (and-then ! (load ! (from ! (fld ! refl (stop !))) (look-in ! 27 (sub ! 1 refl (whole !)))) (no-more !)))) (from ! (stop !)) (init ! 11 refl (tt, (tt, (record { fits = room .0 }, tt)))) $
           assigns ! (addr ! (from ! (stop !))) (from ! (stop !)) (init ! 9 refl (tt, tt)) $
           assigns ! (agg ! (and-then ! (load ! (from ! (stop !)) (look ! 9 refl)) (and-then ! (big-lit ! (record { fits = lit< tt })) (no-more !)))) (from ! (stop !)) (init ! 7 refl (tt, (tt, (record { fits = lit< tt }, tt)))) $
-          move ! (25 ∷ 6 ∷ []) $ use2 W (‵ (arr-parts (shares u16) (length xs) .part fullShare xs l₅ 0)) (elements 𝓤 H A W w16 6144 l₅ xs (found .places-are) u) $
+          move ! (25 ∷ 6 ∷ []) $ use2 W (‵ (arr-parts (shares u16) (length xs) .part fullShare xs l₅ 0)) (elements 𝓤 H A W w16 4608 l₅ xs (found .places-are) u) $
           -- from here the cell of the table is gone, and only that it dies stands in its place
           lft-new ! tt (λ ν. move ! (1 ∷ []) $
           use1 W (later (some (λ (δ : GName). ‵ (ShrSlice (named 1) (ν ∷ []) u16 .own (tx l₅ δ xs) (sliceVal (l₅, 0) (length xs) ∷ [])) ⊛ ‵ (flent (ν ∷ []) (arr-parts (shares u16) (length xs) .part fullShare xs l₅ 0))))) (lends-shr-slice 𝓤 H A W u16 (named 1) (ν ∷ []) fullShare xs l₅ 0 (table-room p xs p-is found)) $ await ! tt $ pick ! (λ δ. split ! $
@@ -290,7 +290,7 @@ module _ {M : Type 1} (𝓤 : URA M) (H : Heap 𝓤) (A : Atoms 𝓤) (W : Given
           land ! (from ! (stop !)) (init ! 17 refl (nothing-lawful 𝓤 H A W .typed r₂ _ is₂ .0)) $ drop ! $
           -- the lifetime is ended, and the local has its array back
           split ! $ move ! (1 ∷ []) $ split ! $ lft-end ! tt $ move ! (0 ∷ 5 ∷ []) $ lent-back ! tt $
-          use1 W (some (λ (u′ : Val). ‵ (fat fullShare array-ty l₅ 0 u′) ⊛ ‵ (Tab .own xs (u′ ∷ [])))) (elements-back 𝓤 H A W w16 6144 l₅ xs (found .places-are)) $ pick ! (λ u′. split ! $
+          use1 W (some (λ (u′ : Val). ‵ (fat fullShare array-ty l₅ 0 u′) ⊛ ‵ (Tab .own xs (u′ ∷ [])))) (elements-back 𝓤 H A W w16 4608 l₅ xs (found .places-are)) $ pick ! (λ u′. split ! $
           -- [_5; the array's; true; the list's token; the last list; true; the slices' token; the sheet's; the board's; the delays'; _14; …]: the answer is made
           nothing ! $ use1 W (raw (Answer 𝓤 H A mem run .pre (to-answer p xs p-is found))) (goes-answer p xs p-is found) $ calls-at ! fm (Answer 𝓤 H A mem run) known-answer (to-answer p xs p-is found) (and-then ! (load ! (from ! (stop !)) (look ! 27 refl)) (no-more !)) (λ z.
           use1 W (later (some (λ (r : PlayAnswer). (‵ ftrue ⊛ ‵ (E.the-row .own r (z ∷ []))) ⊛ raw (ensured 𝓤 H A answer.ended (answer.clauses 𝓤 H A mem run) tt (p, tt) tt r)))) (id⊢ 𝓤 _) $ await ! tt $ pick ! (λ r.
@@ -311,10 +311,10 @@ module _ {M : Type 1} (𝓤 : URA M) (H : Heap 𝓤) (A : Atoms 𝓤) (W : Given
         -- [the list's; true; the delays'; the board's; the list's token; true; the slices' token; the sheet's; _14; …]
         keep ! (0 ∷ 4 ∷ 6 ∷ 7 ∷ 3 ∷ 2 ∷ 8 ∷ 9 ∷ 10 ∷ 11 ∷ 12 ∷ 13 ∷ 14 ∷ 15 ∷ 16 ∷ 17 ∷ 18 ∷ 19 ∷ 20 ∷ 21 ∷ 22 ∷ 23 ∷ 24 ∷ 25 ∷ 26 ∷ 27 ∷ 28 ∷ 29 ∷ 30 ∷ 31 ∷ 32 ∷ 33 ∷ 34 ∷ 35 ∷ 36 ∷ 37 ∷ []) $
         -- [the list's; its token; the slices' token; the sheet's; the board's; the delays'; _14; …; ..; _0; …]: the blank table is put down
-        assigns ! (rep ! 6144 (lit ! tt)) (from ! (stop !)) (init ! 24 refl (all-typed 𝓤 H A W w16 6144 960 (lit< tt))) $
+        assigns ! (rep ! 4608 (lit ! tt)) (from ! (stop !)) (init ! 24 refl (all-typed 𝓤 H A W w16 4608 960 (lit< tt))) $
         assigns ! (of-opd ! (load ! (from ! (fld ! refl (stop !))) (look-in ! 26 (sub ! 1 refl (whole !))))) (from ! (stop !)) (init ! 20 refl (tt, record { fits = room .0 })) $
         assigns ! (addr ! (from ! (stop !))) (from ! (stop !)) (init ! 18 refl (tt, tt)) $
-        move ! (24 ∷ []) $ use1 W (‵ (partAt Tab fullShare (replicate 6144 960) l₅ 0)) (all-in 𝓤 H A W w16 6144 960 (lit< tt) l₅) $ rewrite ! 0 (λ (xs : List ℕ). ‵ (partAt Tab fullShare xs l₅ 0)) blank-made refl $
+        move ! (24 ∷ []) $ use1 W (‵ (partAt Tab fullShare (replicate 4608 960) l₅ 0)) (all-in 𝓤 H A W w16 4608 960 (lit< tt) l₅) $ rewrite ! 0 (λ (xs : List ℕ). ‵ (partAt Tab fullShare xs l₅ 0)) blank-made refl $
         -- the table is lent for a lifetime ν of the call
         lft-new ! tt (λ ν. move ! (1 ∷ []) $
         use1 W (later (some (λ (δ : GName). ‵ (MutRef (named 1) (ν ∷ []) Tab .own (tx l₅ δ blankTable) (vptr l₅ 0 ∷ [])) ⊛ ‵ (flent (ν ∷ []) (Body (mem-of Tab) l₅ 0 δ))))) (lends-ref 𝓤 H A W Tab (named 1) (ν ∷ []) blankTable l₅ 0) $ await ! tt $ pick ! (λ δ. split ! $
