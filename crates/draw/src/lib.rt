@@ -144,22 +144,15 @@ fn fill_keys(seed: u32, counts: Counts, keys: &mut [u64])
 }
 
 // What the writer makes of n drawn turns, which need not be judged.
-fn write_drawn(
-    seed: u32,
-    counts: Counts,
-    n: u16,
-    keys: &mut [u64],
-    spare: &mut [u64],
-    out: &mut [u8],
-) -> WriteAnswer
-    requires { ⌜ (n ≤ mostTurns) × (n ≤ length (now keys)) × (n ≤ length (now spare)) × Drawable seed × Legal garage counts n ⌝ }
+fn write_drawn(seed: u32, counts: Counts, n: u16, keys: &mut [u64], out: &mut [u8]) -> WriteAnswer
+    requires { ⌜ (n ≤ mostTurns) × (n ≤ length (now keys)) × Drawable seed × Legal garage counts n ⌝ }
     requires { ⌜ (1 ≤ counts .groomers) × (counts .groomers < 256) × (1 ≤ counts .slopes) × (counts .slopes < 256) ⌝ }
     ensures { λ r. ⌜ beside r (now (out .exit)) ≡ writeOf counts (drawnTable n counts seed) (now (out .entry)) ⌝ }
 {
     let end = n as usize;
     let some = &mut keys[0..end];
     fill_keys(seed, counts, &mut *some);
-    write::write_keys(counts, &mut *some, &mut spare[0..end], &mut *out)
+    write::write_keys(counts, &mut *some, &mut *out)
 }
 
 // The first thing wrong with the seed or the counts, or 0.
@@ -192,13 +185,5 @@ pub fn draw(seed: u64, groomers: u32, slopes: u32, turns: u32, out: &mut [u8]) -
         slopes: slopes as u16,
     };
     let mut keys = [0u64; MOST_TURNS as usize];
-    let mut spare = [0u64; MOST_TURNS as usize];
-    write_drawn(
-        seed as u32,
-        counts,
-        turns as u16,
-        &mut keys,
-        &mut spare,
-        &mut *out,
-    )
+    write_drawn(seed as u32, counts, turns as u16, &mut keys, &mut *out)
 }

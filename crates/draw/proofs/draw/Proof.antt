@@ -14,7 +14,6 @@ draw-spec =
     (λ c. search seed-in-word)
     (λ c. search turn-count-fits)
     (λ c. search needs)
-    (λ c. search needs)
     (λ c κs. search (needs, draw-cases))
     (λ c. search needs)
     (λ c. search draw-cases))
