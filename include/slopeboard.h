@@ -316,15 +316,15 @@ slopeboard_assign_answer slopeboard_assign(const uint8_t *sheet, size_t sheet_le
 
 /* Works out the best worth on a sheet on which no slope has two turns and no turn names a driver: no feasible set is
  * worth more. Writes the choice map of a feasible set that earns it. Worth and map are those of the board that
- * slopeboard_plan writes. Where this set differs from another best set in turns of a groomer, it lacks the last of
- * these, by end and then by number.
+ * slopeboard_plan writes. If another set earns as much, then of the turns of a groomer in which the two differ this
+ * one leaves out the last, by end and then by number.
  *
  * Refusals: those of slopeboard_read but 11, in their order; then 21 for any other sheet; then 11 if map_len is below
  * SLOPEBOARD_MAP_BYTES of the sheet's turns. */
 slopeboard_best_answer slopeboard_best(const uint8_t *sheet, size_t sheet_len, uint8_t *map, size_t map_len);
 
-/* Looks for a feasible set that is worth more than the board of slopeboard_plan, with at most so many visits. Writes
- * the choice map of the best set found.
+/* Looks for a feasible set that is worth more than the board of slopeboard_plan, in at most `visits` visits.
+ * Writes the choice map of the best set found.
  *
  * The search starts with no turn taken and comes to the turns in the order of the sheet; coming to a turn is a visit.
  * If the turn conflicts with none taken, the search goes on with it, and when all of that is done, without it; else
@@ -360,8 +360,8 @@ slopeboard_write_answer slopeboard_draw(uint64_t seed, uint32_t groomers, uint32
  * Refusals: those of slopeboard_read but 11, in their order; then 11 if kept_len is below the bytes of the sheet. */
 slopeboard_write_answer slopeboard_keep(const uint8_t *sheet, size_t sheet_len, uint8_t *kept, size_t kept_len);
 
-/* Writes the sheet of a kept form. What slopeboard_keep made of a sheet becomes the very bytes of that sheet; and
- * slopeboard_keep makes the same kept form again, whoever wrote it.
+/* Writes the sheet of a kept form. A sheet that is kept and restored has its very bytes again. So has a kept form,
+ * whoever wrote it, that is restored and kept.
  *
  * Refusals, in this order: 1 for fewer than 7 bytes; 2; 3; 4; 1 for fewer maps than turns; 5 for each map in order; 1
  * or 10 for fewer or more bytes behind the maps than these ask for; then for each turn 6, 7, 8, 9, 19; then 11 if
@@ -427,7 +427,7 @@ slopeboard_limit_answer slopeboard_limit(const uint8_t *sheet, size_t sheet_len,
  * rises. The rounds of the answer are those allowed, or fewer if worth and limit meet before.
  *
  * It begins with the planned board, with prices of 0 and with a change: a quarter of the greatest worth on the
- * sheet, upwards to a whole number, 0 without turns. Then it looks at the prices. The limit is worked out as
+ * sheet, rounded up, 0 without turns. Then it looks at the prices. The limit is worked out as
  * slopeboard_limit does it, and is kept with its prices if all before were higher. The groomers' best sets are
  * taken together, of equal ones that which slopeboard_best would show, and a choice is made: their turns by
  * worth, the greatest first, of equals the lowest number, each chosen if it conflicts with none chosen before;
@@ -435,11 +435,10 @@ slopeboard_limit_answer slopeboard_limit(const uint8_t *sheet, size_t sheet_len,
  * the kept limit is now the board's worth, or if all rounds are made, it ends. Else a round moves the prices, and
  * it looks again.
  *
- * A round goes by how many turns of the best sets pay a price. If none does, the price falls by the change, down
- * to 0 at most; if one does, it stays; for each further one it rises by the change, up to 60,000 at most. For the
- * price of a turn it is half of the change, downwards to a whole number and at least 1; a driverless turn's
- * stays 0. After a round the change is fifteen sixteenths of what it was, downwards to a whole number and
- * at least 1.
+ * A round moves each price by how many turns of the best sets pay it. If none does, it falls by the change, not
+ * below 0; if one does, it stays; for each further one it rises by the change, not above 60,000. A turn's price
+ * moves by half of the change, rounded down, at least 1; a driverless turn's stays 0. Then the change becomes
+ * fifteen sixteenths of itself, rounded down, at least 1.
  *
  * Refusals: those of slopeboard_read but 11, in their order; then 11 if board_len is below
  * SLOPEBOARD_BOARD_BYTES of the sheet's turns, or prices_len below the number of slopes and turns together. */
@@ -448,11 +447,11 @@ slopeboard_refine_answer slopeboard_refine(const uint8_t *sheet, size_t sheet_le
 
 /* Works out a charging hall's limit by prices: whatever the prices are, no allowed set of windows is worth more.
  *
- * The list has a price for each minute from 0 to 959, in sixteenths. A window pays the prices of its minutes,
- * added up and then times its draw, in whole numbers: what is left of a sixteenth is dropped. What is then left
- * of its worth, 0 if nothing is, is what it counts for. Each vehicle takes the window with the greatest count,
- * of equals the lowest number, or none where every count is 0. The limit is what these count for and, besides,
- * all prices, added up and then times the units, in whole numbers likewise.
+ * The list has a price for each minute from 0 to 959, in sixteenths. A window pays its draw times the sum of its
+ * minutes' prices, divided by 16 and rounded down. What is then left of its worth, 0 if nothing is, is what it
+ * counts for. Each vehicle takes the window with the greatest count, of equals the lowest number, or none where
+ * every count is 0. The limit is what these count for, plus the units times the sum of all prices, divided by 16
+ * and rounded down.
  *
  * Refusals: those of slopeboard_charge but 11, in their order; then 26 if prices_len is not SLOPEBOARD_MINUTES. */
 slopeboard_limit_answer slopeboard_charge_limit(const uint8_t *sheet, size_t sheet_len, const uint16_t *prices,
@@ -467,11 +466,11 @@ slopeboard_limit_answer slopeboard_charge_limit(const uint8_t *sheet, size_t she
  *
  * It works as slopeboard_refine does, from that plan, with the limit of slopeboard_charge_limit and the windows
  * that it takes. A choice is made from these by worth, and then from all windows, of each that may go together
- * with those chosen before. The change, in sixteenths as the prices are, is an eighth of the greatest worth at
- * first, upwards to a whole number, 0 without windows. A round goes by what the windows taken draw in a minute. If
- * that is above the units, the minute's price rises by the change times what is above, divided by the units,
- * upwards to a whole number, up to 65,535 at most. If not, it falls by the change times what is left of the units,
- * divided by the units, downwards to a whole number, down to 0 at most.
+ * with those chosen before. The change, in sixteenths as the prices are, is at first the number that is an eighth of
+ * the greatest worth, rounded up, 0 without windows. A round goes by what the windows taken draw in a minute. If that
+ * is above the units, the minute's price rises by the change times the excess, divided by the units and rounded up,
+ * not above 65,535. If not, it falls by the change times what is left of the units, divided by the units and rounded
+ * down, not below 0.
  *
  * Refusals: those of slopeboard_charge but 11, in their order; then 11 if map_len is below SLOPEBOARD_MAP_BYTES
  * of the sheet's windows, or prices_len below SLOPEBOARD_MINUTES. */

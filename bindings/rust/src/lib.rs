@@ -79,10 +79,10 @@ pub struct Counts {
 }
 
 /// The sums of a board that passed. No set of the sheet's turns without a
-/// conflict is worth more than the ceiling. Three times the tally is never below
-/// the ceiling, and twice the tally is not on a sheet that names no driver. Two
-/// turns conflict if one slope is named by both, or one groomer or one driver
-/// (other than 0) by both with fewer than ten free minutes between.
+/// conflict is worth more than the ceiling. The ceiling is at most three times
+/// the tally, and at most twice on a sheet that names no driver. Two turns
+/// conflict if one slope is named by both, or one groomer or one driver (other
+/// than 0) by both with fewer than ten free minutes between.
 #[derive(Clone, Copy, Debug, PartialEq, Eq)]
 pub struct Sums {
     pub tally: u32,
@@ -97,7 +97,7 @@ pub struct Improved {
     pub worth: u32,
     /// How far the ceiling of the planned board is above that.
     pub above: u32,
-    /// How many turns were visited, each as often as it was.
+    /// How many visits were made: a turn counts each time that it is visited.
     pub visits: u64,
     /// Whether the whole search ran: no set of the sheet's turns without a
     /// conflict is then worth more.
@@ -226,10 +226,9 @@ pub fn assign(sheet: &[u8], places: &mut [u16]) -> Result<u16, Refusal> {
 
 /// Works out the best worth on a sheet on which no slope has two turns and no
 /// turn names a driver, and refuses every other. Writes the choice map of a set
-/// that earns it, and gives it: no set of the sheet's turns without a conflict
-/// is worth more, and it is the worth of the board that [`plan`] writes, as the
-/// map is that board's. Asks
-/// for [`map_bytes`] of the sheet's turns.
+/// that earns it, which is the map of the board that [`plan`] writes, and gives
+/// the worth: no set of the sheet's turns without a conflict is worth more.
+/// Asks for [`map_bytes`] of the sheet's turns.
 pub fn best(sheet: &[u8], map: &mut [u8]) -> Result<u32, Refusal> {
     let (map, map_len) = (map.as_mut_ptr(), map.len());
     let answer = unsafe { raw::slopeboard_best(sheet.as_ptr(), sheet.len(), map, map_len) };
@@ -275,8 +274,8 @@ pub fn keep(sheet: &[u8], kept: &mut [u8]) -> Result<usize, Refusal> {
     length(unsafe { raw::slopeboard_keep(sheet.as_ptr(), sheet.len(), kept, kept_len) })
 }
 
-/// Writes the sheet of a kept form, to the very byte the one that it was made
-/// from, and gives its length.
+/// Writes the sheet of a kept form, byte for byte the one that was kept, and
+/// gives its length.
 pub fn restore(kept: &[u8], sheet: &mut [u8]) -> Result<usize, Refusal> {
     let (sheet, sheet_len) = (sheet.as_mut_ptr(), sheet.len());
     length(unsafe { raw::slopeboard_restore(kept.as_ptr(), kept.len(), sheet, sheet_len) })
@@ -422,7 +421,7 @@ fn counts(answer: raw::ReadAnswer) -> Result<Counts, Refusal> {
     })
 }
 
-fn length(answer: raw::BytesAnswer) -> Result<usize, Refusal> {
+fn length(answer: raw::WriteAnswer) -> Result<usize, Refusal> {
     refusal::none(answer.refusal)?;
     Ok(answer.bytes as usize)
 }

@@ -14,7 +14,7 @@ pub struct ReadAnswer {
 /// What a function gives that writes bytes; 0 bytes on a refusal.
 #[repr(C)]
 #[derive(Clone, Copy, Debug, PartialEq, Eq)]
-pub struct BytesAnswer {
+pub struct WriteAnswer {
     pub refusal: u8,
     pub bytes: u32,
 }
@@ -150,14 +150,14 @@ extern "C" {
         table_len: usize,
         bytes: *mut u8,
         bytes_len: usize,
-    ) -> BytesAnswer;
+    ) -> WriteAnswer;
 
     pub fn slopeboard_plan(
         sheet: *const u8,
         sheet_len: usize,
         board: *mut u8,
         board_len: usize,
-    ) -> BytesAnswer;
+    ) -> WriteAnswer;
 
     pub fn slopeboard_open(board: *const u8, board_len: usize) -> u8;
 
@@ -179,7 +179,7 @@ extern "C" {
         sheet_len: usize,
         text: *mut u8,
         text_len: usize,
-    ) -> BytesAnswer;
+    ) -> WriteAnswer;
 
     pub fn slopeboard_assign(
         sheet: *const u8,
@@ -210,21 +210,21 @@ extern "C" {
         turns: u32,
         bytes: *mut u8,
         bytes_len: usize,
-    ) -> BytesAnswer;
+    ) -> WriteAnswer;
 
     pub fn slopeboard_keep(
         sheet: *const u8,
         sheet_len: usize,
         kept: *mut u8,
         kept_len: usize,
-    ) -> BytesAnswer;
+    ) -> WriteAnswer;
 
     pub fn slopeboard_restore(
         kept: *const u8,
         kept_len: usize,
         sheet: *mut u8,
         sheet_len: usize,
-    ) -> BytesAnswer;
+    ) -> WriteAnswer;
 
     pub fn slopeboard_play(
         sheet: *const u8,

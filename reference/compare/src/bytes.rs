@@ -6,8 +6,8 @@ use std::fmt::Debug;
 use slopeboard_reference::gen::Rng;
 
 use crate::foreign::{
-    AssignAnswer, BestAnswer, BytesAnswer, ChargeAnswer, ChargeRefineAnswer, ImproveAnswer,
-    PlayAnswer, RefineAnswer, Standing,
+    AssignAnswer, BestAnswer, ChargeAnswer, ChargeRefineAnswer, ImproveAnswer, PlayAnswer,
+    RefineAnswer, Standing, WriteAnswer,
 };
 use crate::report::{show, Report};
 
@@ -49,7 +49,7 @@ pub trait Answer: PartialEq + Debug {
     fn refusal(&self) -> u8;
 }
 
-impl Answer for BytesAnswer {
+impl Answer for WriteAnswer {
     fn refusal(&self) -> u8 {
         self.refusal
     }
@@ -190,13 +190,13 @@ impl<P: Place> Lent<P> {
 }
 
 /// The judge's number of bytes in the form that the library gives.
-pub fn answer(result: Result<usize, u8>) -> BytesAnswer {
+pub fn answer(result: Result<usize, u8>) -> WriteAnswer {
     match result {
-        Ok(len) => BytesAnswer {
+        Ok(len) => WriteAnswer {
             refusal: 0,
             bytes: len as u32,
         },
-        Err(refusal) => BytesAnswer { refusal, bytes: 0 },
+        Err(refusal) => WriteAnswer { refusal, bytes: 0 },
     }
 }
 

@@ -71,7 +71,7 @@ fn ours(draw: Draw) -> Result<Made, u8> {
 }
 
 /// The bytes that the library wrote, or its refusal.
-fn written(bytes: &[u8], answer: foreign::BytesAnswer) -> Result<Vec<u8>, u8> {
+fn written(bytes: &[u8], answer: foreign::WriteAnswer) -> Result<Vec<u8>, u8> {
     match answer.refusal {
         0 => Ok(bytes[..answer.bytes as usize].to_vec()),
         refusal => Err(refusal),

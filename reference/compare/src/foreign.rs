@@ -3,8 +3,8 @@
 
 use slopeboard::raw;
 pub use slopeboard::raw::{
-    AssignAnswer, BestAnswer, BytesAnswer, ChargeAnswer, ChargeRefineAnswer, CheckAnswer,
-    CountAnswer, ImproveAnswer, LimitAnswer, Part, PlayAnswer, ReadAnswer, RefineAnswer, Standing,
+    AssignAnswer, BestAnswer, ChargeAnswer, ChargeRefineAnswer, CheckAnswer, CountAnswer,
+    ImproveAnswer, LimitAnswer, Part, PlayAnswer, ReadAnswer, RefineAnswer, Standing, WriteAnswer,
 };
 
 /// A slice as the library takes it. An empty one may come with any pointer,
@@ -41,13 +41,13 @@ pub fn read_short(sheet: &[u8], table: &mut [u16]) -> ReadAnswer {
 }
 
 /// Writes a turn table as a sheet.
-pub fn write(groomers: u32, slopes: u32, table: &[u16], out: &mut [u8]) -> BytesAnswer {
+pub fn write(groomers: u32, slopes: u32, table: &[u16], out: &mut [u8]) -> WriteAnswer {
     let ((table, table_len), (out, out_len)) = (parts(table), parts_mut(out));
     unsafe { raw::slopeboard_write(groomers, slopes, table, table_len, out, out_len) }
 }
 
 /// Plans the board of a sheet.
-pub fn plan(sheet: &[u8], out: &mut [u8]) -> BytesAnswer {
+pub fn plan(sheet: &[u8], out: &mut [u8]) -> WriteAnswer {
     let ((sheet, sheet_len), (out, out_len)) = (parts(sheet), parts_mut(out));
     unsafe { raw::slopeboard_plan(sheet, sheet_len, out, out_len) }
 }
@@ -83,7 +83,7 @@ pub fn check(sheet: &[u8], board: &[u8]) -> CheckAnswer {
 }
 
 /// Writes the listing of a sheet's plan.
-pub fn list(sheet: &[u8], out: &mut [u8]) -> BytesAnswer {
+pub fn list(sheet: &[u8], out: &mut [u8]) -> WriteAnswer {
     let ((sheet, sheet_len), (out, out_len)) = (parts(sheet), parts_mut(out));
     unsafe { raw::slopeboard_list(sheet, sheet_len, out, out_len) }
 }
@@ -107,19 +107,19 @@ pub fn improve(sheet: &[u8], visits: u64, map: &mut [u8]) -> ImproveAnswer {
 }
 
 /// Draws a sheet from a seed.
-pub fn draw(seed: u64, groomers: u32, slopes: u32, turns: u32, out: &mut [u8]) -> BytesAnswer {
+pub fn draw(seed: u64, groomers: u32, slopes: u32, turns: u32, out: &mut [u8]) -> WriteAnswer {
     let (out, out_len) = parts_mut(out);
     unsafe { raw::slopeboard_draw(seed, groomers, slopes, turns, out, out_len) }
 }
 
 /// Writes the kept form of a sheet.
-pub fn keep(sheet: &[u8], out: &mut [u8]) -> BytesAnswer {
+pub fn keep(sheet: &[u8], out: &mut [u8]) -> WriteAnswer {
     let ((sheet, sheet_len), (out, out_len)) = (parts(sheet), parts_mut(out));
     unsafe { raw::slopeboard_keep(sheet, sheet_len, out, out_len) }
 }
 
 /// Writes the sheet of a kept form.
-pub fn restore(kept: &[u8], out: &mut [u8]) -> BytesAnswer {
+pub fn restore(kept: &[u8], out: &mut [u8]) -> WriteAnswer {
     let ((kept, kept_len), (out, out_len)) = (parts(kept), parts_mut(out));
     unsafe { raw::slopeboard_restore(kept, kept_len, out, out_len) }
 }

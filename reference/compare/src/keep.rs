@@ -4,7 +4,7 @@ use slopeboard_reference::gen::{self, Rng};
 use slopeboard_reference::{kept, naive, shapes};
 
 use crate::bytes::{answer, Lent};
-use crate::foreign::{self, BytesAnswer};
+use crate::foreign::{self, WriteAnswer};
 use crate::placed::Placed;
 use crate::report::{show, Report};
 use crate::sheets;
@@ -32,7 +32,7 @@ pub fn run_restore(seed: u64) -> bool {
 type Ours = fn(&[u8], &mut [u8]) -> Result<usize, u8>;
 
 /// One of the two, as the library has it.
-type Theirs = fn(&[u8], &mut [u8]) -> BytesAnswer;
+type Theirs = fn(&[u8], &mut [u8]) -> WriteAnswer;
 
 struct Run {
     report: Report,
