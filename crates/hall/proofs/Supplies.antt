@@ -149,7 +149,9 @@ module _ (start draw : ℕ) (used : List ℕ) where
         let x = getD now′ m 0 + draw in
         record {
           places = length-set now′ m x ∙ d .places;
-          drawing = λ k a b. put-more (λ i y. start ≤ i → y ≡ getD used i 0 + draw) now′ m x (omega (arith, d .places)) (λ i c e. d .drawing i e c) (λ e. ap (λ (y : ℕ). y + draw) (d .later m (omega arith))) k b a;
+          drawing = λ k a b.
+              put-more (λ i y. start ≤ i → y ≡ getD used i 0 + draw) now′ m x (omega (arith, d .places)) (λ i c e. d .drawing i e c)
+              (λ e. ap (λ (y : ℕ). y + draw) (d .later m (omega arith))) k b a;
           earlier = λ k a. getD-set-other now′ m k x 0 (omega arith) ∙ d .earlier k a;
           later = λ k a. getD-set-other now′ m k x 0 (omega arith) ∙ d .later k (omega arith);
         }

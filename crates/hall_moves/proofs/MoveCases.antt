@@ -152,7 +152,9 @@ module _ (by old : List ℕ) where
           within = omega arith;
           size = length-set new m x ∙ s .size;
           fit = rw add-one (up-to (λ i. getD old i 0 ≤ mostPrice) m (s .fit) (omega (arith, e, a, s .others m (omega arith))));
-          done = put-more (λ i y. y ≡ min highestMinutePrice (getD old i 0 + getD by i 0 - noMove)) new m x (moved-inside h) (s .done) (f ∙ ap (λ (y : ℕ). min highestMinutePrice (y + getD by m 0 - noMove)) (e ∙ s .others m (omega arith)));
+          done =
+              put-more (λ i y. y ≡ min highestMinutePrice (getD old i 0 + getD by i 0 - noMove)) new m x (moved-inside h) (s .done)
+              (f ∙ ap (λ (y : ℕ). min highestMinutePrice (y + getD by m 0 - noMove)) (e ∙ s .others m (omega arith)));
           others = λ i k. getD-set-other new m i x 0 (omega arith) ∙ s .others i (omega arith);
         }
 
@@ -192,7 +194,12 @@ module _ (old : List ℕ) where
 
       pub window-more : length old ≡ shiftMinutes → WindowDrawnTo start draw end old (set new m (getD new m 0 + draw)) (m + 1)
       window-more k =
-          record { from = omega (arith, s .from); to = omega arith; ends = s .ends; drawn = draw-next start draw old m (s .drawn) (s .from) (omega (arith, window-place)) }
+          record {
+            from = omega (arith, s .from);
+            to = omega arith;
+            ends = s .ends;
+            drawn = draw-next start draw old m (s .drawn) (s .from) (omega (arith, window-place));
+          }
 
 pub window-fits : (old : List ℕ) {r : Row} {new : List ℕ} {m : ℕ} → WindowRow r → RoomForMore old → WindowDrawnTo (r .start) (r .groomer) (r .end) old new m → m < r .end → Fits w16 (getD new m 0 + r .groomer)
 unfolding RoomForMore

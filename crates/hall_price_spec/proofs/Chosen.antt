@@ -22,7 +22,8 @@ module _ (H : Hall) where
     pub made-allowed : AllowedChoice H (choiceFrom (staysAllowed H) (H .windows) relaxed)
     made-allowed =
         admissible-allowed H (choiceFrom (staysAllowed H) (H .windows) relaxed)
-        (from-kept (staysAllowed H) (H .windows) relaxed (Admissible H) (put-admissible H) (allowed-admissible H (replicate (windowCount H) false) none-allowed))
+        (from-kept (staysAllowed H) (H .windows) relaxed (Admissible H) (put-admissible H)
+        (allowed-admissible H (replicate (windowCount H) false) none-allowed))
 
     pub made-length : length (choiceFrom (staysAllowed H) (H .windows) relaxed) ≡ windowCount H
     made-length = from-length (staysAllowed H) (H .windows) relaxed

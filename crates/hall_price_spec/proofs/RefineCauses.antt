@@ -39,7 +39,9 @@ module _ (s : List ℕ) (bytes numbers : ℕ) where
   -- no cause is there just if the sheet is not refused, and there are lent bytes and lent numbers enough
   pub clear-iff : (firstOf (chargeRefineCauses s bytes numbers) ≡ 0) ↔ ((firstOf (causesFor chargingSheet s) ≡ 0) × (mapBytes (turnCount s) ≤ bytes) × (shiftMinutes ≤ numbers))
   unfolding chargeRefineCauses
-  clear-iff = clear-both (causesFor chargingSheet s) bytes (mapBytes (turnCount s)) numbers shiftMinutes (causes-numbered chargingSheet (charging-sound .numbers) s)
+  clear-iff =
+      clear-both (causesFor chargingSheet s) bytes (mapBytes (turnCount s)) numbers shiftMinutes
+      (causes-numbered chargingSheet (charging-sound .numbers) s)
 
 module _ (s : List ℕ) (rounds : ℕ) (map prices : List ℕ) where
   -- what the rounds came to

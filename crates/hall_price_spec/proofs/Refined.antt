@@ -42,10 +42,14 @@ module _ (s : List ℕ) (rounds : ℕ) (map prices : List ℕ) (e : chargeRefine
   answer : chargeRefineOf s rounds map prices ≡ chargeRefinement (hallRefined (hallOf s) (countsIn s .slopes) rounds) map prices
   answer = charge-refine-answers s rounds map prices none-there
 
-  given : Given (hallRefined (hallOf s) (countsIn s .slopes) rounds) (chargeRefineOf s rounds map prices .worth) (chargeRefineOf s rounds map prices .limit) (chargeRefineOf s rounds map prices .rounds)
+  given : let r = chargeRefineOf s rounds map prices in Given (hallRefined (hallOf s) (countsIn s .slopes) rounds) (r .worth) (r .limit) (r .rounds)
   unfolding chargeRefinement
   given =
-      record { worth-is = ap (λ (x : ChargeRefinement). x .worth) answer; limit-is = ap (λ (x : ChargeRefinement). x .limit) answer; rounds-is = ap (λ (x : ChargeRefinement). x .rounds) answer }
+      record {
+        worth-is = ap (λ (x : ChargeRefinement). x .worth) answer;
+        limit-is = ap (λ (x : ChargeRefinement). x .limit) answer;
+        rounds-is = ap (λ (x : ChargeRefinement). x .rounds) answer;
+      }
 
 module _ (s : List ℕ) (rounds : ℕ) (map prices : List ℕ) (e : chargeRefineOf s rounds map prices .refusal ≡ 0) where
   -- the sheet's hall, its vehicles, and the last stage

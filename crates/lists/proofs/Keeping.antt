@@ -51,7 +51,8 @@ module _ (p : ℕ → Bool) where
   keep-where f [] = refl
   keep-where f (t ∷ ts) = go (p t) (keep-where f ts)
     where
-      go : (b : Bool) → sum f (keep p ts) ≡ sum (λ t. cond (p t) (f t) 0) ts → sum f (cond b (t ∷ keep p ts) (keep p ts)) ≡ cond b (f t) 0 + sum (λ t. cond (p t) (f t) 0) ts
+      go : (b : Bool) → sum f (keep p ts) ≡ sum (λ t. cond (p t) (f t) 0) ts
+          → sum f (cond b (t ∷ keep p ts) (keep p ts)) ≡ cond b (f t) 0 + sum (λ t. cond (p t) (f t) 0) ts
       go true ih = omega (arith, ih)
       go false ih = omega (arith, ih)
 

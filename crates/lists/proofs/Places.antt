@@ -17,10 +17,13 @@ drop-step l j h = rw (add-one, drop-cons l j 0 h)
 pub put-at : (P : ℕ → ℕ → Type 0) (place : ℕ → ℕ) (l : List ℕ) (k x : ℕ) → place k < length l → ((i : ℕ) → i < k → place i ≢ place k)
     → ((i : ℕ) → i < k → P i (getD l (place i) 0)) → P k x → (i : ℕ) → i < k + 1 → P i (getD (set l (place k) x) (place i) 0)
 put-at P place l k x h d b p =
-    rw add-one (up-to (λ i. P i (getD (set l (place k) x) (place i) 0)) k (λ i m. rw (getD-set-other l (place k) (place i) x 0 (d i m)) (b i m)) (rw (getD-set-same l (place k) x 0 h) p))
+    rw add-one (
+    up-to (λ i. P i (getD (set l (place k) x) (place i) 0)) k (λ i m. rw (getD-set-other l (place k) (place i) x 0 (d i m)) (b i m))
+    (rw (getD-set-same l (place k) x 0 h) p))
 
 -- where each number is its own place
-pub put-more : (P : ℕ → ℕ → Type 0) (l : List ℕ) (k x : ℕ) → k < length l → ((i : ℕ) → i < k → P i (getD l i 0)) → P k x → (i : ℕ) → i < k + 1 → P i (getD (set l k x) i 0)
+pub put-more : (P : ℕ → ℕ → Type 0) (l : List ℕ) (k x : ℕ) → k < length l → ((i : ℕ) → i < k → P i (getD l i 0)) → P k x
+    → (i : ℕ) → i < k + 1 → P i (getD (set l k x) i 0)
 put-more P l k x h = put-at P (λ i. i) l k x h (λ i m. omega arith)
 
 -- ---- a list filled by a rule
@@ -47,6 +50,7 @@ pub ruleset filled-cases = (filled-start, filled-long, filled-more, filled-done)
 -- cleared
 pub cleared-all : (n : ℕ) (l : List ℕ) {k : ℕ} → FilledTo (λ i. 0) n l k → length l ≤ k → l ≡ replicate n 0
 cleared-all n l s h =
-    ext-getD 0 l (replicate n 0) (s .places ∙ sym (length-replicate {A = ℕ} n 0)) (λ i m. s .values i (omega arith) ∙ sym (getD-replicate n i 0 0 (omega (arith, s .places))))
+    ext-getD 0 l (replicate n 0) (s .places ∙ sym (length-replicate {A = ℕ} n 0))
+    (λ i m. s .values i (omega arith) ∙ sym (getD-replicate n i 0 0 (omega (arith, s .places))))
 
 pub ruleset clear-cases = (filled-start, filled-next, cleared-all)

@@ -164,7 +164,9 @@ chosen-put-most n S f j = both n .1
       where
         go : Dec (n ≡ j) → (n ≤ j → sum after (below n) ≤ sum before (below n)) × (sum after (below n) ≤ f j + sum before (below n)) →
             (suc n ≤ j → after n + sum after (below n) ≤ before n + sum before (below n)) × (after n + sum after (below n) ≤ f j + (before n + sum before (below n)))
-        go (yes q) ih = (λ l. absurd (omega arith), omega (arith, ih .0 (omega arith), cond-most (has (set S j true) n) {x = f n} {top = f n} (omega arith), ap f q))
+        go (yes q) ih =
+            let own : after n ≤ f n = cond-most (has (set S j true) n) (omega arith) in
+            (λ l. absurd (omega arith), omega (arith, ih .0 (omega arith), own, ap f q))
         go (no q) ih = let same : after n ≡ before n = ap (λ (b : Bool). cond b (f n) 0) (getD-set-other S j n true false q) in (λ l. omega (arith, same, ih .0 (omega arith)), omega (arith, same, ih .1))
 
 -- where the sum is above 0, so is the part of a chosen turn

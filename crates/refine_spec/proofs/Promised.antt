@@ -54,7 +54,11 @@ module _ (s : List ℕ) (rounds : ℕ) (board prices : List ℕ) (e : refineOf s
   unfolding refinementOf
   given =
       let r = refine-is s rounds board prices e in
-      record { worth-is = ap (λ (r : Refinement). r .worth) r; limit-is = ap (λ (r : Refinement). r .limit) r; rounds-is = ap (λ (r : Refinement). r .rounds) r }
+      record {
+        worth-is = ap (λ (r : Refinement). r .worth) r;
+        limit-is = ap (λ (r : Refinement). r .limit) r;
+        rounds-is = ap (λ (r : Refinement). r .rounds) r;
+      }
 
 module _ (s : List ℕ) (rounds : ℕ) (board prices : List ℕ) (e : refineOf s rounds board prices .refusal ≡ 0) where
   -- the sheet's turns, its groomers and slopes, and the last stage

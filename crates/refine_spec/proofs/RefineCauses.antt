@@ -39,7 +39,8 @@ few-iff a x b y = (
   ⊎-elim (λ h. or-1 (ltb a x) (ltb b y) (lt-ltb a x h)) (λ h. or-2 (ltb a x) (ltb b y) (lt-ltb b y h)),
 )
 
-pub clear-both : (cs : List Cause) (a x b y : ℕ) → numbered cs ≡ true → (firstOf (cs ++ (bufferTooSmall when (ltb a x || ltb b y) ∷ [])) ≡ 0) ↔ ((firstOf cs ≡ 0) × (x ≤ a) × (y ≤ b))
+pub clear-both : (cs : List Cause) (a x b y : ℕ) → numbered cs ≡ true
+    → (firstOf (cs ++ (bufferTooSmall when (ltb a x || ltb b y) ∷ [])) ≡ 0) ↔ ((firstOf cs ≡ 0) × (x ≤ a) × (y ≤ b))
 clear-both cs a x b y n =
     let last = clear-last cs bufferTooSmall (ltb a x || ltb b y) n (omega arith) in (
       λ e. let (z, q) = last .0 e in (z, ltb-false a x (or-false-1 (ltb a x) (ltb b y) q), ltb-false b y (or-false-2 (ltb a x) (ltb b y) q)),
@@ -56,7 +57,9 @@ module _ (s : List ℕ) (bytes numbers : ℕ) where
   either (few-prices h) = inr h
 
   places-iff : (tooFew ≡ true) ↔ PlacesFail s bytes numbers
-  places-iff = let w = few-iff bytes (boardLength (turnCount s) (turnCount s)) numbers (priceCount s) in (λ e. ⊎-elim few-bytes few-prices (w .0 e), λ f. w .1 (either f))
+  places-iff =
+      let w = few-iff bytes (boardLength (turnCount s) (turnCount s)) numbers (priceCount s) in
+      (λ e. ⊎-elim few-bytes few-prices (w .0 e), λ f. w .1 (either f))
 
   -- no cause is there just if the sheet is not refused, and there are lent bytes and lent numbers enough
   clear-iff : (firstOf (refineCauses s bytes numbers) ≡ 0) ↔ ((firstOf (sheetCauses s) ≡ 0) × (boardLength (turnCount s) (turnCount s) ≤ bytes) × (priceCount s ≤ numbers))

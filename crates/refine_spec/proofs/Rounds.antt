@@ -224,5 +224,6 @@ module _ (R : RoundRule) (start : Stage) (z : start .rounds ≡ 0) (n : ℕ) {wo
     given-not-before h q = not-met-before R n start k (omega (arith, h, g .rounds-is, z)) (sym (o .limit-is) ∙ q ∙ o .worth-is)
 
 -- two answers that give the same stage
-pub given-same : {x : Stage} {worth limit rounds worth′ limit′ rounds′ : ℕ} → Given x worth limit rounds → Given x worth′ limit′ rounds′ → (worth′ ≡ worth) × (limit′ ≡ limit) × (rounds′ ≡ rounds)
+pub given-same : {x : Stage} {worth limit rounds worth′ limit′ rounds′ : ℕ} → Given x worth limit rounds → Given x worth′ limit′ rounds′
+    → (worth′ ≡ worth) × (limit′ ≡ limit) × (rounds′ ≡ rounds)
 given-same g o = (o .worth-is ∙ sym (g .worth-is), o .limit-is ∙ sym (g .limit-is), o .rounds-is ∙ sym (g .rounds-is))

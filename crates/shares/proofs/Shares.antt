@@ -66,7 +66,9 @@ module _ (units amount : ℕ) where
   table-more k shares {share} h u e f c =
       record {
         places = length-set shares k share ∙ c .places;
-        each = put-more (λ d x. 2 * d ≤ units → (x ≡ roundedUp (2 * d * amount) units) × (x ≤ amount)) shares k share (omega (arith, c .places)) (c .each) (λ m. (e, f));
+        each =
+            put-more (λ d x. 2 * d ≤ units → (x ≡ roundedUp (2 * d * amount) units) × (x ≤ amount)) shares k share
+            (omega (arith, c .places)) (c .each) (λ m. (e, f));
       }
 
   pub table-done : (k : ℕ) (shares : List ℕ) → units < 2 * k → SharesTo units amount k shares → SharesBy units amount shares
