@@ -1,7 +1,7 @@
 -- From a sheet to its kept form by cases, each premise in the form in which the code's calls and tests leave it. Assumes nothing.
 use Prim.Native.Nat.{ℕ, zero, suc, _+_, _-_, _*_, _<_, _≤_}
 use mathlib.Core.Path.{_≡_, refl, sym, _∙_, ap, ap₂}
-use mathlib.Core.List.{List, [], _∷_, _++_}
+use mathlib.Core.List.{List, [], _∷_, _++_, append-nil}
 use native.Mathlib.Omega.{arith}
 use lib.Dec.{ltb, leb}
 use lib.ListN.{length, getD, set, take, drop}
@@ -29,7 +29,7 @@ use Rattle.sheet.proofs.Headers.{header-numbered, header-fine}
 use Rattle.sheet.proofs.Scans.{record-numbered}
 use Rattle.sheet.proofs.Readings.{sheet-numbered}
 use Rattle.sheet.proofs.Tables.{turns-length}
-use Rattle.sheet.proofs.Whole.{whole-refusal, whole-accepted, whole-turns, whole-table}
+use Rattle.sheet.proofs.Whole.{whole-refusal, whole-accepted, whole-turns-for, whole-table-for}
 use Rattle.sheet.proofs.Prefix.{sheet-short}
 use Rattle.refusal.specs.declared.WriteAnswer.{WriteAnswer}
 use Rattle.refusal.specs.Outcome.{beside}
@@ -77,16 +77,12 @@ unfolding mapsFrom
 maps-from-length zero s at = refl
 maps-from-length (suc n) s at = ap suc (maps-from-length n s (at + 1 + widthOf (getD s at 0)))
 
-append-none : (l : List ℕ) → l ++ [] ≡ l
-append-none [] = refl
-append-none (x ∷ l) = ap (λ (r : List ℕ). x ∷ r) (append-none l)
-
 pub fill-done : (s l l0 : List ℕ) (i at : ℕ) → length l ≤ i → length l ≡ length l0 → puts l i (mapsFrom (length l0 - i) s at) ≡ puts l0 0 (mapsFrom (length l0) s headerBytes) → l ≡ mapsFrom (length l0) s headerBytes
 unfolding mapsFrom
 fill-done s l l0 i at h e q =
     let z : length l0 - i ≡ 0 = omega arith in
     let n = maps-from-length (length l0) s headerBytes in
-    (rw z at q) ∙ puts-front (mapsFrom (length l0) s headerBytes) l0 (omega (arith, n)) ∙ rw (n, drop-length l0) (append-none (mapsFrom (length l0) s headerBytes))
+    (rw z at q) ∙ puts-front (mapsFrom (length l0) s headerBytes) l0 (omega (arith, n)) ∙ rw (n, drop-length l0) (append-nil (mapsFrom (length l0) s headerBytes))
 
 pub ruleset fill-cases = (fill-inside, fill-room, fill-next, fill-start, fill-first, fill-done)
 
@@ -182,17 +178,17 @@ module _ (s lent : List ℕ) {a : ReadAnswer} (e : a ≡ answerOf s) where
     keep-header = sheet-whole s (whole-accepted s e z) .0
 
     pub keep-whole : headerBytes + a .turns + widths (mapsFrom (a .turns) s headerBytes) ≤ length s
-    keep-whole = rw (whole-turns s e z) (omega (arith, sheet-whole s (whole-accepted s e z) .1))
+    keep-whole = rw (whole-turns-for garage s e z) (omega (arith, sheet-whole s (whole-accepted s e z) .1))
 
     table-turns : turnsOfTable (a .turns) (tableOf s) 0 ≡ turnsOf s
     unfolding tableOf
     table-turns =
-        let n : tableRows (rows (turnsOf s)) ≡ a .turns = omega (arith, rows-length (turnsOf s), turns-length s, whole-turns s e z) in
+        let n : tableRows (rows (turnsOf s)) ≡ a .turns = omega (arith, rows-length (turnsOf s), turns-length s, whole-turns-for garage s e z) in
         ap (λ (k : ℕ). turnsOfTable k (rows (turnsOf s)) 0) (sym n) ∙ turns-rows (turnsOf s)
 
     own-form : (u : List ℕ) → u ≡ puts lent 0 (formWith keptMark s (columnsBody (mapsFrom (a .turns) s headerBytes) (turnsOf s))) → u ≡ puts lent 0 (keptOf s)
     unfolding keptOf sheetMaps
-    own-form u p = p ∙ rw (whole-turns s e z)
+    own-form u p = p ∙ rw (whole-turns-for garage s e z)
 
     pub keep-done : (zeros : List ℕ) {t u : List ℕ} → (a .refusal ≡ 0 → t ≡ atFront (tableOf s) zeros) → length s ≤ length lent
         → u ≡ puts lent 0 (formWith keptMark s (columnsBody (mapsFrom (a .turns) s headerBytes) (turnsOfTable (a .turns) (take (rowNumbers * a .turns) t) 0)))
@@ -200,7 +196,7 @@ module _ (s lent : List ℕ) {a : ReadAnswer} (e : a ≡ answerOf s) where
     unfolding keepOf keepCauses
     keep-done zeros {t} {u} w h p =
         let fine = whole-accepted s e z in
-        let rows-are : turnsOfTable (a .turns) (take (rowNumbers * a .turns) t) 0 ≡ turnsOf s = ap (λ (l : List ℕ). turnsOfTable (a .turns) l 0) (whole-table s e z zeros w) ∙ table-turns in
+        let rows-are : turnsOfTable (a .turns) (take (rowNumbers * a .turns) t) 0 ≡ turnsOf s = ap (λ (l : List ℕ). turnsOfTable (a .turns) l 0) (whole-table-for garage s e z zeros w) ∙ table-turns in
         let put : u ≡ puts lent 0 (keptOf s) = own-form u (p ∙ ap (λ (ts : List Turn). puts lent 0 (formWith keptMark s (columnsBody (mapsFrom (a .turns) s headerBytes) ts))) rows-are) in
         let size = kept-size s fine in
         let front : u ≡ keptOf s ++ drop (length (keptOf s)) lent = put ∙ puts-front (keptOf s) lent (omega arith) in

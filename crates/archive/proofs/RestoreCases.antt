@@ -4,11 +4,11 @@ use mathlib.Core.Path.{_≡_, refl, sym, _∙_, ap, ap₂}
 use mathlib.Core.Bool.{Bool, true, false}
 use mathlib.Core.List.{List, [], _∷_, _++_}
 use native.Mathlib.Omega.{arith}
-use native.Mathlib.Numerals.{add-one}
 use lib.Dec.{ltb}
 use lib.ListN.{length, getD, set, take, drop, length-set, length-drop}
-use lib.Seq.{drop-cons, drop-length, take-all}
+use lib.Seq.{drop-length, take-all}
 use borrow.Author.Tests.{lt-ltb, le-ltb}
+use Rattle.lists.proofs.Places.{drop-step}
 use Rattle.refusal.specs.Number.{truncated, badMap, trailingBytes, bufferTooSmall}
 use Rattle.refusal.specs.Cause.{Cause, _when_, firstOf}
 use Rattle.refusal.proofs.Order.{first-stops, first-goes, clear-append}
@@ -66,17 +66,14 @@ pub ruleset maps-part-cases = (maps-part, maps-part-length, maps-part-kept)
 
 -- ---- each map
 
-map-ahead : (maps : List ℕ) (i : ℕ) → i < length maps → drop i maps ≡ getD maps i 0 ∷ drop (i + 1) maps
-map-ahead maps i h = rw add-one (drop-cons maps i 0 h)
-
 module _ (rule : Maps) (maps : List ℕ) (first : Bool) (i : ℕ) {b : Bool} {a : ℕ} where
   pub map-bad : i < length maps → b ≡ badMapFor rule first (getD maps i 0) → b ≡ true → firstOf (mapsCauses rule first (drop i maps)) ≡ a → badMap ≡ a
   unfolding mapsCauses firstOf
-  map-bad h e t q = let p : badMapFor rule first (getD maps i 0) ≡ true = sym e ∙ t in rw (map-ahead maps i h, p) at q
+  map-bad h e t q = let p : badMapFor rule first (getD maps i 0) ≡ true = sym e ∙ t in rw (drop-step maps i h, p) at q
 
   pub map-good : i < length maps → b ≡ badMapFor rule first (getD maps i 0) → b ≡ false → firstOf (mapsCauses rule first (drop i maps)) ≡ a → firstOf (mapsCauses rule false (drop (i + 1) maps)) ≡ a
   unfolding mapsCauses firstOf
-  map-good h e t q = let p : badMapFor rule first (getD maps i 0) ≡ false = sym e ∙ t in rw (map-ahead maps i h, p) at q
+  map-good h e t q = let p : badMapFor rule first (getD maps i 0) ≡ false = sym e ∙ t in rw (drop-step maps i h, p) at q
 
 pub maps-end : (rule : Maps) (maps : List ℕ) (first : Bool) (i : ℕ) {a : ℕ} → length maps ≤ i → i ≤ length maps → firstOf (mapsCauses rule first (drop i maps)) ≡ a → 0 ≡ a
 unfolding mapsCauses firstOf
@@ -89,7 +86,7 @@ pub ruleset map-fault-cases = (map-bad, map-good, maps-end)
 module _ (maps : List ℕ) (i sum : ℕ) where
   width-ahead : i < length maps → widths (drop i maps) ≡ widthOf (getD maps i 0) + widths (drop (i + 1) maps)
   unfolding widths
-  width-ahead h = rw (map-ahead maps i h)
+  width-ahead h = rw (drop-step maps i h)
 
   pub width-more : {w a : ℕ} → i < length maps → w ≡ widthOf (getD maps i 0) → sum + widths (drop i maps) ≡ a → sum + w + widths (drop (i + 1) maps) ≡ a
   width-more h p q = omega (arith, width-ahead h)
@@ -219,9 +216,6 @@ module _ (l : List ℕ) (at m later : ℕ) (h : at + 1 + widthOf m + later ≤ l
   pub fields-room-over : 2 ≤ later → at + 1 + widthOf m + 2 ≤ length (set l at m)
   fields-room-over k = rw length-set (omega arith)
 
-pub record-kept : (l : List ℕ) (at m : ℕ) {n : ℕ} → n ≡ length (set l at m) → n ≡ length l
-record-kept l at m e = e ∙ length-set l at m
-
 module _ (maps table : List ℕ) (i at : ℕ) where
   pub records-room : {e n o : ℕ} → i < length maps → at + (length maps - i) + widths (drop i maps) ≡ e → e ≤ n → o ≡ n → at + 1 + widthOf (getD maps i 0) + (length maps - (i + 1)) ≤ o
   records-room h p q r = omega (arith, width-ahead maps i 0 h)
@@ -238,7 +232,7 @@ module _ (maps table : List ℕ) (i at : ℕ) where
       let ts = turnsOfTable k table (i + 1) in
       let n : length ts ≡ length (drop (i + 1) maps) = omega (arith, length-drop (i + 1) maps, table-turns-length k table (i + 1)) in
       let s : k ≤ length (recordsBody (drop (i + 1) maps) ts) = omega (arith, records-length (drop (i + 1) maps) ts n, length-drop (i + 1) maps) in
-      o .then (recordsBody (drop (i + 1) maps) ts) s ∙ rw p (rw (map-ahead maps i h, turns-step (length maps) i table h) at e)
+      o .then (recordsBody (drop (i + 1) maps) ts) s ∙ rw p (rw (drop-step maps i h, turns-step (length maps) i table h) at e)
 
   pub records-done : (l : List ℕ) {z : List ℕ} → length maps ≤ i → i ≤ length maps → puts l at (recordsBody (drop i maps) (turnsOfTable (length maps - i) table i)) ≡ z → l ≡ z
   unfolding recordsBody

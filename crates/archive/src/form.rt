@@ -3,19 +3,8 @@ ghost use mathlib.Core.Path.{_≡_};
 ghost use mathlib.Core.List.{_++_};
 ghost use Prim.Native.Nat.{_≤_};
 ghost use lib.ListN.{length};
-ghost use Rattle.refusal.specs.Written.{writeRefused};
 ghost use Rattle.wire.specs.Number.{bytesAt, puts};
 ghost use Rattle.sheet.specs.Read.{headerBytes};
-use refusal::WriteAnswer;
-
-pub fn refused(k: u8) -> WriteAnswer
-    ensures { λ r. ⌜ r ≡ writeRefused k ⌝ }
-{
-    WriteAnswer {
-        refusal: k,
-        bytes: 0,
-    }
-}
 
 // A mark, and behind it bytes 3 to 6 of another form's header.
 pub fn put_front(out: &mut [u8], mark: [u8; 3], from: &[u8])

@@ -1,12 +1,12 @@
 -- A column by its cases, each premise in the form in which the code's calls and tests leave it. Assumes nothing.
 use Prim.Native.Nat.{ℕ, zero, suc, _+_, _-_, _*_, _/_, _%_, _<_, _≤_}
 use mathlib.Core.Path.{_≡_, refl, sym, _∙_, ap}
-use mathlib.Core.List.{List, _∷_}
+use mathlib.Core.List.{List}
 use native.Mathlib.Omega.{arith}
-use native.Mathlib.Numerals.{add-one}
 use native.Mathlib.Nat.{add-zero}
 use lib.ListN.{length, getD, set, drop}
-use lib.Seq.{drop-cons, drop-length}
+use lib.Seq.{drop-length}
+use Rattle.lists.proofs.Places.{drop-step}
 use Rattle.wire.specs.Number.{puts}
 use Rattle.wire.proofs.Puts.{puts-append}
 use Rattle.turn.specs.Turn.{rowNumbers, rowOf, turnIn, turnsOfTable}
@@ -117,13 +117,10 @@ cell table i (suc (suc (suc (suc zero)))) h = refl
 cell table i (suc (suc (suc (suc (suc zero))))) h = refl
 cell table i (suc (suc (suc (suc (suc (suc p)))))) h = absurd (omega arith)
 
-map-next : (maps : List ℕ) (i : ℕ) → i < length maps → drop i maps ≡ getD maps i 0 ∷ drop (i + 1) maps
-map-next maps i h = rw add-one (drop-cons maps i 0 h)
-
 module _ (F : Field) (maps : List ℕ) (i at : ℕ) where
   size-next : i < length maps → columnSize F (drop i maps) ≡ sizeIn F (getD maps i 0) + columnSize F (drop (i + 1) maps)
   unfolding columnSize
-  size-next h = rw (map-next maps i h)
+  size-next h = rw (drop-step maps i h)
 
   pub size-more : {at′ e : ℕ} → i < length maps → at′ ≡ at + sizeIn F (getD maps i 0) → at + columnSize F (drop i maps) ≡ e → at′ + columnSize F (drop (i + 1) maps) ≡ e
   size-more h p q = omega (arith, size-next h)
@@ -153,7 +150,7 @@ module _ (F : Field) (maps : List ℕ) (i at : ℕ) where
       let m = getD maps i 0 in
       let x = getD (rowOf (turnIn table i)) (F .place) 0 in
       let rest = columnOf F (drop (i + 1) maps) (valuesOf F (turnsOfTable (length maps - (i + 1)) table (i + 1))) in
-      rw (q, cell table i (F .place) (laid .within)) (puts-append (fieldIn F m x) rest l at at′ (p ∙ ap (λ (n : ℕ). at + n) (sym (field-in-length F m x))) ∙ rw (map-next maps i h, turns-step (length maps) i table h) at e)
+      rw (q, cell table i (F .place) (laid .within)) (puts-append (fieldIn F m x) rest l at at′ (p ∙ ap (λ (n : ℕ). at + n) (sym (field-in-length F m x))) ∙ rw (drop-step maps i h, turns-step (length maps) i table h) at e)
 
   pub put-start : (table l : List ℕ) → puts l at (columnOf F (drop 0 maps) (valuesOf F (turnsOfTable (length maps - 0) table 0))) ≡ puts l at (columnOf F maps (valuesOf F (turnsOfTable (length maps) table 0)))
   put-start table l = let z : length maps - 0 ≡ length maps = omega arith in rw z
@@ -168,7 +165,7 @@ module _ (F : Field) (maps : List ℕ) (i at : ℕ) where
   unfolding columnRead spread
   read-more l s old h p q e =
       let k : (i + 1) * rowNumbers + F .place ≡ i * rowNumbers + F .place + rowNumbers = omega arith in
-      rw (k, p, q) (rw (map-next maps i h) at e)
+      rw (k, p, q) (rw (drop-step maps i h) at e)
 
   pub read-done : (l s : List ℕ) (old : ℕ) {z : List ℕ} → length maps ≤ i → i ≤ length maps → spread l (i * rowNumbers + F .place) (columnRead F (drop i maps) s at old) ≡ z → l ≡ z
   unfolding columnRead spread

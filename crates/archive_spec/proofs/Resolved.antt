@@ -1,7 +1,7 @@
 -- What a column has is what is read of it, and the other way round: once for every field, then for all columns. Assumes nothing.
 use Prim.Native.Nat.{ℕ, zero, suc, _+_, _*_, _/_, _%_, _^_, _<_, _≤_}
 use mathlib.Core.Path.{_≡_, refl, sym, _∙_, ap, ap₂}
-use mathlib.Core.List.{List, [], _∷_, _++_, append-assoc}
+use mathlib.Core.List.{List, [], _∷_, _++_, append-assoc, append-nil}
 use native.Mathlib.Omega.{arith}
 use native.Mathlib.Numerals.{add-one}
 use native.Mathlib.Nat.{add-zero, div-one}
@@ -135,10 +135,6 @@ values-across F C col same (suc n) i h =
 
 -- ---- all columns
 
-append-nil : (l : List ℕ) → l ++ [] ≡ l
-append-nil [] = refl
-append-nil (x ∷ l) = ap (λ (r : List ℕ). x ∷ r) (append-nil l)
-
 -- what all columns of turns have is what is read of them
 module _ (s ms : List ℕ) (ts : List Turn) (at : ℕ) (same : length ts ≡ length ms)
     (f1 : Follows slopes 0 ms (valuesOf slopes ts)) (f2 : Follows groomers 0 ms (valuesOf groomers ts)) (f3 : Follows starts 0 ms (valuesOf starts ts))
@@ -155,33 +151,9 @@ module _ (s ms : List ℕ) (ts : List Turn) (at : ℕ) (same : length ts ≡ len
       let end : at + widths ms ≡ at + columnSize slopes ms + columnSize groomers ms + columnSize starts ms + columnSize lengths ms + columnSize worths ms + columnSize drivers ms = omega (arith, widths-sum ms) in
       (rw (← same) (across-values (columnsIn ms s at) ts 0 (r1 .0) (r2 .0) (r3 .0) (r4 .0) (r5 .0) (r6 .0)), rw end (r6 .1))
 
-same-1 : (C : Columns) (i : ℕ) → getD (rowOf (turnAcross C i)) 0 0 ≡ getD (C .slope) i 0
-unfolding turnAcross
-same-1 C i = refl
-
-same-2 : (C : Columns) (i : ℕ) → getD (rowOf (turnAcross C i)) 1 0 ≡ getD (C .groomer) i 0
-unfolding turnAcross
-same-2 C i = refl
-
-same-3 : (C : Columns) (i : ℕ) → getD (rowOf (turnAcross C i)) 2 0 ≡ getD (C .start) i 0
-unfolding turnAcross
-same-3 C i = refl
-
-same-4 : (C : Columns) (i : ℕ) → getD (rowOf (turnAcross C i)) 3 0 ≡ getD (C .length) i 0
-unfolding turnAcross
-same-4 C i = refl
-
-same-5 : (C : Columns) (i : ℕ) → getD (rowOf (turnAcross C i)) 4 0 ≡ getD (C .worth) i 0
-unfolding turnAcross
-same-5 C i = refl
-
-same-6 : (C : Columns) (i : ℕ) → getD (rowOf (turnAcross C i)) 5 0 ≡ getD (C .driver) i 0
-unfolding turnAcross
-same-6 C i = refl
-
 -- and what is read of bytes makes these bytes
 pub columns-stand : {s : List ℕ} → Bytes s → (ms : List ℕ) (at : ℕ) → at + widths ms ≡ length s → drop at s ≡ columnsOf ms (turnsAcross (length ms) (columnsIn ms s at) 0)
-unfolding columnsOf columnsIn
+unfolding columnsOf columnsIn turnAcross
 columns-stand {s} b ms at h =
     let C = columnsIn ms s at in
     let a1 = at + columnSize slopes ms in
@@ -190,12 +162,12 @@ columns-stand {s} b ms at h =
     let a4 = a3 + columnSize lengths ms in
     let a5 = a4 + columnSize worths ms in
     let sum = widths-sum ms in
-    let v1 : valuesOf slopes (turnsAcross (length ms) C 0) ≡ C .slope = values-across slopes C (C .slope) (λ i. same-1 C i) (length ms) 0 (omega (arith, read-length slopes ms s at 0)) in
-    let v2 : valuesOf groomers (turnsAcross (length ms) C 0) ≡ C .groomer = values-across groomers C (C .groomer) (λ i. same-2 C i) (length ms) 0 (omega (arith, read-length groomers ms s a1 0)) in
-    let v3 : valuesOf starts (turnsAcross (length ms) C 0) ≡ C .start = values-across starts C (C .start) (λ i. same-3 C i) (length ms) 0 (omega (arith, read-length starts ms s a2 0)) in
-    let v4 : valuesOf lengths (turnsAcross (length ms) C 0) ≡ C .length = values-across lengths C (C .length) (λ i. same-4 C i) (length ms) 0 (omega (arith, read-length lengths ms s a3 0)) in
-    let v5 : valuesOf worths (turnsAcross (length ms) C 0) ≡ C .worth = values-across worths C (C .worth) (λ i. same-5 C i) (length ms) 0 (omega (arith, read-length worths ms s a4 0)) in
-    let v6 : valuesOf drivers (turnsAcross (length ms) C 0) ≡ C .driver = values-across drivers C (C .driver) (λ i. same-6 C i) (length ms) 0 (omega (arith, read-length drivers ms s a5 0)) in
+    let v1 : valuesOf slopes (turnsAcross (length ms) C 0) ≡ C .slope = values-across slopes C (C .slope) (λ i. refl) (length ms) 0 (omega (arith, read-length slopes ms s at 0)) in
+    let v2 : valuesOf groomers (turnsAcross (length ms) C 0) ≡ C .groomer = values-across groomers C (C .groomer) (λ i. refl) (length ms) 0 (omega (arith, read-length groomers ms s a1 0)) in
+    let v3 : valuesOf starts (turnsAcross (length ms) C 0) ≡ C .start = values-across starts C (C .start) (λ i. refl) (length ms) 0 (omega (arith, read-length starts ms s a2 0)) in
+    let v4 : valuesOf lengths (turnsAcross (length ms) C 0) ≡ C .length = values-across lengths C (C .length) (λ i. refl) (length ms) 0 (omega (arith, read-length lengths ms s a3 0)) in
+    let v5 : valuesOf worths (turnsAcross (length ms) C 0) ≡ C .worth = values-across worths C (C .worth) (λ i. refl) (length ms) 0 (omega (arith, read-length worths ms s a4 0)) in
+    let v6 : valuesOf drivers (turnsAcross (length ms) C 0) ≡ C .driver = values-across drivers C (C .driver) (λ i. refl) (length ms) 0 (omega (arith, read-length drivers ms s a5 0)) in
     let s1 = column-stands slopes ms b at 0 (omega arith) in
     let s2 = column-stands groomers ms b a1 0 (omega arith) in
     let s3 = column-stands starts ms b a2 0 (omega arith) in

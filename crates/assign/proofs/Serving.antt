@@ -59,11 +59,7 @@ module _ (busy : List ℕ) (g : Groomers) (start k until e : ℕ) (f : FirstFree
   earliest-at j (inr d) l = rw (d, getD-set-same busy k until 0 (omega (arith, f .known))) b
 
   each : (j : ℕ) → j < max (k + 1) (g .used) → e ≤ getD (set busy k until) j 0
-  each j l = go (ℕ-discrete j k)
-    where
-      go : Dec (j ≡ k) → e ≤ getD (set busy k until) j 0
-      go (yes d) = earliest-at j (inr d) l
-      go (no d) = earliest-at j (inl d) l
+  each j l = elim (ℕ-discrete j k) [ yes d ↦ earliest-at j (inr d) l | no d ↦ earliest-at j (inl d) l ]
 
   pub earliest-again : k < g .used → NoneBefore (set busy k until) (record { used = g .used; earliest = e })
   unfolding NoneBefore
@@ -86,11 +82,7 @@ used-few T numbers t used busy n b = below (T .count) (n .inside) (n .few)
 
 module _ (T : Turns) (numbers : List ℕ) (t used k : ℕ) (busy : List ℕ) (lengths : PositiveLengths T) (n : NextIn T numbers t) (b : BusyUntil T numbers used busy) (f : FirstFree busy used (T .start t) k) where
   inside : (u : ℕ) → 1 ≤ numberIn numbers u → u < T .count
-  inside u h = go (decLt u (T .count))
-    where
-      go : Dec (u < T .count) → u < T .count
-      go (yes l) = l
-      go (no l) = absurd (omega (arith, List·getD-eq-default numbers 0 {n = u} (omega (arith, n .places))))
+  inside u h = elim (decLt u (T .count)) [ yes l ↦ l | no l ↦ absurd (omega (arith, List·getD-eq-default numbers 0 {n = u} (omega (arith, n .places)))) ]
 
   another : (u j : ℕ) → numberIn numbers u ≡ j + 1 → u ≡ t → ⊥
   another u j e q = omega (arith, ap (numberIn numbers) q, n .none)

@@ -40,7 +40,3 @@ pub record Serving (T : Turns) (i used : ℕ) (busy numbers : List ℕ) : Type 0
   pub underway : Underway T (drop i (orderByStart T)) numbers
   pub ahead : numberAll T (drop i (orderByStart T)) numbers ≡ numbersOf T
   pub groomers : BusyUntil T numbers used busy
-
--- the first i places hold 0
-unfoldable pub ClearBelow : List ℕ → ℕ → Type 0
-ClearBelow numbers i = (t : ℕ) → t < i → getD numbers t 0 ≡ 0

@@ -63,11 +63,7 @@ module _ (T : Turns) (t : ℕ) (ts numbers : List ℕ) (w : Underway T (t ∷ ts
 
   -- it had none
   pub next-unnumbered : numberIn numbers t ≡ 0
-  next-unnumbered = go (decLt 0 (numberIn numbers t))
-    where
-      go : Dec (0 < numberIn numbers t) → numberIn numbers t ≡ 0
-      go (yes l) = absurd (omega (arith, all-head (w .past t (omega arith)) .ties refl))
-      go (no l) = omega arith
+  next-unnumbered = elim (decLt 0 (numberIn numbers t)) [ yes l ↦ absurd (omega (arith, all-head (w .past t (omega arith)) .ties refl)) | no l ↦ omega arith ]
 
   -- the numbers so far, and one more, are within reach
   abbrev spare : ℕ
@@ -110,11 +106,7 @@ module _ (T : Turns) (t : ℕ) (ts numbers : List ℕ) (w : Underway T (t ∷ ts
   had-before u h = all-head (w .past u h)
 
   in-range : (u : ℕ) → 1 ≤ numberIn numbers u → u < T .count
-  in-range u h = go (decLt u (T .count))
-    where
-      go : Dec (u < T .count) → u < T .count
-      go (yes l) = l
-      go (no l) = absurd (omega (arith, List·getD-eq-default numbers 0 {n = u} (omega (arith, w .places))))
+  in-range u h = elim (decLt u (T .count)) [ yes l ↦ l | no l ↦ absurd (omega (arith, List·getD-eq-default numbers 0 {n = u} (omega (arith, w .places)))) ]
 
   apart-next : (u : ℕ) → (u ≡ t → ⊥) → numberIn numbers u ≡ next → overlap T u t ≡ false
   apart-next u d e = free-apart T numbers t next next-free u (in-range u (omega (arith, next-from))) e
@@ -151,11 +143,7 @@ module _ (T : Turns) (t : ℕ) (ts numbers : List ℕ) (w : Underway T (t ∷ ts
   rising-first (Ascending.more a r) = a
 
   after-past : (u : ℕ) → 1 ≤ numberIn after u → All (λ x. Before T u x) ts
-  after-past u h = go (ℕ-discrete u t)
-    where
-      go : Dec (u ≡ t) → All (λ x. Before T u x) ts
-      go (yes p) = rw p (rising-first (w .rising))
-      go (no p) = all-tail (w .past u (omega (arith, still-has u p)))
+  after-past u h = elim (ℕ-discrete u t) [ yes p ↦ rw p (rising-first (w .rising)) | no p ↦ all-tail (w .past u (omega (arith, still-has u p))) ]
 
   after-rest : (u : ℕ) → u < T .count → timesIn eqb u ts ≡ 0 → 1 ≤ numberIn after u
   unfolding timesIn
@@ -166,11 +154,7 @@ module _ (T : Turns) (t : ℕ) (ts numbers : List ℕ) (w : Underway T (t ∷ ts
       go (no p) = omega (arith, still-has u p, w .rest u l (rw (ne-eqb u t p) (omega arith)))
 
   after-few : (u : ℕ) → numberIn after u + length ts ≤ T .count
-  after-few u = go (ℕ-discrete u t)
-    where
-      go : Dec (u ≡ t) → numberIn after u + length ts ≤ T .count
-      go (yes p) = rw p (omega (arith, now-has, next-few))
-      go (no p) = omega (arith, still-has u p, w .few u)
+  after-few u = elim (ℕ-discrete u t) [ yes p ↦ rw p (omega (arith, now-has, next-few)) | no p ↦ omega (arith, still-has u p, w .few u) ]
 
   pub underway-next : Underway T ts after
   underway-next =

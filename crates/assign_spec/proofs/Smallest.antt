@@ -40,11 +40,7 @@ module _ (p : ℕ → Bool) where
 
   -- it is no greater than one that passes
   pub first-least : (k more j : ℕ) → k ≤ j → p j ≡ true → firstFrom p k more ≤ j
-  first-least k more j a e = go (decLt j (firstFrom p k more))
-    where
-      go : Dec (j < firstFrom p k more) → firstFrom p k more ≤ j
-      go (yes l) = absurd (not-both e (first-below k more j a l))
-      go (no l) = omega arith
+  first-least k more j a e = elim (decLt j (firstFrom p k more)) [ yes l ↦ absurd (not-both e (first-below k more j a l)) | no l ↦ omega arith ]
 
   -- it passes, where one within reach does
   pub first-passes : (k more j : ℕ) → k ≤ j → j ≤ k + more → p j ≡ true → p (firstFrom p k more) ≡ true

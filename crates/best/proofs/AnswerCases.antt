@@ -1,12 +1,11 @@
 -- The entry's answer by its cases, each premise in the form in which the code's calls and tests leave it. Assumes nothing.
-use Prim.Native.Nat.{ℕ, zero, suc, _+_, _<_, _≤_}
+use Prim.Native.Nat.{ℕ, _<_, _≤_}
 use mathlib.Core.Path.{_≡_, refl, sym, ap, _∙_}
 use mathlib.Core.Bool.{Bool, true, false, not, cond}
 use mathlib.Core.List.{List, [], _∷_, _++_}
 use native.Mathlib.Omega.{arith}
-use native.Mathlib.Numerals.{add-one}
-use lib.ListN.{length, drop, take, set, replicate, length-set}
-use lib.Seq.{take-suc-set, take-all, length-take-le}
+use lib.ListN.{length, drop, take, replicate}
+use lib.Seq.{length-take-le}
 use Rattle.refusal.specs.Number.{bufferTooSmall, notSingleTurns}
 use Rattle.refusal.specs.Cause.{_when_, firstOf}
 use Rattle.refusal.proofs.Order.{first-stops, first-goes}
@@ -33,35 +32,6 @@ use Rattle.best_spec.proofs.BestCauses.{single-numbered}
 use Rattle.refusal.specs.Outcome.{beside, unless, thenRoom}
 use Rattle.refusal.proofs.Outcome.{room-stopped, room-short, room-enough, room-left}
 use Rattle.instance.proofs.Posed.{loaded-held, loaded-turns, loaded-count}
-
--- ---- clearing the map
-
--- the first i bytes are clear
-pub record Cleared (map map₀ : List ℕ) (i : ℕ) : Type 0 where
-  pub size : length map ≡ length map₀
-  pub within : i ≤ length map₀
-  pub done : take i map ≡ replicate i 0
-
-zeros-more : (i : ℕ) → _≡_ {A = List ℕ} (replicate i 0 ++ 0 ∷ []) (replicate (suc i) 0)
-zeros-more zero = refl
-zeros-more (suc i) = ap (λ (l : List ℕ). 0 ∷ l) (zeros-more i)
-
-module _ (map map₀ : List ℕ) where
-  pub zeroed-more : (i : ℕ) → Cleared map map₀ i → i < length map → Cleared (set map i 0) map₀ (i + 1)
-  zeroed-more i c h =
-      record {
-        size = length-set map i 0 ∙ c .size;
-        within = omega (arith, c .size);
-        done = rw (add-one, take-suc-set map i 0 h, c .done) (zeros-more i);
-      }
-
-  pub zeroed-done : (i : ℕ) → Cleared map map₀ i → length map ≤ i → map ≡ replicate (length map₀) 0
-  zeroed-done i c h = let z : i ≡ length map₀ = omega (arith, c .size, c .within) in sym (take-all i map h) ∙ c .done ∙ rw z
-
-pub zeroed-start : (map : List ℕ) → Cleared map map 0
-zeroed-start map = record { size = refl; within = omega arith; done = refl }
-
-pub ruleset zeroed-cases = (zeroed-start, zeroed-more, zeroed-done)
 
 -- ---- the map of the best set
 

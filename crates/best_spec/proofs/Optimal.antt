@@ -38,11 +38,7 @@ module _ (T : Turns) where
 
   pub choice-among : (x : ℕ) → has (bestChoice T) x ≡ true → isAmong bestTurns x ≡ true
   unfolding bestChoice
-  choice-among x e = go (marked-from (replicate (T .count) false) bestTurns x e)
-    where
-      go : (has (replicate (T .count) false) x ≡ true) ⊎ (isAmong bestTurns x ≡ true) → isAmong bestTurns x ≡ true
-      go (inl h) = absurd (none-chosen (T .count) x h)
-      go (inr h) = h
+  choice-among x e = elim (marked-from (replicate (T .count) false) bestTurns x e) [ inl h ↦ absurd (none-chosen (T .count) x h) | inr h ↦ h ]
 
   pub among-choice : (x : ℕ) → isAmong bestTurns x ≡ true → has (bestChoice T) x ≡ true
   unfolding bestChoice

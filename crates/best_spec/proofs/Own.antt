@@ -1,6 +1,6 @@
 -- The table over a groomer's own turns gives the most that they earn, and over all groomers this adds up to the best worth. Assumes nothing.
 use mathlib.Core.Path.{_≡_, refl, sym, ap, _∙_}
-use mathlib.Core.Logic.{_≢_, _⊎_, inl, inr}
+use mathlib.Core.Logic.{_≢_, inl, inr}
 use mathlib.Core.Bool.{Bool, true, false, cond}
 use mathlib.Core.List.{List, [], _∷_, _++_}
 use Prim.Native.Nat.{ℕ, zero, suc, _+_, _≤_, _<_}
@@ -10,7 +10,8 @@ use native.Mathlib.Numerals.{add-one}
 use lib.Dec.{leb, eqb}
 use lib.ListN.{replicate, length-replicate}
 use borrow.Author.Tests.{leb-true, le-leb, eqb-true, eq-eqb, ne-eqb}
-use Rattle.lists.specs.Lists.{sum, below, All, none, more}
+use Rattle.lists.proofs.Keeping.{keep-every, keep-holds, keep-all, keep-none, keep-sum}
+use Rattle.lists.specs.Lists.{sum, below, All}
 use Rattle.lists.proofs.Bools.{not-both, fails}
 use Rattle.lists.proofs.Sums.{all-map, all-of}
 use Rattle.model.specs.Turns.{Turns, PositiveLengths, NoDrivers}
@@ -24,46 +25,6 @@ use Rattle.best_spec.proofs.Members.{among-all, marked-from, marked-ear
 use Rattle.best_spec.proofs.Ordering.{Ordered, empty, first, order-ordered, order-range, order-sum}
 use Rattle.best_spec.proofs.Tables.{best-none, best-earns, best-every, leads-groomer, apart-among, best-feasible, taking-best}
 use Rattle.best_spec.proofs.Groomers.{groomers-add}
-
--- ---- those of a list of which a test holds
-
-module _ (p : ℕ → Bool) where
-  keep-every : {P : ℕ → Type 0} {ts : List ℕ} → All P ts → All P (keep p ts)
-  unfolding keep
-  keep-every none = none
-  keep-every {P} (more {t = t} {ts = ts} h hs) = go (p t) (keep-every hs)
-    where
-      go : (b : Bool) → All P (keep p ts) → All P (cond b (t ∷ keep p ts) (keep p ts))
-      go true ih = more h ih
-      go false ih = ih
-
-  keep-holds : (ts : List ℕ) → All (λ t. p t ≡ true) (keep p ts)
-  unfolding keep
-  keep-holds [] = none
-  keep-holds (t ∷ ts) = go (p t) refl (keep-holds ts)
-    where
-      go : (b : Bool) → p t ≡ b → All (λ u. p u ≡ true) (keep p ts) → All (λ u. p u ≡ true) (cond b (t ∷ keep p ts) (keep p ts))
-      go true e ih = more e ih
-      go false e ih = ih
-
-  keep-all : {ts : List ℕ} → All (λ t. p t ≡ true) ts → keep p ts ≡ ts
-  unfolding keep
-  keep-all none = refl
-  keep-all (more {t = t} h hs) = rw (h, keep-all hs)
-
-  keep-none : {ts : List ℕ} → All (λ t. p t ≡ false) ts → keep p ts ≡ []
-  unfolding keep
-  keep-none none = refl
-  keep-none (more h hs) = rw h (keep-none hs)
-
-  keep-sum : (f : ℕ → ℕ) → ((t : ℕ) → p t ≡ false → f t ≡ 0) → (ts : List ℕ) → sum f (keep p ts) ≡ sum f ts
-  unfolding keep
-  keep-sum f z [] = refl
-  keep-sum f z (t ∷ ts) = go (p t) refl (keep-sum f z ts)
-    where
-      go : (b : Bool) → p t ≡ b → sum f (keep p ts) ≡ sum f ts → sum f (cond b (t ∷ keep p ts) (keep p ts)) ≡ f t + sum f ts
-      go true e ih = omega (arith, ih)
-      go false e ih = omega (arith, ih, z t e)
 
 module _ (T : Turns) where
   keep-ordered : (p : ℕ → Bool) {ts : List ℕ} → Ordered T ts → Ordered T (keep p ts)
@@ -99,11 +60,7 @@ module _ (T : Turns) where
     setChoice R = marked (replicate (T .count) false) R
 
     choice-from : (R : List ℕ) (x : ℕ) → has (setChoice R) x ≡ true → isAmong R x ≡ true
-    choice-from R x e = go (marked-from (replicate (T .count) false) R x e)
-      where
-        go : (has (replicate (T .count) false) x ≡ true) ⊎ (isAmong R x ≡ true) → isAmong R x ≡ true
-        go (inl h) = absurd (none-chosen (T .count) x h)
-        go (inr h) = h
+    choice-from R x e = elim (marked-from (replicate (T .count) false) R x e) [ inl h ↦ absurd (none-chosen (T .count) x h) | inr h ↦ h ]
 
     own-most : (R : List ℕ) → OwnSet T g R → worthOf T R ≤ groomerWorth T g
     unfolding groomerWorth ownTurns chosen

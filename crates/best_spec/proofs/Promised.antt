@@ -8,20 +8,13 @@ use lib.ListN.{length, drop}
 use lib.Seq.{take-at, drop-at}
 use Rattle.refusal.specs.Cause.{firstOf}
 use Rattle.model.specs.Turns.{NoDrivers}
-use Rattle.model.specs.Pick.{steps}
-use Rattle.model.specs.Choice.{choice}
 use Rattle.model.specs.Feasible.{OneTurnASlope}
-use Rattle.model.proofs.Promised.{planned-length}
 use Rattle.sheet.specs.Read.{countsIn, turnCount, sheetCauses}
-use Rattle.sheet.proofs.Unrefused.{few-turns}
 use Rattle.choice_map.specs.Choice.{mapBytes, mapOf, choiceIn}
-use Rattle.board.specs.Board.{boardMap}
 use Rattle.choice_map.proofs.Clean.{map-length, map-choice}
-use Rattle.board_open.proofs.Written as written
 use Rattle.instance_spec.specs.Problem.{sheetTurns}
 use Rattle.instance_spec.proofs.SheetTurns.{sheet-count, sheet-lengths, sheet-worths-from, sheet-groomers}
-use Rattle.plan_spec.specs.Plan.{boardFor, plannedBoard}
-use Rattle.plan_spec.proofs.Planned.{planned-back}
+use Rattle.plan_spec.proofs.Planned.{planned-back, planned-map}
 use Rattle.best_spec.specs.Table.{bestWorth, bestChoice}
 use Rattle.best_spec.specs.Best.{Earned, bestOf}
 use Rattle.best_spec.specs.Promises.{answeredMap, answeredChoice, BestOfSheet, BestPromised}
@@ -33,10 +26,6 @@ module _ (s : List ℕ) (z : firstOf (sheetCauses s) ≡ 0) (free : NoDrivers (s
   worths : (t : ℕ) → t < sheetTurns s .count → 0 < sheetTurns s .worth t
   worths t h = omega (arith, sheet-worths-from s z t (omega (arith, sheet-count s z)))
 
-  planned-map : boardMap (plannedBoard s) ≡ mapOf (choice (sheetTurns s))
-  unfolding plannedBoard boardFor
-  planned-map = written.map-read (choice (sheetTurns s)) (steps (sheetTurns s)) _ _ (omega (arith, planned-length (sheetTurns s), sheet-count s z, few-turns s z))
-
   -- every sheet that is not refused, without drivers and without a second turn on a slope
   pub best-of-sheet : BestOfSheet s
   best-of-sheet =
@@ -46,7 +35,7 @@ module _ (s : List ℕ) (z : firstOf (sheetCauses s) ≡ 0) (free : NoDrivers (s
         greatest = best-greatest (sheetTurns s) (sheet-lengths s z) free single;
         tallied = planned-back s z .tallied ∙ sym (best-tally (sheetTurns s) (sheet-lengths s z) free single);
         planned-worth = planned-back s z .worth ∙ sym (best-planned (sheetTurns s) (sheet-lengths s z) free single);
-        planned-map = planned-map ∙ ap mapOf (sym (best-choice-planned (sheetTurns s) (sheet-lengths s z) free single worths));
+        planned-map = planned-map s z ∙ ap mapOf (sym (best-choice-planned (sheetTurns s) (sheet-lengths s z) free single worths));
         latest = best-leaves-out (sheetTurns s) (sheet-lengths s z) free single worths;
       }
 

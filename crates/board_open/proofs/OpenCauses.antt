@@ -14,7 +14,7 @@ use Rattle.refusal.proofs.Order.{numbered, first-iff, none-given}
 use Rattle.wire.specs.Number.{Bytes}
 use Rattle.wire.specs.Mark.{boardMark, opensWith}
 use Rattle.wire.proofs.Marks.{board-mark-iff}
-use Rattle.lists.proofs.Bools.{not-both, fails, every-not}
+use Rattle.lists.proofs.Bools.{not-both, every-not, refuted}
 use Rattle.choice_map.specs.Choice.{mapBytes, chosenIn, clearPast, Clean}
 use Rattle.board.specs.Board.{boardHeader, boardTurns, boardSteps, boardLength, boardMap}
 use Rattle.board_open.specs.Open.{badSizes, malformed, openOf, WellFormed, OpenCause, short-header, other-mark, more-steps, other-length, bit-past, FirstOpenCause}
@@ -93,9 +93,6 @@ module _ (b : List ℕ) where
     where
       found : (k : ℕ) × (k < 8 * mapBytes (boardTurns b) - boardTurns b) × (not (chosenIn (boardMap b) (boardTurns b + k)) ≡ false) → OpenCause b malformedBoard 4
       found (k, l, f) = bit-past (boardTurns b + k) (omega arith) (omega arith) (not-false (chosenIn (boardMap b) (boardTurns b + k)) f)
-
-  refuted : (t : Bool) → (t ≡ true → ⊥) → not t ≡ true
-  refuted t h = rw (fails t h)
 
   test-cause : {k r : ℕ} → There (tests b) k r → OpenCause b k r
   unfolding tests

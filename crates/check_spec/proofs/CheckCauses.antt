@@ -17,7 +17,7 @@ use Rattle.model.specs.Steps.{Step, isOpen, initial, afterStep, afterSteps, tal
 use Rattle.lists.specs.Lists.{every}
 use Rattle.model.specs.Choice.{has, chosen, fits}
 use Rattle.model.specs.Rules.{independent, maximal, right, allRight, noneOpen, sums, Right, Each, done, step}
-use Rattle.lists.proofs.Bools.{and-1, and-2, or-cases, or-1, or-2, or-false-1, or-false-2, not-both, every-not}
+use Rattle.lists.proofs.Bools.{and-1, and-2, or-cases, or-1, or-2, or-false-1, or-false-2, not-both, every-not, refuted}
 use Rattle.model.proofs.Minutes.{conflict-is}
 use Rattle.model.proofs.Filled.{fits-apart}
 use Rattle.model.proofs.Readings.{independent-is, maximal-is, right-is, allRight-is, noneOpen-is, sums-is}
@@ -137,10 +137,6 @@ module _ (T : Turns) (lengths : PositiveLengths T) (b : List ℕ) where
       go (yes p) (yes q) (no r) = absurd (not-both (sums-is T (boardChoice b) (writtenSteps b) (boardTally b) (boardWorth b) .1 (p, q, omega arith)) (not-true _ e))
 
   -- ---- the causes are those of the list
-
-  refuted : (t : Bool) → (t ≡ true → ⊥) → not t ≡ true
-  refuted true h = absurd (h refl)
-  refuted false h = refl
 
   pub board-cause : {k r : ℕ} → There (boardCauses T b) k r → BoardCause T b k r
   unfolding boardCauses ruleCauses choiceCauses stepCauses sumCauses

@@ -8,7 +8,7 @@ use native.Mathlib.Numerals.{add-one}
 use lib.ListN.{length, getD, set, take, drop, replicate, take-append-drop, length-drop}
 use lib.Seq.{drop-cons, drop-length, take-suc-set, take-set-le, take-all, getD-take, getD-drop, length-take-le}
 use borrow.Author.Tests.{not-false}
-use Rattle.lists.proofs.Bools.{and-1, and-2, every-not, every-fails}
+use Rattle.lists.proofs.Bools.{and-1, and-2, every-not, every-fails, and-false}
 use Rattle.model.specs.Choice.{has, choose, chooseEach}
 use Rattle.model.proofs.Choices.{put-keeps, choose-not, each-kept, each-both}
 use Rattle.sheet.specs.Kind.{mostTurns}
@@ -147,11 +147,7 @@ module _ (H : Hall) where
   module _ (kind : ℕ → Bool) where
     taken-unfit : (S : List Bool) (t : ℕ) → vehicleFree H S t ≡ false → fitsAmong H kind S t ≡ false
     unfolding fitsAmong staysAllowed
-    taken-unfit S t e = rw e (go (kind t))
-      where
-        go : (b : Bool) → (b && false) ≡ false
-        go true = refl
-        go false = refl
+    taken-unfit S t e = rw e (and-false (kind t))
 
     each-left : (p : ℕ → Bool) (S : List Bool) (js : List ℕ) → ((k : ℕ) → k < length js → p (getD js k 0) ≡ false → vehicleFree H S (getD js k 0) ≡ false) → chooseEach (fitsAmong H kind) (keep p js) S ≡ chooseEach (fitsAmong H kind) js S
     unfolding chooseEach keep

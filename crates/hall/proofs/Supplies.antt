@@ -13,8 +13,9 @@ use lib.Seq.{getD-set-same, getD-set-other}
 use mir.Syntax.{w8}
 use mir.Val.{Fits}
 use borrow.Author.Tests.{le-leb, lt-leb, leb-true, not-true, not-false}
+use Rattle.lists.proofs.Places.{put-more}
 use Rattle.lists.specs.Lists.{every}
-use Rattle.lists.proofs.Bools.{and-2, fails, every-of, every-at, every-not, every-fails}
+use Rattle.lists.proofs.Bools.{and-2, fails, every-of, every-at, every-not, every-fails, every-same}
 use Rattle.turn.specs.Turn.{shiftMinutes}
 use Rattle.model.specs.Choice.{has, chosen}
 use Rattle.model.proofs.Choices.{none-chosen, chosen-put, chosen-put-most}
@@ -39,11 +40,6 @@ room-is x d u h = go (decLt u (x + d))
     go : Dec (u < x + d) → leb x (u - d) ≡ leb (x + d) u
     go (yes l) = lt-leb x (u - d) (omega arith) ∙ sym (lt-leb (x + d) u l)
     go (no l) = le-leb x (u - d) (omega arith) ∙ sym (le-leb (x + d) u (omega arith))
-
-every-same : (p q : ℕ → Bool) (n : ℕ) → ((t : ℕ) → t < n → p t ≡ q t) → every p n ≡ every q n
-unfolding every
-every-same p q zero h = refl
-every-same p q (suc n) h = rw (h n (omega arith), every-same p q n (λ t l. h t (omega arith)))
 
 -- ---- the supply lasts at some minutes
 
@@ -148,21 +144,20 @@ module _ (start draw : ℕ) (used : List ℕ) where
   draw-start = record { places = refl; drawing = λ m h l. absurd (omega arith); earlier = λ m h. refl; later = λ m h. refl }
 
   module _ (m : ℕ) {now′ : List ℕ} (d : Drawn start draw m used now′) where
-    pub draw-more : (end : ℕ) → start ≤ m → m < end → end ≤ shiftMinutes → length used ≡ usedPlaces → Drawn start draw (m + 1) used (set now′ m (getD now′ m 0 + draw))
-    draw-more end l g h w =
+    pub draw-next : start ≤ m → m < length used → Drawn start draw (m + 1) used (set now′ m (getD now′ m 0 + draw))
+    draw-next l h =
+        let x = getD now′ m 0 + draw in
         record {
-          places = length-set now′ m (getD now′ m 0 + draw) ∙ d .places;
-          drawing = λ k a b. drawn k (ℕ-discrete k m) a b;
-          earlier = λ k a. other k (omega arith) ∙ d .earlier k a;
-          later = λ k a. other k (omega arith) ∙ d .later k (omega arith);
+          places = length-set now′ m x ∙ d .places;
+          drawing = λ k a b.
+              put-more (λ i y. start ≤ i → y ≡ getD used i 0 + draw) now′ m x (omega (arith, d .places)) (λ i c e. d .drawing i e c)
+              (λ e. ap (λ (y : ℕ). y + draw) (d .later m (omega arith))) k b a;
+          earlier = λ k a. getD-set-other now′ m k x 0 (omega arith) ∙ d .earlier k a;
+          later = λ k a. getD-set-other now′ m k x 0 (omega arith) ∙ d .later k (omega arith);
         }
-      where
-        other : (k : ℕ) → (k ≡ m → ⊥) → getD (set now′ m (getD now′ m 0 + draw)) k 0 ≡ getD now′ k 0
-        other k q = getD-set-other now′ m k (getD now′ m 0 + draw) 0 q
 
-        drawn : (k : ℕ) → Dec (k ≡ m) → start ≤ k → k < m + 1 → getD (set now′ m (getD now′ m 0 + draw)) k 0 ≡ getD used k 0 + draw
-        drawn k (yes q) a b = rw q (getD-set-same now′ m (getD now′ m 0 + draw) 0 (omega (arith, d .places)) ∙ ap (λ (x : ℕ). x + draw) (d .later m (omega arith)))
-        drawn k (no q) a b = other k q ∙ d .drawing k a (omega arith)
+    pub draw-more : (end : ℕ) → start ≤ m → m < end → end ≤ shiftMinutes → length used ≡ usedPlaces → Drawn start draw (m + 1) used (set now′ m (getD now′ m 0 + draw))
+    draw-more end l g h w = draw-next l (omega arith)
 
     pub draw-done : (end : ℕ) → end ≤ m → m ≤ end → Drawn start draw end used now′
     draw-done end h l = let q : m ≡ end = omega arith in rw q at d

@@ -6,15 +6,16 @@ use mathlib.Core.List.{List}
 use native.Mathlib.Omega.{arith}
 use native.Mathlib.Nat.{mul-le-mul, div-le-self, suc-mul}
 use native.Mathlib.Numerals.{add-one}
-use native.Mathlib.Decide.{decLt, ℕ-discrete}
+use native.Mathlib.Decide.{decLt}
 use mir.Syntax.{w16, w32}
 use mir.Val.{Fits}
 use lib.Dec.{ltb}
 use lib.ListN.{length, getD, set, replicate, length-set, length-replicate, getD-replicate}
-use lib.Seq.{getD-set-same, getD-set-other, ext-getD}
+use lib.Seq.{getD-set-other, ext-getD}
 use borrow.Author.Tests.{lt-ltb, le-ltb}
+use Rattle.lists.proofs.Places.{put-more, filled-cases}
 use Rattle.lists.specs.Lists.{sum, below, tab}
-use Rattle.lists.proofs.Bools.{fails}
+use Rattle.lists.proofs.Bools.{fails, cond-most, up-to}
 use Rattle.lists.proofs.Sums.{sum-zero, sum-same, sum-split, all-below, tab-length, tab-at, tab-same}
 use Rattle.turn.specs.Turn.{shiftMinutes, mostWorth}
 use Rattle.model.specs.Choice.{has, chosen}
@@ -28,7 +29,7 @@ use Rattle.hall_spec.specs.Hall.{mostUnits, Hall, chargesAt, drawAt, drawnAt}
 use Rattle.hall_spec.specs.Plan.{roundedUp}
 use Rattle.hall_spec.proofs.Windows.{charges-in, in-charges, drawAt-charging, drawAt-not}
 use Rattle.hall.specs.Supply.{Drawn}
-use Rattle.hall.proofs.Supplies.{draw-start, draw-done}
+use Rattle.hall.proofs.Supplies.{draw-start, draw-done, draw-next}
 use Rattle.hall_price_spec.specs.Prices.{minutePrice}
 use Rattle.hall_price_spec.specs.Hall.{highestMinutePrice, movedMinute, movedMinutes}
 use Rattle.hall_look.specs.declared.HallSize.{HallSize}
@@ -80,24 +81,6 @@ pub ruleset move-by-cases = (rise-fits, rise-up-fits, rise-move-fits, rise-is, r
 
 -- ---- the same for each draw in a list
 
-module _ (units change : ℕ) (moves : List ℕ) where
-  pub moves-start : length moves ≡ movePlaces → MovesTo units change moves 0
-  moves-start l = record { places = l; values = λ d h. absurd (omega arith) }
-
-  module _ {k : ℕ} (s : MovesTo units change moves k) where
-    pub moves-more : {x : ℕ} → k < movePlaces → x ≡ moveBy change units k → MovesTo units change (set moves k x) (k + 1)
-    moves-more {x} h e = record { places = length-set moves k x ∙ s .places; values = λ d l. at d l (ℕ-discrete d k) }
-      where
-        at : (d : ℕ) → d < k + 1 → Dec (d ≡ k) → getD (set moves k x) d 0 ≡ moveBy change units d
-        at d l (yes q) = rw q (getD-set-same moves k x 0 (omega (arith, s .places)) ∙ e)
-        at d l (no q) = getD-set-other moves k d x 0 q ∙ s .values d (omega arith)
-
-    pub moves-done : movePlaces ≤ k → MovesTo units change moves movePlaces
-    moves-done h = record { places = s .places; values = λ d l. s .values d (omega arith) }
-
-    pub moves-long : length moves ≡ movePlaces
-    moves-long = s .places
-
 pub move-small : (units change drawn : ℕ) → units ≤ mostUnits → drawn ≤ mostDrawn → change ≤ mostWorth → moveBy change units drawn ≤ mostMove
 move-small units change drawn u d c = go (decLt units drawn)
   where
@@ -114,8 +97,6 @@ module _ (units change : ℕ) (moves : List ℕ) (s : MovesTo units change moves
 
   pub listed-small : units ≤ mostUnits → change ≤ mostWorth → drawn ≤ mostDrawn → getD moves drawn 0 ≤ mostMove
   listed-small u c d = omega (arith, listed-is, move-small units change drawn u d c)
-
-pub ruleset moves-cases = (moves-start, moves-more, moves-done, moves-long)
 
 pub ruleset listed-cases = (listed-place, listed-is, listed-small)
 
@@ -134,29 +115,11 @@ moved-is change units drawn price {by} u c p e = go (decLt units drawn)
 
 -- ---- the move of each minute
 
-module _ (units change : ℕ) (drawn : List ℕ) (by : List ℕ) where
-  pub each-start : length by ≡ shiftMinutes → EachTo units change drawn by 0
-  each-start l = record { places = l; values = λ m h. absurd (omega arith) }
+pub each-drawn : (drawn : List ℕ) (k : ℕ) → k < shiftMinutes → FewDrawn drawn → getD drawn k 0 ≤ mostDrawn
+unfolding FewDrawn
+each-drawn drawn k h f = f k h
 
-  module _ {k : ℕ} (s : EachTo units change drawn by k) where
-    pub each-long : length by ≡ shiftMinutes
-    each-long = s .places
-
-    pub each-drawn : k < shiftMinutes → FewDrawn drawn → getD drawn k 0 ≤ mostDrawn
-    unfolding FewDrawn
-    each-drawn h f = f k h
-
-    pub each-more : {x : ℕ} → k < shiftMinutes → x ≡ moveBy change units (getD drawn k 0) → EachTo units change drawn (set by k x) (k + 1)
-    each-more {x} h e = record { places = length-set by k x ∙ s .places; values = λ m l. at m l (ℕ-discrete m k) }
-      where
-        at : (m : ℕ) → m < k + 1 → Dec (m ≡ k) → getD (set by k x) m 0 ≡ moveBy change units (getD drawn m 0)
-        at m l (yes q) = rw q (getD-set-same by k x 0 (omega (arith, s .places)) ∙ e)
-        at m l (no q) = getD-set-other by k m x 0 q ∙ s .values m (omega arith)
-
-    pub each-done : shiftMinutes ≤ k → EachTo units change drawn by shiftMinutes
-    each-done h = record { places = s .places; values = λ m l. s .values m (omega arith) }
-
-pub ruleset each-cases = (each-start, each-long, each-drawn, each-more, each-done)
+pub ruleset each-cases = (filled-cases, each-drawn)
 
 -- ---- all prices
 
@@ -188,18 +151,12 @@ module _ (by old : List ℕ) where
         record {
           within = omega arith;
           size = length-set new m x ∙ s .size;
-          fit = λ i k. fits i k (ℕ-discrete i m);
-          done = λ i k. at i k (ℕ-discrete i m);
+          fit = rw add-one (up-to (λ i. getD old i 0 ≤ mostPrice) m (s .fit) (omega (arith, e, a, s .others m (omega arith))));
+          done =
+              put-more (λ i y. y ≡ min highestMinutePrice (getD old i 0 + getD by i 0 - noMove)) new m x (moved-inside h) (s .done)
+              (f ∙ ap (λ (y : ℕ). min highestMinutePrice (y + getD by m 0 - noMove)) (e ∙ s .others m (omega arith)));
           others = λ i k. getD-set-other new m i x 0 (omega arith) ∙ s .others i (omega arith);
         }
-      where
-        fits : (i : ℕ) → i < m + 1 → Dec (i ≡ m) → getD old i 0 ≤ mostPrice
-        fits i k (yes q) = rw q (omega (arith, e, a, s .others m (omega arith)))
-        fits i k (no q) = s .fit i (omega arith)
-
-        at : (i : ℕ) → i < m + 1 → Dec (i ≡ m) → getD (set new m x) i 0 ≡ min highestMinutePrice (getD old i 0 + getD by i 0 - noMove)
-        at i k (yes q) = rw q (getD-set-same new m x 0 (moved-inside h) ∙ f ∙ ap (λ (y : ℕ). min highestMinutePrice (y + getD by m 0 - noMove)) (e ∙ s .others m (omega arith)))
-        at i k (no q) = getD-set-other new m i x 0 q ∙ s .done i (omega arith)
 
     pub moved-done : shiftMinutes ≤ m → new ≡ movedBy by old
     unfolding movedBy minutePrice
@@ -241,21 +198,8 @@ module _ (old : List ℕ) where
             from = omega (arith, s .from);
             to = omega arith;
             ends = s .ends;
-            drawn =
-                record {
-                  places = length-set new m (getD new m 0 + draw) ∙ s .drawn .places;
-                  drawing = λ i a b. at i (ℕ-discrete i m) a b;
-                  earlier = λ i a. other i (omega (arith, s .from)) ∙ s .drawn .earlier i a;
-                  later = λ i a. other i (omega arith) ∙ s .drawn .later i (omega arith);
-                };
+            drawn = draw-next start draw old m (s .drawn) (s .from) (omega (arith, window-place));
           }
-        where
-          other : (i : ℕ) → (i ≡ m → ⊥) → getD (set new m (getD new m 0 + draw)) i 0 ≡ getD new i 0
-          other i q = getD-set-other new m i (getD new m 0 + draw) 0 q
-
-          at : (i : ℕ) → Dec (i ≡ m) → start ≤ i → i < m + 1 → getD (set new m (getD new m 0 + draw)) i 0 ≡ getD old i 0 + draw
-          at i (yes q) a b = rw q (getD-set-same new m (getD new m 0 + draw) 0 (omega (arith, s .drawn .places, window-place)) ∙ ap (λ (x : ℕ). x + draw) (s .drawn .later m (omega arith)))
-          at i (no q) a b = other i q ∙ s .drawn .drawing i a (omega arith)
 
 pub window-fits : (old : List ℕ) {r : Row} {new : List ℕ} {m : ℕ} → WindowRow r → RoomForMore old → WindowDrawnTo (r .start) (r .groomer) (r .end) old new m → m < r .end → Fits w16 (getD new m 0 + r .groomer)
 unfolding RoomForMore
@@ -294,11 +238,7 @@ module _ (H : Hall) (map : List ℕ) (m : ℕ) where
   drawn-most : (most n : ℕ) → ((u : ℕ) → u < n → drawAt H m u ≤ most) → drawnBefore H map n m ≤ n * most
   unfolding drawnBefore
   drawn-most most zero h = omega arith
-  drawn-most most (suc n) h = omega (arith, suc-mul n most, drawn-most most n (λ u l. h u (omega arith)), one (chosenIn map n) (h n (omega arith)))
-    where
-      one : (b : Bool) {x : ℕ} → x ≤ most → cond b x 0 ≤ most
-      one true l = l
-      one false l = omega arith
+  drawn-most most (suc n) h = omega (arith, suc-mul n most, drawn-most most n (λ u l. h u (omega arith)), cond-most (chosenIn map n) (h n (omega arith)))
 
 module _ (h : HallSize) (cols relaxed : List ℕ) (q : HallPosed h cols) (c : Clean (h .size .count) relaxed) where
   abbrev H : Hall
@@ -312,11 +252,7 @@ module _ (h : HallSize) (cols relaxed : List ℕ) (q : HallPosed h cols) (c : Cl
 
   draw-most : (m u : ℕ) → u < n → drawAt H m u ≤ mostUnits
   unfolding drawAt
-  draw-most m u l = one (chargesAt H m u) (omega (arith, q .held .draws u l, q .held .units-to))
-    where
-      one : (b : Bool) {x : ℕ} → x ≤ mostUnits → cond b x 0 ≤ mostUnits
-      one true l = l
-      one false l = omega arith
+  draw-most m u l = cond-most (chargesAt H m u) (omega (arith, q .held .draws u l, q .held .units-to))
 
   before-most : (t m : ℕ) → t ≤ n → drawnBefore H relaxed t m ≤ t * mostUnits
   before-most t m l = drawn-most H relaxed m mostUnits t (λ u k. draw-most m u (omega arith))

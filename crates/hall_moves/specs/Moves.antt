@@ -5,7 +5,7 @@ use mathlib.Core.List.{List}
 use Prim.Native.Nat.{ℕ, _+_, _-_, _*_, _/_, _≤_, _<_, min}
 use lib.Dec.{ltb}
 use lib.ListN.{length, getD}
-use Rattle.lists.specs.Lists.{tab}
+use Rattle.lists.specs.Lists.{tab, FilledTo}
 use Rattle.turn.specs.Turn.{shiftMinutes, mostWorth}
 use Rattle.sheet.specs.Kind.{mostTurns}
 use Rattle.hall_spec.specs.Hall.{mostUnits, Hall, drawnAt}
@@ -41,14 +41,12 @@ movedBy by prices = tab shiftMinutes (λ m. min highestMinutePrice (minutePrice 
 -- ---- as statements
 
 -- the move for each draw below k
-pub record MovesTo (units change : ℕ) (moves : List ℕ) (k : ℕ) : Type 0 where
-  pub places : length moves ≡ movePlaces
-  pub values : (d : ℕ) → d < k → getD moves d 0 ≡ moveBy change units d
+abbrev pub MovesTo : ℕ → ℕ → List ℕ → ℕ → Type 0
+MovesTo units change = FilledTo (moveBy change units) movePlaces
 
 -- the moves of the first k minutes, where a list has what is drawn at each
-pub record EachTo (units change : ℕ) (drawn by : List ℕ) (k : ℕ) : Type 0 where
-  pub places : length by ≡ shiftMinutes
-  pub values : (m : ℕ) → m < k → getD by m 0 ≡ moveBy change units (getD drawn m 0)
+abbrev pub EachTo : ℕ → ℕ → List ℕ → List ℕ → ℕ → Type 0
+EachTo units change drawn = FilledTo (λ m. moveBy change units (getD drawn m 0)) shiftMinutes
 
 -- no minute's move is more than the most
 unfoldable pub FewMoves : List ℕ → Type 0

@@ -1,6 +1,6 @@
 -- Whatever the prices of the minutes are, no allowed set is worth more than the hall's limit; and which window a vehicle takes. Assumes nothing.
 use mathlib.Core.Path.{_≡_, refl, sym, ap, _∙_}
-use mathlib.Core.Logic.{_≢_, _↔_, _⊎_, inl, inr}
+use mathlib.Core.Logic.{_≢_, _↔_, inl, inr}
 use mathlib.Core.Bool.{Bool, true, false, cond}
 use mathlib.Core.List.{List, [], _∷_}
 use Prim.Native.Nat.{ℕ, zero, suc, _+_, _-_, _*_, _/_, _≤_, _<_}
@@ -11,7 +11,7 @@ use lib.Dec.{ltb, eqb}
 use borrow.Author.Tests.{eqb-true, eq-eqb, eqb-false, lt-ltb, le-ltb}
 use Rattle.lists.specs.Lists.{sum, below}
 use Rattle.lists.proofs.Bools.{not-both, fails, or-1, up-to}
-use Rattle.lists.proofs.Sums.{sum-mono, sum-same, sum-zero, all-of, all-map, tab-at}
+use Rattle.lists.proofs.Sums.{sum-mono, sum-same, sum-zero, all-of, all-map, tab-at, sum-scale}
 use Rattle.model.specs.Choice.{has}
 use Rattle.model.proofs.Groups.{Apart, apart-from, Clique, one-of}
 use Rattle.best_spec.specs.Table.{Best, noTurns, greater, isAmong}
@@ -25,10 +25,6 @@ use Rattle.hall_spec.proofs.Windows.{vehicle-is, is-vehicle}
 use Rattle.hall_price_spec.specs.Prices.{priceParts, minutePrice, minutesCost, windowPays, windowCounts, alone, richestOf, vehicleBest, supplyCost, hallLimit, hallRelaxed, MostOfVehicle, TakenWindow}
 
 -- ---- sums
-
-scaled : (k : ℕ) (f : ℕ → ℕ) (R : List ℕ) → sum (λ t. k * f t) R ≡ k * sum f R
-scaled k f [] = omega arith
-scaled k f (t ∷ R) = omega (arith, scaled k f R)
 
 parts-add : (a b : ℕ) → a / priceParts + b / priceParts ≤ (a + b) / priceParts
 parts-add a b = omega arith
@@ -68,7 +64,7 @@ module _ (H : Hall) (prices : List ℕ) where
         omega (
           arith,
           sum-mono (minutePays m) (λ t. minutePrice prices m * drawAt H m t) (all-of (λ t. omega (arith, pays-drawn m t)) R),
-          scaled (minutePrice prices m) (drawAt H m) R,
+          sum-scale (minutePrice prices m) (drawAt H m) R,
           mul-le-mul-left (minutePrice prices m) (a .supply m),
         )
 
@@ -76,9 +72,9 @@ module _ (H : Hall) (prices : List ℕ) where
     parts-most n =
         omega (
           arith,
-          sum-mono (partsPaid n) (λ t. sum (λ m. minutePays m t) (below n)) (all-of (λ t. omega (arith, scaled (draw H t) (λ m. cond (chargesAt H m t) (minutePrice prices m) 0) (below n))) R),
+          sum-mono (partsPaid n) (λ t. sum (λ m. minutePays m t) (below n)) (all-of (λ t. omega (arith, sum-scale (draw H t) (λ m. cond (chargesAt H m t) (minutePrice prices m) 0) (below n))) R),
           paid-costs n minutePays (λ m. H .units * minutePrice prices m) R (λ m h. minute-costs m),
-          scaled (H .units) (minutePrice prices) (below n),
+          sum-scale (H .units) (minutePrice prices) (below n),
         )
 
     paid-below : (n : ℕ) → sum (λ t. partsPaid n t / priceParts) R ≤ H .units * sum (minutePrice prices) (below n) / priceParts
@@ -159,11 +155,7 @@ unfolding isAmong
 among-none t e = not-both e refl
 
 among-alone : (t w : ℕ) → isAmong (w ∷ []) t ≡ true → t ≡ w
-among-alone t w e = go (among-cons t w [] e)
-  where
-    go : (t ≡ w) ⊎ (isAmong [] t ≡ true) → t ≡ w
-    go (inl q) = q
-    go (inr q) = absurd (among-none t q)
+among-alone t w e = elim (among-cons t w [] e) [ inl q ↦ q | inr q ↦ absurd (among-none t q) ]
 
 alone-among : (t w : ℕ) → t ≡ w → isAmong (w ∷ []) t ≡ true
 unfolding isAmong

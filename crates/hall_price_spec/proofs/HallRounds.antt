@@ -1,6 +1,5 @@
 -- The rounds of a hall, however many: what limit, list, choice and worth are after them. Assumes nothing.
 use mathlib.Core.Path.{_≡_, refl, ap, _∙_}
-use mathlib.Core.Logic.{_≢_, _⊎_, inl, inr}
 use mathlib.Core.Bool.{Bool}
 use mathlib.Core.List.{List}
 use Prim.Native.Nat.{ℕ, _+_, _-_, _*_, _/_, _≤_, _<_, min}
@@ -13,11 +12,11 @@ use Rattle.lists.specs.Lists.{tab}
 use Rattle.lists.proofs.Sums.{tab-length, tab-at}
 use Rattle.turn.specs.Turn.{shiftMinutes}
 use Rattle.hall_spec.specs.Hall.{Hall, windowCount, vehicle, drawnAt, Allowed, AllowedChoice}
-use Rattle.hall_spec.specs.Plan.{roundedUp, worthIn, hallChoice, hallWorth}
+use Rattle.hall_spec.specs.Plan.{roundedUp, worthIn, hallWorth}
 use Rattle.hall_spec.specs.Promises.{worthOfWindows}
 use Rattle.hall_spec.proofs.Halls.{plan-allowed, plan-length}
 use Rattle.refine_spec.specs.Rounds.{RoundRule, Stage, startFrom}
-use Rattle.refine_spec.proofs.Rounds.{listed-limit, chosen-worth, choice-kept, lists-kept, worth-grows, more-rounds, rounds-most, rounds-ended, not-met-before}
+use Rattle.refine_spec.proofs.Rounds.{listed-limit, chosen-worth, choice-kept, lists-kept, worth-grows}
 use Rattle.hall_price_spec.specs.Prices.{minutePrice, hallLimit, hallRelaxed}
 use Rattle.hall_price_spec.specs.Hall.{highestMinutePrice, movedMinute, movedMinutes, hallRule, hallStart, hallRefined}
 use Rattle.hall_price_spec.proofs.HallLimits.{within-hall-limit}
@@ -36,18 +35,10 @@ module _ (change units drawn price : ℕ) where
 
   -- only where more than the units is drawn does it rise
   pub moved-rises : price < movedMinute change units drawn price → units < drawn
-  moved-rises h = go (decLt units drawn)
-    where
-      go : Dec (units < drawn) → units < drawn
-      go (yes l) = l
-      go (no l) = absurd (omega (arith, moved-within (omega arith)))
+  moved-rises h = elim (decLt units drawn) [ yes l ↦ l | no l ↦ absurd (omega (arith, moved-within (omega arith))) ]
 
   pub moved-highest : price ≤ highestMinutePrice → movedMinute change units drawn price ≤ highestMinutePrice
-  moved-highest h = go (decLt units drawn)
-    where
-      go : Dec (units < drawn) → movedMinute change units drawn price ≤ highestMinutePrice
-      go (yes l) = omega (arith, moved-over l)
-      go (no l) = omega (arith, moved-within (omega arith))
+  moved-highest h = elim (decLt units drawn) [ yes l ↦ omega (arith, moved-over l) | no l ↦ omega (arith, moved-within (omega arith)) ]
 
 -- with exactly the units drawn it stays
 pub moved-level : (change units price : ℕ) → movedMinute change units units price ≡ price
@@ -65,11 +56,7 @@ pub record MinuteList (prices : List ℕ) : Type 0 where
 
 -- past its end a list reads as 0
 bounded : (n top : ℕ) (prices : List ℕ) → length prices ≡ n → ((m : ℕ) → m < n → getD prices m 0 ≤ top) → (m : ℕ) → getD prices m 0 ≤ top
-bounded n top prices e h m = go (decLt m n)
-  where
-    go : Dec (m < n) → getD prices m 0 ≤ top
-    go (yes l) = h m l
-    go (no l) = omega (arith, List·getD-eq-default prices 0 {n = m} (omega (arith, e)))
+bounded n top prices e h m = elim (decLt m n) [ yes l ↦ h m l | no l ↦ omega (arith, List·getD-eq-default prices 0 {n = m} (omega (arith, e))) ]
 
 zeros-bounded : (n top m : ℕ) → getD (replicate n 0) m 0 ≤ top
 zeros-bounded n top = bounded n top (replicate n 0) (length-replicate {A = ℕ} n 0) (λ m l. omega (arith, getD-replicate {A = ℕ} n m 0 0 l))
@@ -82,11 +69,6 @@ unfolding minutePrice
 first-list = record { minutes = length-replicate {A = ℕ} shiftMinutes 0; highest = zeros-bounded shiftMinutes highestMinutePrice }
 
 module _ (H : Hall) (S : List Bool) (change : ℕ) (prices : List ℕ) where
-  -- a minute's price after a round
-  pub moved-at : (m : ℕ) → m < shiftMinutes → minutePrice (movedMinutes H S change prices) m ≡ movedMinute change (H .units) (drawnAt H S m) (minutePrice prices m)
-  unfolding movedMinutes minutePrice
-  moved-at m l = tab-at shiftMinutes (λ i. movedMinute change (H .units) (drawnAt H S i) (getD prices i 0)) 0 m l
-
   pub moved-list : MinuteList prices → MinuteList (movedMinutes H S change prices)
   unfolding movedMinutes minutePrice
   moved-list k =
@@ -101,26 +83,6 @@ module _ (H : Hall) (vehicles : ℕ) where
   start = hallStart H vehicles
 
   -- ---- before the first look
-
-  start-lists : MinuteList (start .prices) × MinuteList (start .list)
-  unfolding hallStart startFrom
-  start-lists = (first-list, first-list)
-
-  start-rounds : start .rounds ≡ 0
-  unfolding hallStart startFrom
-  start-rounds = refl
-
-  start-limit : start .limit ≡ hallLimit H vehicles (start .list)
-  unfolding hallStart startFrom hallRule
-  start-limit = refl
-
-  start-choice : start .choice ≡ hallChoice H
-  unfolding hallStart startFrom
-  start-choice = refl
-
-  start-worth : start .worth ≡ worthIn H (hallChoice H)
-  unfolding hallStart startFrom hallRule
-  start-worth = refl
 
   -- ---- each round
 
@@ -144,27 +106,27 @@ module _ (H : Hall) (vehicles : ℕ) where
 
     -- the lists are such lists
     pub rounds-lists : MinuteList (after .prices) × MinuteList (after .list)
-    unfolding hallRefined
-    rounds-lists = lists-kept R MinuteList moves n start start-lists
+    unfolding hallRefined hallStart startFrom
+    rounds-lists = lists-kept R MinuteList moves n start (first-list, first-list)
 
     -- the limit is that of the list
     pub rounds-limit : after .limit ≡ hallLimit H vehicles (after .list)
-    unfolding hallRefined hallRule
-    rounds-limit = listed-limit R n start start-limit
+    unfolding hallRefined hallStart startFrom hallRule
+    rounds-limit = listed-limit R n start refl
 
     -- the worth is that of the choice, whose windows are allowed
     pub rounds-worth : after .worth ≡ worthIn H (after .choice)
-    unfolding hallRefined hallRule
-    rounds-worth = chosen-worth R n start (rw start-choice start-worth)
+    unfolding hallRefined hallStart startFrom hallRule
+    rounds-worth = chosen-worth R n start refl
 
     pub rounds-choice : AllowedChoice H (after .choice) × (length (after .choice) ≡ windowCount H)
-    unfolding hallRefined
-    rounds-choice = choice-kept R Fair makes n start (rw start-choice (plan-allowed H, plan-length H))
+    unfolding hallRefined hallStart startFrom
+    rounds-choice = choice-kept R Fair makes n start (plan-allowed H, plan-length H)
 
     -- the plan's is not worth more
     pub rounds-no-less : hallWorth H ≤ after .worth
-    unfolding hallRefined hallWorth
-    rounds-no-less = omega (arith, worth-grows R n start, start-worth)
+    unfolding hallRefined hallWorth hallStart startFrom hallRule
+    rounds-no-less = worth-grows R n start
 
     -- no allowed set is worth more than the limit
     pub rounds-within : ((t : ℕ) → t < windowCount H → (1 ≤ vehicle H t) × (vehicle H t ≤ vehicles)) → (Q : List ℕ) → Allowed H Q → worthOfWindows H Q ≤ after .limit
@@ -173,25 +135,3 @@ module _ (H : Hall) (vehicles : ℕ) where
     -- so that the choice is not
     pub rounds-worth-within : ((t : ℕ) → t < windowCount H → (1 ≤ vehicle H t) × (vehicle H t ≤ vehicles)) → after .worth ≤ after .limit
     rounds-worth-within numbers = omega (arith, rounds-worth, worth-members H (after .choice), rounds-within numbers _ (rounds-choice .0))
-
-    -- with more rounds the worth is no less, and the limit is no higher
-    pub rounds-further : (more : ℕ) → n ≤ more → (after .worth ≤ hallRefined H vehicles more .worth) × (hallRefined H vehicles more .limit ≤ after .limit)
-    unfolding hallRefined
-    rounds-further more h = more-rounds R n more start h
-
-    -- the rounds made
-    pub rounds-made : after .rounds ≤ n
-    unfolding hallRefined
-    rounds-made = omega (arith, rounds-most R n start, start-rounds)
-
-    pub rounds-end : (after .rounds ≡ n) ⊎ (after .limit ≡ after .worth)
-    unfolding hallRefined
-    rounds-end = go after (rounds-ended R n start)
-      where
-        go : (x : Stage) → (x .rounds ≡ start .rounds + n) ⊎ (x .limit ≡ x .worth) → (x .rounds ≡ n) ⊎ (x .limit ≡ x .worth)
-        go x (inl e) = inl (omega (arith, e, start-rounds))
-        go x (inr e) = inr e
-
-    pub rounds-not-before : (k : ℕ) → k < after .rounds → hallRefined H vehicles k .limit ≢ hallRefined H vehicles k .worth
-    unfolding hallRefined
-    rounds-not-before k h = not-met-before R n start k (omega (arith, h, start-rounds))

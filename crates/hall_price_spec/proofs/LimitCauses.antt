@@ -3,14 +3,12 @@ use Prim.Native.Nat.{ℕ}
 use mathlib.Core.Path.{_≡_, refl, sym, _∙_}
 use mathlib.Core.List.{List}
 use mathlib.Core.Logic.{_↔_, _≢_}
-use mathlib.Core.Bool.{true, not}
-use native.Mathlib.Omega.{arith}
+use mathlib.Core.Bool.{not}
 use lib.Dec.{eqb}
 use lib.ListN.{length}
-use borrow.Author.Tests.{eqb-true, eqb-false, eq-eqb, ne-eqb, not-true, not-false}
+use Rattle.price_spec.proofs.LimitCauses.{other-iff, clear-exact}
 use Rattle.refusal.specs.Number.{badPrices}
 use Rattle.refusal.specs.Cause.{firstOf}
-use Rattle.refusal.proofs.Order.{clear-last}
 use Rattle.refusal.proofs.Outcome.{number-first, number-iff, unless-none}
 use Rattle.wire.specs.Number.{Bytes}
 use Rattle.turn.specs.Turn.{shiftMinutes}
@@ -29,28 +27,17 @@ module _ (s prices : List ℕ) where
   unfolding chargeLimitOf
   charge-limit-number = number-first (chargeLimitCauses s prices) _ _ (λ (x : LimitAnswer). x .refusal) refl (λ k. refl)
 
-  -- the test of the list's length, in words
-  length-iff : (not (eqb (length prices) shiftMinutes) ≡ true) ↔ (length prices ≢ shiftMinutes)
-  length-iff = (
-    λ t. eqb-false (length prices) shiftMinutes (not-true (eqb (length prices) shiftMinutes) t),
-    λ d. let n = ne-eqb (length prices) shiftMinutes d in rw n,
-  )
-
   -- the entry refuses with k exactly where the first cause has number k
   pub charge-limit-refused-iff : (k : ℕ) → (k ≡ 0 → ⊥) → (chargeLimitOf s prices .refusal ≡ k) ↔ FirstChargeLimitCause s prices k
   unfolding chargeLimitOf chargeLimitCauses
   charge-limit-refused-iff =
       number-iff (chargeLimitCauses s prices) _ _ (λ (x : LimitAnswer). x .refusal) refl (λ k. refl)
-      (more-tell-for chargingSheet charging-sound s badPrices (length prices ≢ shiftMinutes) (not (eqb (length prices) shiftMinutes)) length-iff refl)
+      (more-tell-for chargingSheet charging-sound s badPrices (length prices ≢ shiftMinutes) (not (eqb (length prices) shiftMinutes)) (other-iff (length prices) shiftMinutes) refl)
 
   -- no cause is there just if the sheet is not refused, and the list has the right length
   clear-iff : (firstOf (chargeLimitCauses s prices) ≡ 0) ↔ ((firstOf (causesFor chargingSheet s) ≡ 0) × (length prices ≡ shiftMinutes))
   unfolding chargeLimitCauses
-  clear-iff =
-      let last = clear-last (causesFor chargingSheet s) badPrices (not (eqb (length prices) shiftMinutes)) (causes-numbered chargingSheet (charging-sound .numbers) s) (omega arith) in (
-        λ e. let (z, q) = last .0 e in (z, eqb-true (length prices) shiftMinutes (not-false (eqb (length prices) shiftMinutes) q)),
-        λ (z, l). let n = eq-eqb (length prices) shiftMinutes l in last .1 (z, rw n),
-      )
+  clear-iff = clear-exact (causesFor chargingSheet s) (length prices) shiftMinutes (causes-numbered chargingSheet (charging-sound .numbers) s)
 
   pub charge-limit-clear : chargeLimitOf s prices .refusal ≡ 0 → (firstOf (causesFor chargingSheet s) ≡ 0) × (length prices ≡ shiftMinutes)
   charge-limit-clear e = clear-iff .0 (sym charge-limit-number ∙ e)

@@ -1,17 +1,14 @@
 -- The number of the rounds' entry: exactly the first cause in the order gives it, and 0 is given exactly where there is none; what it answers then. Assumes nothing.
-use Prim.Native.Nat.{ℕ, _≤_}
+use Prim.Native.Nat.{ℕ, _≤_, _<_}
 use mathlib.Core.Path.{_≡_, refl, sym, _∙_}
 use mathlib.Core.List.{List}
-use mathlib.Core.Logic.{_↔_, ⊎-elim}
+use mathlib.Core.Logic.{_↔_, ⊎-elim, _⊎_, inl, inr}
 use mathlib.Core.Bool.{Bool, true, _||_}
-use native.Mathlib.Omega.{arith}
 use lib.Dec.{ltb}
 use lib.ListN.{length}
-use borrow.Author.Tests.{ltb-true, ltb-false, lt-ltb, le-ltb}
-use Rattle.lists.proofs.Bools.{or-cases, or-1, or-2, or-false-1, or-false-2}
+use Rattle.refine_spec.proofs.RefineCauses.{few-iff, clear-both}
 use Rattle.refusal.specs.Number.{bufferTooSmall}
 use Rattle.refusal.specs.Cause.{firstOf}
-use Rattle.refusal.proofs.Order.{clear-last}
 use Rattle.refusal.proofs.Outcome.{number-first, number-iff, number-refused, unless-none}
 use Rattle.wire.specs.Number.{Bytes}
 use Rattle.turn.specs.Turn.{shiftMinutes}
@@ -32,31 +29,19 @@ module _ (s : List ℕ) (bytes numbers : ℕ) where
   abbrev short : Bool
   short = ltb bytes (mapBytes (turnCount s)) || ltb numbers shiftMinutes
 
-  fails : HallPlacesFail s bytes numbers → short ≡ true
-  fails (few-bytes h) = or-1 (ltb bytes (mapBytes (turnCount s))) (ltb numbers shiftMinutes) (lt-ltb bytes (mapBytes (turnCount s)) h)
-  fails (few-prices h) = or-2 (ltb bytes (mapBytes (turnCount s))) (ltb numbers shiftMinutes) (lt-ltb numbers shiftMinutes h)
+  either : HallPlacesFail s bytes numbers → (bytes < mapBytes (turnCount s)) ⊎ (numbers < shiftMinutes)
+  either (few-bytes h) = inl h
+  either (few-prices h) = inr h
 
   places-iff : (short ≡ true) ↔ HallPlacesFail s bytes numbers
-  places-iff = (
-    λ e. ⊎-elim (λ b. few-bytes (ltb-true bytes (mapBytes (turnCount s)) b)) (λ n. few-prices (ltb-true numbers shiftMinutes n)) (or-cases (ltb bytes (mapBytes (turnCount s))) (ltb numbers shiftMinutes) e),
-    fails,
-  )
+  places-iff = let w = few-iff bytes (mapBytes (turnCount s)) numbers shiftMinutes in (λ e. ⊎-elim few-bytes few-prices (w .0 e), λ f. w .1 (either f))
 
   -- no cause is there just if the sheet is not refused, and there are lent bytes and lent numbers enough
-  clear-iff : (firstOf (chargeRefineCauses s bytes numbers) ≡ 0) ↔ ((firstOf (causesFor chargingSheet s) ≡ 0) × (mapBytes (turnCount s) ≤ bytes) × (shiftMinutes ≤ numbers))
+  pub clear-iff : (firstOf (chargeRefineCauses s bytes numbers) ≡ 0) ↔ ((firstOf (causesFor chargingSheet s) ≡ 0) × (mapBytes (turnCount s) ≤ bytes) × (shiftMinutes ≤ numbers))
   unfolding chargeRefineCauses
   clear-iff =
-      let last = clear-last (causesFor chargingSheet s) bufferTooSmall short (causes-numbered chargingSheet (charging-sound .numbers) s) (omega arith) in (
-        λ e. let (z, q) = last .0 e in (
-          z,
-          ltb-false bytes (mapBytes (turnCount s)) (or-false-1 (ltb bytes (mapBytes (turnCount s))) (ltb numbers shiftMinutes) q),
-          ltb-false numbers shiftMinutes (or-false-2 (ltb bytes (mapBytes (turnCount s))) (ltb numbers shiftMinutes) q),
-        ),
-        λ (z, a, b). let p = le-ltb bytes (mapBytes (turnCount s)) a in let q = le-ltb numbers shiftMinutes b in last .1 (z, rw (p, q)),
-      )
-
-  pub refine-clear : firstOf (chargeRefineCauses s bytes numbers) ≡ 0 → (firstOf (causesFor chargingSheet s) ≡ 0) × (mapBytes (turnCount s) ≤ bytes) × (shiftMinutes ≤ numbers)
-  refine-clear = clear-iff .0
+      clear-both (causesFor chargingSheet s) bytes (mapBytes (turnCount s)) numbers shiftMinutes
+      (causes-numbered chargingSheet (charging-sound .numbers) s)
 
 module _ (s : List ℕ) (rounds : ℕ) (map prices : List ℕ) where
   -- what the rounds came to
@@ -88,6 +73,6 @@ module _ (s : List ℕ) (rounds : ℕ) (map prices : List ℕ) where
 pub charge-refine-accepted-iff : {s : List ℕ} → Bytes s → (rounds : ℕ) (map prices : List ℕ) →
     (chargeRefineOf s rounds map prices .refusal ≡ 0) ↔ (AcceptedCharging s × (mapBytes (turnCount s) ≤ length map) × (shiftMinutes ≤ length prices))
 charge-refine-accepted-iff {s} b rounds map prices = (
-  λ e. let (z, l, m) = refine-clear s (length map) (length prices) (sym (charge-refine-number s rounds map prices) ∙ e) in (accepted-iff-for chargingSheet charging-sound b .0 z, l, m),
+  λ e. let (z, l, m) = clear-iff s (length map) (length prices) .0 (sym (charge-refine-number s rounds map prices) ∙ e) in (accepted-iff-for chargingSheet charging-sound b .0 z, l, m),
   λ (a, l, m). charge-refine-number s rounds map prices ∙ clear-iff s (length map) (length prices) .1 (accepted-iff-for chargingSheet charging-sound b .1 a, l, m),
 )

@@ -1,11 +1,10 @@
 -- What the rounds' entry promises, where it refuses nothing. Assumes nothing.
-use Prim.Native.Nat.{ℕ, _≤_, _<_}
-use mathlib.Core.Path.{_≡_, sym, ap, _∙_}
-use mathlib.Core.Logic.{_≢_}
+use Prim.Native.Nat.{ℕ, _≤_}
+use mathlib.Core.Path.{_≡_, sym, ap, _∙_, refl}
 use mathlib.Core.List.{List}
-use native.Mathlib.Omega.{arith}
 use lib.ListN.{length, drop}
 use lib.Seq.{take-at, drop-at}
+use Rattle.refine_spec.proofs.Rounds.{Given, given-made, given-ended, given-more-worth, given-more-limit, given-not-before, given-same}
 use Rattle.refusal.specs.Cause.{firstOf}
 use Rattle.refusal.proofs.Outcome.{enough-iff}
 use Rattle.sheet.proofs.Readings.{causes-numbered}
@@ -21,15 +20,15 @@ use Rattle.hall_spec.specs.Promises.{worthOfWindows}
 use Rattle.price_spec.specs.Limit.{limitIs}
 use Rattle.hall_spec.specs.Charge.{chargingSheet, hallOf, Charged, chargeCauses, chargeOf}
 use Rattle.hall_spec.proofs.ChargeCauses.{charge-number, charge-answers}
-use Rattle.refine_spec.specs.Rounds.{Stage}
-use Rattle.hall_price_spec.specs.Hall.{hallRefined}
+use Rattle.refine_spec.specs.Rounds.{Stage, startFrom}
+use Rattle.hall_price_spec.specs.Hall.{hallRefined, hallRule, hallStart}
 use Rattle.hall_price_spec.specs.Limit.{sheetHallLimit, chargeLimitOf}
 use Rattle.hall_price_spec.specs.Refine.{ChargeRefinement, chargeRefineCauses, chargeRefinement, chargeRefineOf}
 use Rattle.hall_price_spec.specs.Promises.{refinedMap, refinedWindows, refinedMinutes, ChargeRefinePromised}
 use Rattle.hall_price_spec.proofs.LimitCauses.{charge-limit-is}
 use Rattle.hall_price_spec.proofs.Promised.{window-count, vehicle-numbers}
-use Rattle.hall_price_spec.proofs.RefineCauses.{refine-clear, charge-refine-number, charge-refine-answers}
-use Rattle.hall_price_spec.proofs.HallRounds.{rounds-lists, rounds-limit, rounds-worth, rounds-choice, rounds-no-less, rounds-within, rounds-worth-within, rounds-further, rounds-made, rounds-end, rounds-not-before}
+use Rattle.hall_price_spec.proofs.RefineCauses.{clear-iff, charge-refine-number, charge-refine-answers}
+use Rattle.hall_price_spec.proofs.HallRounds.{rounds-lists, rounds-limit, rounds-worth, rounds-choice, rounds-no-less, rounds-within, rounds-worth-within}
 
 -- what is lent behind the front stays
 front-rest : (text lent : List ℕ) (n : ℕ) → length text ≡ n → drop n (atFront text lent) ≡ drop n lent
@@ -43,17 +42,14 @@ module _ (s : List ℕ) (rounds : ℕ) (map prices : List ℕ) (e : chargeRefine
   answer : chargeRefineOf s rounds map prices ≡ chargeRefinement (hallRefined (hallOf s) (countsIn s .slopes) rounds) map prices
   answer = charge-refine-answers s rounds map prices none-there
 
-  worth-given : chargeRefineOf s rounds map prices .worth ≡ hallRefined (hallOf s) (countsIn s .slopes) rounds .worth
+  given : let r = chargeRefineOf s rounds map prices in Given (hallRefined (hallOf s) (countsIn s .slopes) rounds) (r .worth) (r .limit) (r .rounds)
   unfolding chargeRefinement
-  worth-given = ap (λ (x : ChargeRefinement). x .worth) answer
-
-  limit-given : chargeRefineOf s rounds map prices .limit ≡ hallRefined (hallOf s) (countsIn s .slopes) rounds .limit
-  unfolding chargeRefinement
-  limit-given = ap (λ (x : ChargeRefinement). x .limit) answer
-
-  rounds-given : chargeRefineOf s rounds map prices .rounds ≡ hallRefined (hallOf s) (countsIn s .slopes) rounds .rounds
-  unfolding chargeRefinement
-  rounds-given = ap (λ (x : ChargeRefinement). x .rounds) answer
+  given =
+      record {
+        worth-is = ap (λ (x : ChargeRefinement). x .worth) answer;
+        limit-is = ap (λ (x : ChargeRefinement). x .limit) answer;
+        rounds-is = ap (λ (x : ChargeRefinement). x .rounds) answer;
+      }
 
 module _ (s : List ℕ) (rounds : ℕ) (map prices : List ℕ) (e : chargeRefineOf s rounds map prices .refusal ≡ 0) where
   -- the sheet's hall, its vehicles, and the last stage
@@ -67,7 +63,7 @@ module _ (s : List ℕ) (rounds : ℕ) (map prices : List ℕ) (e : chargeRefine
   after = hallRefined H vehicles rounds
 
   clear : (firstOf (causesFor chargingSheet s) ≡ 0) × (mapBytes (turnCount s) ≤ length map) × (shiftMinutes ≤ length prices)
-  clear = refine-clear s (length map) (length prices) (none-there s rounds map prices e)
+  clear = clear-iff s (length map) (length prices) .0 (none-there s rounds map prices e)
 
   sound : firstOf (causesFor chargingSheet s) ≡ 0
   sound = clear .0
@@ -112,51 +108,33 @@ module _ (s : List ℕ) (rounds : ℕ) (map prices : List ℕ) (e : chargeRefine
   limit-written : chargeLimitOf s (refinedMinutes s rounds map prices) ≡ limitIs (chargeRefineOf s rounds map prices .limit)
   unfolding sheetHallLimit
   limit-written =
-      rw (minutes-are, limit-given s rounds map prices e, rounds-limit H vehicles rounds) (charge-limit-is s (after .list) sound (rounds-lists H vehicles rounds .1 .minutes))
+      rw (minutes-are, given s rounds map prices e .limit-is, rounds-limit H vehicles rounds) (charge-limit-is s (after .list) sound (rounds-lists H vehicles rounds .1 .minutes))
 
   all-within : (R : List ℕ) → Allowed H R → worthOfWindows H R ≤ chargeRefineOf s rounds map prices .limit
-  all-within R a = rw (limit-given s rounds map prices e) (rounds-within H vehicles rounds (vehicle-numbers s sound) R a)
-
-  -- ---- another call that refuses nothing, of the same sheet
-
-  module _ (k : ℕ) (map′ prices′ : List ℕ) where
-    more-earned : rounds ≤ k → chargeRefineOf s k map′ prices′ .refusal ≡ 0 → chargeRefineOf s rounds map prices .worth ≤ chargeRefineOf s k map′ prices′ .worth
-    more-earned h o = omega (arith, rounds-further H vehicles rounds k h .0, worth-given s rounds map prices e, worth-given s k map′ prices′ o)
-
-    more-limited : rounds ≤ k → chargeRefineOf s k map′ prices′ .refusal ≡ 0 → chargeRefineOf s k map′ prices′ .limit ≤ chargeRefineOf s rounds map prices .limit
-    more-limited h o = omega (arith, rounds-further H vehicles rounds k h .1, limit-given s rounds map prices e, limit-given s k map′ prices′ o)
-
-    none-before : k < chargeRefineOf s rounds map prices .rounds → chargeRefineOf s k map′ prices′ .refusal ≡ 0 → chargeRefineOf s k map′ prices′ .limit ≢ chargeRefineOf s k map′ prices′ .worth
-    none-before h o q =
-        rounds-not-before H vehicles rounds k (omega (arith, rounds-given s rounds map prices e)) (sym (limit-given s k map′ prices′ o) ∙ (q ∙ worth-given s k map′ prices′ o))
-
-  same-given : (map′ prices′ : List ℕ) → chargeRefineOf s rounds map′ prices′ .refusal ≡ 0 →
-      (chargeRefineOf s rounds map′ prices′ .worth ≡ chargeRefineOf s rounds map prices .worth) × (chargeRefineOf s rounds map′ prices′ .limit ≡ chargeRefineOf s rounds map prices .limit)
-      × (chargeRefineOf s rounds map′ prices′ .rounds ≡ chargeRefineOf s rounds map prices .rounds)
-  same-given map′ prices′ o = (
-    worth-given s rounds map′ prices′ o ∙ sym (worth-given s rounds map prices e),
-    limit-given s rounds map′ prices′ o ∙ sym (limit-given s rounds map prices e),
-    rounds-given s rounds map′ prices′ o ∙ sym (rounds-given s rounds map prices e),
-  )
+  all-within R a = rw (given s rounds map prices e .limit-is) (rounds-within H vehicles rounds (vehicle-numbers s sound) R a)
 
   -- every answer that refuses nothing
   pub charge-refine-promised : ChargeRefinePromised s rounds map prices
+  unfolding hallRefined hallStart startFrom
   charge-refine-promised =
+      let R = hallRule H vehicles in
+      let start = hallStart H vehicles in
+      let g = given s rounds map prices e in
       record {
         allowed = rw windows-are (rounds-choice H vehicles rounds .0);
         map-is = map-front ∙ ap mapOf (sym windows-are);
-        worth-is = rw (windows-are, worth-given s rounds map prices e) (sym (rounds-worth H vehicles rounds));
-        no-less = rw (plan-worth, worth-given s rounds map prices e) (rounds-no-less H vehicles rounds);
+        worth-is = rw (windows-are, given s rounds map prices e .worth-is) (sym (rounds-worth H vehicles rounds));
+        no-less = rw (plan-worth, given s rounds map prices e .worth-is) (rounds-no-less H vehicles rounds);
         limit-is = limit-written;
         within = all-within;
-        worth-within = rw (worth-given s rounds map prices e, limit-given s rounds map prices e) (rounds-worth-within H vehicles rounds (vehicle-numbers s sound));
-        best = λ q R a. rw (windows-are, ← rounds-worth H vehicles rounds, ← worth-given s rounds map prices e, ← q) (all-within R a);
-        more-worth = more-earned;
-        more-limit = more-limited;
-        places-apart = same-given;
-        made = rw (rounds-given s rounds map prices e) (rounds-made H vehicles rounds);
-        ended = rw (rounds-given s rounds map prices e, limit-given s rounds map prices e, worth-given s rounds map prices e) (rounds-end H vehicles rounds);
-        not-before = none-before;
+        worth-within = rw (given s rounds map prices e .worth-is, given s rounds map prices e .limit-is) (rounds-worth-within H vehicles rounds (vehicle-numbers s sound));
+        best = λ q R a. rw (windows-are, ← rounds-worth H vehicles rounds, ← given s rounds map prices e .worth-is, ← q) (all-within R a);
+        more-worth = λ k m p h o. given-more-worth R start refl rounds g k (given s k m p o) h;
+        more-limit = λ k m p h o. given-more-limit R start refl rounds g k (given s k m p o) h;
+        places-apart = λ m p o. given-same g (given s rounds m p o);
+        made = given-made R start refl rounds g;
+        ended = given-ended R start refl rounds g;
+        not-before = λ k m p h o. given-not-before R start refl rounds g k (given s k m p o) h;
         map-rest = map-behind;
         prices-rest = prices-behind;
       }

@@ -209,11 +209,7 @@ module _ (H : Hall) where
     chosen-kind i xs t = chosen-has (λ S. has S t ≡ true → kind t ≡ true) (λ e. absurd (none-chosen (windowCount H) t e)) put i xs
       where
         put : (S : List Bool) (j : ℕ) → fitsAmong H kind S j ≡ true → (has S t ≡ true → kind t ≡ true) → has (set S j true) t ≡ true → kind t ≡ true
-        put S j f h e = go (put-from S j t e)
-          where
-            go : (t ≡ j) ⊎ (has S t ≡ true) → kind t ≡ true
-            go (inl q) = ap kind q ∙ fits-kind S j f
-            go (inr q) = h q
+        put S j f h e = elim (put-from S j t e) [ inl q ↦ ap kind q ∙ fits-kind S j f | inr q ↦ h q ]
 
     pub chosen-length : (i : ℕ) (xs : List Step) → length (filledTo i xs) ≡ windowCount H
     chosen-length = chosen-has (λ S. length S ≡ windowCount H) (length-replicate (windowCount H) false) (λ S j e h. length-set S j true ∙ h)

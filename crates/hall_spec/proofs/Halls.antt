@@ -8,11 +8,12 @@ use native.Mathlib.Omega.{arith}
 use native.Mathlib.Decide.{decLt}
 use lib.ListN.{length}
 use borrow.Author.Tests.{le-ltb, lt-ltb}
-use Rattle.lists.specs.Lists.{sum, All, none, more}
+use Rattle.model.proofs.Members.{keep-once}
+use Rattle.lists.proofs.Keeping.{keep-every, keep-holds, keep-where, keep-most}
+use Rattle.lists.specs.Lists.{sum, All, keep}
 use Rattle.model.specs.Steps.{tally}
 use Rattle.model.specs.Choice.{has}
-use Rattle.model.specs.Feasible.{Distinct}
-use Rattle.lists.proofs.Sums.{sum-add, sum-mono, all-of, all-map}
+use Rattle.lists.proofs.Sums.{sum-add, sum-mono, all-map}
 use Rattle.hall_spec.specs.Hall.{Hall, windowCount, drawAt, isWide, isSmall, Allowed, AllowedChoice, FullAmong, HallInRange}
 use Rattle.hall_spec.specs.Plan.{turnsAmong, wideSteps, smallSteps, chooseAmong, wideChoice, smallChoice, worthIn, greaterOf, hallChoice, hallWorth}
 use Rattle.hall_spec.specs.Promises.{worthOfWindows, HallPromises}
@@ -23,73 +24,26 @@ use Rattle.hall_spec.proofs.Wide.{wide-twice, wide-earns}
 
 -- ---- those of a set that are of a kind
 
-unfoldable those : (ℕ → Bool) → List ℕ → List ℕ
-those kind [] = []
-those kind (t ∷ R) = let rest = those kind R in cond (kind t) (t ∷ rest) rest
-
 module _ (kind : ℕ → Bool) where
-  those-all : {P : ℕ → Type 0} {R : List ℕ} → All P R → All P (those kind R)
-  unfolding those
-  those-all none = none
-  those-all {P} (more {t = t} {ts = R} h hs) = go (kind t) (those-all hs)
-    where
-      go : (b : Bool) → All P (those kind R) → All P (cond b (t ∷ those kind R) (those kind R))
-      go true ih = more {t = t} h ih
-      go false ih = ih
-
-  those-kind : (R : List ℕ) → All (λ t. kind t ≡ true) (those kind R)
-  unfolding those
-  those-kind [] = none
-  those-kind (t ∷ R) = go (kind t) refl (those-kind R)
-    where
-      go : (b : Bool) → kind t ≡ b → All (λ u. kind u ≡ true) (those kind R) → All (λ u. kind u ≡ true) (cond b (t ∷ those kind R) (those kind R))
-      go true e ih = more {t = t} e ih
-      go false e ih = ih
-
-  those-once : {R : List ℕ} → Distinct R → Distinct (those kind R)
-  unfolding those
-  those-once Distinct.empty = Distinct.empty
-  those-once (Distinct.other {t = t} {ts = R} d ds) = go (kind t) (those-once ds)
-    where
-      go : (b : Bool) → Distinct (those kind R) → Distinct (cond b (t ∷ those kind R) (those kind R))
-      go true ih = Distinct.other {t = t} (those-all d) ih
-      go false ih = ih
-
-  those-sum : (f : ℕ → ℕ) (R : List ℕ) → sum f (those kind R) ≡ sum (λ t. cond (kind t) (f t) 0) R
-  unfolding those
-  those-sum f [] = refl
-  those-sum f (t ∷ R) = go (kind t) (those-sum f R)
-    where
-      go : (b : Bool) → sum f (those kind R) ≡ sum (λ t. cond (kind t) (f t) 0) R → sum f (cond b (t ∷ those kind R) (those kind R)) ≡ cond b (f t) 0 + sum (λ t. cond (kind t) (f t) 0) R
-      go true ih = omega (arith, ih)
-      go false ih = omega (arith, ih)
-
-  those-most : (f : ℕ → ℕ) (R : List ℕ) → sum f (those kind R) ≤ sum f R
-  those-most f R = omega (arith, those-sum f R, sum-mono (λ t. cond (kind t) (f t) 0) f (all-of (λ t. go (kind t) (f t)) R))
-    where
-      go : (b : Bool) (k : ℕ) → cond b k 0 ≤ k
-      go true k = omega arith
-      go false k = omega arith
-
   -- a part of an allowed set is allowed
-  those-allowed : (H : Hall) (R : List ℕ) → Allowed H R → Allowed H (those kind R)
-  those-allowed H R r =
+  kept-allowed : (H : Hall) (R : List ℕ) → Allowed H R → Allowed H (keep kind R)
+  kept-allowed H R r =
       record {
-        numbers = those-all (r .numbers);
-        once = those-once (r .once);
-        vehicles = those-all (all-map (λ t h. those-all h) (r .vehicles));
-        supply = λ minute. omega (arith, those-most (drawAt H minute) R, r .supply minute);
+        numbers = keep-every kind (r .numbers);
+        once = keep-once kind (r .once);
+        vehicles = keep-every kind (all-map (λ t h. keep-every kind h) (r .vehicles));
+        supply = λ minute. omega (arith, keep-most kind (drawAt H minute) R, r .supply minute);
       }
 
 module _ (H : Hall) where
   -- the worth of a set is that of its wide windows and that of its small ones
-  two-kinds : (R : List ℕ) → worthOfWindows H R ≡ sum (H .windows .worth) (those (isWide H) R) + sum (H .windows .worth) (those (isSmall H) R)
+  two-kinds : (R : List ℕ) → worthOfWindows H R ≡ sum (H .windows .worth) (keep (isWide H) R) + sum (H .windows .worth) (keep (isSmall H) R)
   unfolding isSmall
   two-kinds R =
       omega (
         arith,
-        those-sum (isWide H) (H .windows .worth) R,
-        those-sum (isSmall H) (H .windows .worth) R,
+        keep-where (isWide H) (H .windows .worth) R,
+        keep-where (isSmall H) (H .windows .worth) R,
         sum-add (λ t. cond (isWide H t) (H .windows .worth t) 0) (λ t. cond (not (isWide H t)) (H .windows .worth t) 0) R,
         sum-same-all R,
       )
@@ -161,9 +115,9 @@ module _ (H : Hall) where
         omega (
           arith,
           two-kinds R,
-          wide-twice H good (those (isWide H) R) (those-allowed (isWide H) H R r) (those-kind (isWide H) R),
+          wide-twice H good (keep (isWide H) R) (kept-allowed (isWide H) H R r) (keep-holds (isWide H) R),
           wide-earns H good,
-          small-thrice (those (isSmall H) R) (those-allowed (isSmall H) H R r) (those-kind (isSmall H) R),
+          small-thrice (keep (isSmall H) R) (kept-allowed (isSmall H) H R r) (keep-holds (isSmall H) R),
           small-earns H good,
           greater-most (wideChoice H) (smallChoice H),
         )

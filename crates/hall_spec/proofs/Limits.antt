@@ -1,20 +1,21 @@
 -- Bounds that a program needs of the small windows' plan: residuals, the number of steps, the two sums. A step takes only from what is above zero, and from a small window at most its amount, so that residuals stay in the range that they have in the garage. None of this is in the source. Assumes nothing.
 use mathlib.Core.Path.{_≡_, refl}
-use mathlib.Core.Bool.{Bool, true, false, cond}
+use mathlib.Core.Bool.{Bool, true, false}
 use mathlib.Core.List.{List}
-use Prim.Native.Nat.{ℕ, _*_, _≤_, _<_}
+use Prim.Native.Nat.{ℕ, _≤_, _<_}
 use native.Mathlib.Omega.{arith}
 use lib.IntN.{ℤ, pos, negsuc}
 use lib.Signed.{mag, leZ}
 use lib.ListN.{length}
+use Rattle.lists.proofs.Bools.{cond-most}
 use Rattle.model.specs.Turns.{Turns}
 use Rattle.model.specs.Steps.{Step, residual, above, isOpen, initial, lessened, afterStepBy, final}
 use Rattle.model.specs.Rules.{Right, Each, done, step}
 use Rattle.model.proofs.Residuals.{lessened-closed, residual-after-by}
 use Rattle.model.proofs.Planned.{planBy-right, steps-most, opens-most}
-use Rattle.model.proofs.Limits.{Within, AllWithin, within-mag, within-range, initial-within, amount-within, lessened-within, chosen-within}
+use Rattle.model.proofs.Limits.{Within, AllWithin, within-mag, within-range, initial-within, amount-within, lessened-within}
 use Rattle.hall_spec.specs.Hall.{Hall, windowCount, isSmall}
-use Rattle.hall_spec.specs.Plan.{turnsAmong, smallTakes, smallSteps, worthIn}
+use Rattle.hall_spec.specs.Plan.{turnsAmong, smallTakes, smallSteps}
 use Rattle.hall_spec.proofs.Takes.{takes-most, small-taking}
 use Rattle.hall_spec.proofs.Open.{OnlyKind, first-only, after-only}
 
@@ -40,11 +41,7 @@ module _ (H : Hall) (supplied : 0 < H .units) where
   module _ (worths : (t : ℕ) → t < windowCount H → H .windows .worth t ≤ 60000) where
     kind-worths : (t : ℕ) → t < T .count → T .worth t ≤ 60000
     unfolding turnsAmong
-    kind-worths t l = go (isSmall H t)
-      where
-        go : (b : Bool) → cond b (H .windows .worth t) 0 ≤ 60000
-        go true = worths t l
-        go false = omega arith
+    kind-worths t l = cond-most (isSmall H t) (worths t l)
 
     pub first-within : AllWithin 60000 (initial T)
     first-within = initial-within T 60000 kind-worths
@@ -63,10 +60,6 @@ module _ (H : Hall) (supplied : 0 < H .units) where
         let w : Within 60000 z = run-within (first-only (isSmall H) H) first-within r t in
         let b = within-range 59998 z w in
         (b .0, b .1, within-mag 60000 z w)
-
-    pub worth-limit : (S : List Bool) → worthIn H S ≤ windowCount H * 60000
-    unfolding worthIn
-    worth-limit S = chosen-within (windowCount H) S (H .windows .worth) 60000 worths
 
   -- there are at most as many steps as windows
   pub small-few : length (smallSteps H) ≤ windowCount H

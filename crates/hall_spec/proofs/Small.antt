@@ -2,7 +2,7 @@
 use mathlib.Core.Path.{_≡_, refl, sym, _∙_}
 use mathlib.Core.Logic.{_≢_}
 use mathlib.Core.Bool.{Bool, true, false, cond, _&&_}
-use mathlib.Core.List.{List, [], _∷_}
+use mathlib.Core.List.{List}
 use Prim.Native.Nat.{ℕ, _+_, _-_, _*_, _≤_, _<_}
 use native.Mathlib.Nat.{le-of-mul-le-mul-left, mul-le-mul-left}
 use native.Mathlib.Omega.{arith}
@@ -14,7 +14,7 @@ use Rattle.model.specs.Steps.{Step, isOpen, initial, afterStepBy, final, tally}
 use Rattle.model.specs.Choice.{has, chosen}
 use Rattle.model.specs.Rules.{Right, Each}
 use Rattle.lists.proofs.Bools.{and-1, and-2, fails}
-use Rattle.lists.proofs.Sums.{sum-add, sum-mono, all-of, all-map}
+use Rattle.lists.proofs.Sums.{sum-add, sum-mono, all-of, all-map, sum-scale}
 use Rattle.model.proofs.Account.{each-map, each-with}
 use Rattle.model.proofs.Groups.{Apart, apart-from, Clique, share, one-of}
 use Rattle.model.proofs.Residuals.{Closed, takenBy, takenBy-open}
@@ -28,10 +28,6 @@ use Rattle.hall_spec.proofs.Windows
 use Rattle.hall_spec.proofs.Takes.{up-most, up-least, takes-vehicle, small-taking}
 use Rattle.hall_spec.proofs.Open.{OnlyKind, first-only, after-only, kind-worth}
 use Rattle.hall_spec.proofs.Allowing.{Short, same-vehicle, out-of-supply, unfit-short}
-
-sum-scale : (k : ℕ) (f : ℕ → ℕ) (R : List ℕ) → sum (λ t. k * f t) R ≡ k * sum f R
-sum-scale k f [] = omega arith
-sum-scale k f (t ∷ R) = omega (arith, sum-scale k f R)
 
 -- no vehicle comes twice in an allowed set
 allowed-apart : (H : Hall) {R : List ℕ} → Allowed H R → Apart (sameVehicle H) R

@@ -12,7 +12,7 @@ use Rattle.model.specs.Steps.{Step, isOpen, initial, taken, afterStep, tally}
 use Rattle.model.specs.Choice.{has, chosen}
 use Rattle.model.specs.Rules.{Right, Each}
 use Rattle.model.specs.Feasible.{Feasible}
-use Rattle.lists.proofs.Sums.{sum-mono, all-map}
+use Rattle.lists.proofs.Sums.{sum-mono, all-map, all-both}
 use Rattle.model.proofs.Account.{each-map, each-with}
 use Rattle.model.proofs.Residuals.{taken-touched}
 use Rattle.model.proofs.Planned.{garage-taking, planned-right, steps-closed}
@@ -25,10 +25,6 @@ use Rattle.hall_spec.specs.Promises.{worthOfWindows}
 use Rattle.hall_spec.proofs.Windows
 use Rattle.hall_spec.proofs.Open.{first-only, after-only, kind-worth}
 use Rattle.hall_spec.proofs.Allowing.{Short, same-vehicle, out-of-supply, unfit-short}
-
-all-both : {P Q : ℕ → Type 0} {ts : List ℕ} → All P ts → All Q ts → All (λ t. P t × Q t) ts
-all-both none none = none
-all-both (more p ps) (more q qs) = more (p, q) (all-both ps qs)
 
 -- two different elements are at most the sum, in each of many sums
 abbrev Two : (ℕ → ℕ → ℕ) → (ℕ → ℕ) → ℕ → ℕ → Type 0

@@ -1,6 +1,5 @@
 -- The laws of windows: one vehicle, a minute in common, what is drawn at a minute, wide and small; and what these are of the windows as one groomer's turns. Assumes nothing.
 use mathlib.Core.Path.{_≡_, refl, sym}
-use mathlib.Core.Logic.{_↔_}
 use mathlib.Core.Bool.{Bool, true, false, cond}
 use mathlib.Core.List.{List}
 use Prim.Native.Nat.{ℕ, _+_, _*_, _≤_, _<_, max}
@@ -65,10 +64,6 @@ module _ (H : Hall) where
       let h = share-lt x y e in
       let minute = max (H .windows .start x) (H .windows .start y) in
       (minute, in-charges minute x (omega arith) (omega arith), in-charges minute y (omega arith) (omega arith))
-
-  pub share-is : (x y : ℕ) → H .windows .start x < H .windows .end x → H .windows .start y < H .windows .end y →
-      shareMinute H x y ≡ true ↔ ((minute : ℕ) × (chargesAt H minute x ≡ true) × (chargesAt H minute y ≡ true))
-  share-is x y hx hy = (share-charges x y hx hy, λ (minute, e, f). charges-share minute x y e f)
 
   pub drawAt-charging : (minute t : ℕ) → chargesAt H minute t ≡ true → drawAt H minute t ≡ draw H t
   unfolding drawAt

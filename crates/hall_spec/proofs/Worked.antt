@@ -3,7 +3,7 @@ use mathlib.Core.Path.{refl}
 use mathlib.Core.List.{[]}
 use native.Mathlib.Omega.{arith}
 use lib.Dec.{leb}
-use Rattle.lists.specs.Lists.{every, tab}
+use Rattle.lists.specs.Lists.{every, tab, keep}
 use Rattle.model.specs.Turns.{overlapping, overlap, bySlope, oneGroomer, byGroomer, oneDriver, byDriver, conflict}
 use Rattle.model.specs.Steps.{isOpen, left, initial, lessened, change, afterStepBy, conflictTakes, afterStep}
 use Rattle.model.specs.Pick.{sooner, better, best, pick, nextStep, planBy, plan, steps}
@@ -14,7 +14,7 @@ use Rattle.hall_spec.specs.Cases.{HallCases, hallWith, oneUnit, twelveUn
 use Rattle.hall_spec.proofs.Allowing.{chosen-allowed}
 
 pub hall-cases : HallCases
-unfolding every tab overlapping overlap bySlope oneGroomer byGroomer oneDriver byDriver conflict isOpen left initial lessened change afterStepBy conflictTakes afterStep sooner better best pick nextStep planBy plan steps chosen members choose back chooseEach fill sameVehicle shareMinute chargesAt drawAt isWide wideDraw isSmall drawnAt vehicleFree supplyLasts staysAllowed turnsAmong wideSteps roundedUp smallTakes smallSteps fitsAmong chooseAmong wideChoice smallChoice worthIn greaterOf hallChoice hallWorth hallWith oneUnit twelveUnits
+unfolding every tab overlapping overlap bySlope oneGroomer byGroomer oneDriver byDriver conflict isOpen left initial lessened change afterStepBy conflictTakes afterStep sooner better best pick nextStep planBy plan steps chosen members keep choose back chooseEach fill sameVehicle shareMinute chargesAt drawAt isWide wideDraw isSmall drawnAt vehicleFree supplyLasts staysAllowed turnsAmong wideSteps roundedUp smallTakes smallSteps fitsAmong chooseAmong wideChoice smallChoice worthIn greaterOf hallChoice hallWorth hallWith oneUnit twelveUnits
 hall-cases =
     record {
       one-unit-worth = refl;

@@ -9,8 +9,7 @@ use native.Mathlib.Decide.{decLt}
 use lib.Dec.{ltb}
 use lib.ListN.{length}
 use borrow.Author.Tests.{lt-ltb, le-ltb}
-use Rattle.lists.proofs.Bools.{up-to}
-use Rattle.turn.specs.Turn.{mostWorth}
+use Rattle.lists.proofs.Bools.{up-to, cond-most}
 use Rattle.sheet.specs.Kind.{mostTurns}
 use Rattle.instance.specs.declared.ways.Row.{Row}
 use Rattle.instance.specs.declared.columns.Size.{Size}
@@ -101,10 +100,6 @@ module _ (a : OneKind) (cols own : List ℕ) where
       driver = λ t. own-number (λ r. r .driver) (λ u. 0) (λ u l. refl) (λ u l. refl) t j;
     }
 
-    least-worth : (b : Bool) (w : ℕ) → w ≤ mostWorth → cond b w 0 ≤ mostWorth
-    least-worth true w h = h
-    least-worth false w h = omega arith
-
     pub one-kind-held : Held (a .size) own
     unfolding engineTurns
     one-kind-held =
@@ -114,7 +109,7 @@ module _ (a : OneKind) (cols own : List ℕ) where
           slopes = λ t l. rw one-kind-turns (held .held .slopes t l);
           starts = λ t l. rw one-kind-turns (held .held .starts t l);
           ends = λ t l. rw one-kind-turns (held .held .ends t l);
-          worths = λ t l. rw one-kind-turns (least-worth (ofKind a cols t) (H .windows .worth t) (held .held .worths t l));
+          worths = λ t l. rw one-kind-turns (cond-most (ofKind a cols t) (held .held .worths t l));
         }
 
 pub ruleset one-kind-cases = (one-kind-none, one-kind-more, put-length, one-kind-turns, one-kind-held)

@@ -6,6 +6,7 @@ use Prim.Native.Nat.{ℕ, _*_, _≤_, _<_}
 use native.Mathlib.Omega.{arith}
 use lib.IntN.{ℤ}
 use lib.ListN.{length, getD, drop}
+use Rattle.lists.proofs.Bools.{cond-most}
 use Rattle.wire.specs.Number.{puts}
 use Rattle.wire.proofs.Puts.{puts-front}
 use Rattle.turn.specs.Turn.{mostWorth}
@@ -40,10 +41,6 @@ record Good (n : ℕ) (xs : List Step) : Type 0 where
   small : SmallSteps xs
 
 module _ (H : Hall) (supplied : 0 < H .units) (few : windowCount H ≤ mostTurns) (worths : (t : ℕ) → t < windowCount H → H .windows .worth t ≤ mostWorth) where
-  of-kind : (b : Bool) (t : ℕ) → t < windowCount H → cond b (H .windows .worth t) 0 ≤ mostWorth
-  of-kind true t l = worths t l
-  of-kind false t l = omega arith
-
   few-of-kind : (kind : ℕ → Bool) → turnsAmong H kind .count ≤ mostTurns
   few-of-kind kind = omega (arith, among-count H kind)
 
@@ -54,7 +51,7 @@ module _ (H : Hall) (supplied : 0 < H .units) (few : windowCount H ≤ mostTurns
       record {
         few = omega (arith, steps-few T, among-count H (isWide H));
         inside = λ d i h. omega (arith, each-inside (planned-right T) d i h, among-count H (isWide H));
-        small = steps-small T (few-of-kind (isWide H)) (λ t l. rw (among-worth H (isWide H) t) (of-kind (isWide H t) t (omega (arith, among-count H (isWide H)))));
+        small = steps-small T (few-of-kind (isWide H)) (λ t l. rw (among-worth H (isWide H) t) (cond-most (isWide H t) (worths t (omega (arith, among-count H (isWide H))))));
       }
 
   -- only small windows are open, and residuals are in range

@@ -21,7 +21,7 @@ use Rattle.sheet.specs.Read.{turnCount, turnsOf, tableOf, causesFor, answerFor,
 use Rattle.sheet.proofs.SoundKinds.{garage-given}
 use Rattle.sheet.proofs.Tables.{turns-length, turns-at, table-length, table-row}
 use Rattle.sheet.proofs.Unrefused.{legal-header}
-use Rattle.sheet.proofs.Whole.{whole-accepted-for, whole-turns-for, whole-few-for, whole-room-for, answer-garage, whole-refusal, whole-accepted, whole-answer, whole-turns}
+use Rattle.sheet.proofs.Whole.{whole-accepted-for, whole-answer-for, whole-turns-for, whole-few-for, whole-room-for, answer-garage, whole-refusal, whole-accepted}
 use Rattle.instance.specs.declared.ways.Row.{Row}
 use Rattle.instance.specs.declared.columns.Size.{Size}
 use Rattle.instance.specs.Ways.{rowFor}
@@ -166,11 +166,11 @@ load-garage s cols {r = r} k w =
       posed =
           λ z. record {
             sound = whole-accepted s e z;
-            groomers = ap (λ (x : ReadAnswer). x .groomers) (whole-answer s e z);
-            slopes = ap (λ (x : ReadAnswer). x .slopes) (whole-answer s e z);
-            count = whole-turns s e z;
-            turns = rw (whole-turns s e z) (w .1 z shiftGap .turns);
-            held = rw (whole-turns s e z) (w .1 z shiftGap .held);
+            groomers = ap (λ (x : ReadAnswer). x .groomers) (whole-answer-for garage s e z);
+            slopes = ap (λ (x : ReadAnswer). x .slopes) (whole-answer-for garage s e z);
+            count = whole-turns-for garage s e z;
+            turns = rw (whole-turns-for garage s e z) (w .1 z shiftGap .turns);
+            held = rw (whole-turns-for garage s e z) (w .1 z shiftGap .held);
           };
     }
 

@@ -78,30 +78,15 @@ module _ (cols : List ℕ) (i : ℕ) (r : Row) where
 
   -- and the new one is there
   module _ (h : i < mostTurns) (w : length cols ≡ columnPlaces) where
-    l₁ : length c₁ ≡ columnPlaces
-    l₁ = simp length-set w
-
-    l₂ : length c₂ ≡ columnPlaces
-    l₂ = simp length-set w
-
-    l₃ : length c₃ ≡ columnPlaces
-    l₃ = simp length-set w
-
-    l₄ : length c₄ ≡ columnPlaces
-    l₄ = simp length-set w
-
-    l₅ : length c₅ ≡ columnPlaces
-    l₅ = simp length-set w
-
     pub row-new : rowIn (withRow cols i r) i ≡ r
     unfolding rowIn withRow
     row-new = λ j. record {
       slope = (getD-set-other c₅ (5 * mostTurns + i) i (r .driver) 0 (omega arith) ∙ getD-set-other c₄ (4 * mostTurns + i) i (r .worth) 0 (omega arith) ∙ getD-set-other c₃ (3 * mostTurns + i) i (r .end) 0 (omega arith) ∙ getD-set-other c₂ (2 * mostTurns + i) i (r .start) 0 (omega arith) ∙ getD-set-other c₁ (mostTurns + i) i (r .groomer) 0 (omega arith) ∙ getD-set-same cols i (r .slope) 0 (omega arith)) j;
-      groomer = (getD-set-other c₅ (5 * mostTurns + i) (mostTurns + i) (r .driver) 0 (omega arith) ∙ getD-set-other c₄ (4 * mostTurns + i) (mostTurns + i) (r .worth) 0 (omega arith) ∙ getD-set-other c₃ (3 * mostTurns + i) (mostTurns + i) (r .end) 0 (omega arith) ∙ getD-set-other c₂ (2 * mostTurns + i) (mostTurns + i) (r .start) 0 (omega arith) ∙ getD-set-same c₁ (mostTurns + i) (r .groomer) 0 (omega (arith, l₁))) j;
-      start = (getD-set-other c₅ (5 * mostTurns + i) (2 * mostTurns + i) (r .driver) 0 (omega arith) ∙ getD-set-other c₄ (4 * mostTurns + i) (2 * mostTurns + i) (r .worth) 0 (omega arith) ∙ getD-set-other c₃ (3 * mostTurns + i) (2 * mostTurns + i) (r .end) 0 (omega arith) ∙ getD-set-same c₂ (2 * mostTurns + i) (r .start) 0 (omega (arith, l₂))) j;
-      end = (getD-set-other c₅ (5 * mostTurns + i) (3 * mostTurns + i) (r .driver) 0 (omega arith) ∙ getD-set-other c₄ (4 * mostTurns + i) (3 * mostTurns + i) (r .worth) 0 (omega arith) ∙ getD-set-same c₃ (3 * mostTurns + i) (r .end) 0 (omega (arith, l₃))) j;
-      worth = (getD-set-other c₅ (5 * mostTurns + i) (4 * mostTurns + i) (r .driver) 0 (omega arith) ∙ getD-set-same c₄ (4 * mostTurns + i) (r .worth) 0 (omega (arith, l₄))) j;
-      driver = getD-set-same c₅ (5 * mostTurns + i) (r .driver) 0 (omega (arith, l₅)) j;
+      groomer = (getD-set-other c₅ (5 * mostTurns + i) (mostTurns + i) (r .driver) 0 (omega arith) ∙ getD-set-other c₄ (4 * mostTurns + i) (mostTurns + i) (r .worth) 0 (omega arith) ∙ getD-set-other c₃ (3 * mostTurns + i) (mostTurns + i) (r .end) 0 (omega arith) ∙ getD-set-other c₂ (2 * mostTurns + i) (mostTurns + i) (r .start) 0 (omega arith) ∙ getD-set-same c₁ (mostTurns + i) (r .groomer) 0 (simp length-set (omega arith))) j;
+      start = (getD-set-other c₅ (5 * mostTurns + i) (2 * mostTurns + i) (r .driver) 0 (omega arith) ∙ getD-set-other c₄ (4 * mostTurns + i) (2 * mostTurns + i) (r .worth) 0 (omega arith) ∙ getD-set-other c₃ (3 * mostTurns + i) (2 * mostTurns + i) (r .end) 0 (omega arith) ∙ getD-set-same c₂ (2 * mostTurns + i) (r .start) 0 (simp length-set (omega arith))) j;
+      end = (getD-set-other c₅ (5 * mostTurns + i) (3 * mostTurns + i) (r .driver) 0 (omega arith) ∙ getD-set-other c₄ (4 * mostTurns + i) (3 * mostTurns + i) (r .worth) 0 (omega arith) ∙ getD-set-same c₃ (3 * mostTurns + i) (r .end) 0 (simp length-set (omega arith))) j;
+      worth = (getD-set-other c₅ (5 * mostTurns + i) (4 * mostTurns + i) (r .driver) 0 (omega arith) ∙ getD-set-same c₄ (4 * mostTurns + i) (r .worth) 0 (simp length-set (omega arith))) j;
+      driver = getD-set-same c₅ (5 * mostTurns + i) (r .driver) 0 (simp length-set (omega arith)) j;
     }
 
 -- ---- the problem

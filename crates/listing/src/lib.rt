@@ -17,7 +17,6 @@ ghost use Rattle.listing_spec.specs.Limits.{listingBytes};
 ghost use Rattle.listing_spec.specs.List.{listingFor, listOf};
 ghost use Rattle.listing_spec.specs.Answer.{textAnswer};
 ghost use Rattle.refusal.specs.Outcome.{beside};
-ghost use Rattle.refusal.specs.Written.{writeRefused};
 use instance::PLACES;
 use instance::Size;
 use listing_lines::put_refused;
@@ -25,19 +24,10 @@ use listing_spec::Sums;
 use parts::put_listing;
 use plan::BoardMade;
 use refusal::WriteAnswer;
+use refusal::refused;
 
 // Enough for every listing.
 pub const LISTING_BYTES: usize = 3823;
-
-// A refusal's answer.
-fn refused(k: u8) -> WriteAnswer
-    ensures { λ r. ⌜ r ≡ writeRefused k ⌝ }
-{
-    WriteAnswer {
-        refusal: k,
-        bytes: 0,
-    }
-}
 
 // The listing of a choice map. It is put into a place of its own, and copied if there is room for
 // all of it.

@@ -36,11 +36,7 @@ apart-starts T S apart lengths u v l m p q g s =
 in-either : (u : ℕ) (us vs : List ℕ) → In u (us ++ vs) → In u us ⊎ In u vs
 in-either u [] vs i = inr i
 in-either u (v ∷ us) vs here = inl here
-in-either u (v ∷ us) vs (later i) = go (in-either u us vs i)
-  where
-    go : In u us ⊎ In u vs → In u (v ∷ us) ⊎ In u vs
-    go (inl j) = inl (later j)
-    go (inr j) = inr j
+in-either u (v ∷ us) vs (later i) = elim (in-either u us vs i) [ inl j ↦ inl (later j) | inr j ↦ inr j ]
 
 in-all : {P : ℕ → Type 0} (us : List ℕ) → ((u : ℕ) → In u us → P u) → All P us
 in-all [] h = none

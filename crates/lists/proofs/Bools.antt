@@ -1,7 +1,7 @@
 -- Tests: what their parts say, and a test of every number below n. None of this is in the source. Assumes nothing.
 use mathlib.Core.Path.{_≡_, refl, sym, ap, _∙_}
 use mathlib.Core.Logic.{_≢_, _⊎_, inl, inr}
-use mathlib.Core.Bool.{Bool, true, false, not, _&&_, _||_, true≢false}
+use mathlib.Core.Bool.{Bool, true, false, not, _&&_, _||_, true≢false, cond}
 use Prim.Native.Nat.{ℕ, zero, suc, _+_, _≤_, _<_}
 use native.Mathlib.Omega.{arith}
 use native.Mathlib.Numerals.{add-one}
@@ -16,13 +16,17 @@ pub fails : (b : Bool) → (b ≡ true → ⊥) → b ≡ false
 fails true h = absurd (h refl)
 fails false h = refl
 
+pub refuted : (b : Bool) → (b ≡ true → ⊥) → not b ≡ true
+refuted b h = rw (fails b h)
+
+-- two tests that pass together
+pub same-tests : (a b : Bool) → (a ≡ true → b ≡ true) → (b ≡ true → a ≡ true) → a ≡ b
+same-tests true b f g = sym (f refl)
+same-tests false b f g = sym (fails b (λ e. not-both (g e) refl))
+
 -- two numbers that cannot differ are equal
 pub not-apart : (x y : ℕ) → (x ≢ y → ⊥) → x ≡ y
-not-apart x y h = go (ℕ-discrete x y)
-  where
-    go : Dec (x ≡ y) → x ≡ y
-    go (yes e) = e
-    go (no d) = absurd (h d)
+not-apart x y h = elim (ℕ-discrete x y) [ yes e ↦ e | no d ↦ absurd (h d) ]
 
 -- ---- and, or, not
 
@@ -80,6 +84,15 @@ not-three true true c h = ap not (h refl refl)
 not-three true false c h = refl
 not-three false b c h = refl
 
+pub and-false : (b : Bool) → (b && false) ≡ false
+and-false true = refl
+and-false false = refl
+
+-- a number, or none, by a test
+pub cond-most : (b : Bool) {x top : ℕ} → x ≤ top → cond b x 0 ≤ top
+cond-most true h = h
+cond-most false h = omega arith
+
 -- ---- every number below n
 
 pub every-at : (p : ℕ → Bool) (n : ℕ) → every p n ≡ true → (t : ℕ) → t < n → p t ≡ true
@@ -108,13 +121,14 @@ every-not p (suc n) e = go (p n) refl e (every-not p n)
 pub every-fails : (p : ℕ → Bool) (n t : ℕ) → t < n → p t ≡ false → every p n ≡ false
 every-fails p n t l e = fails (every p n) (λ q. not-both (every-at p n q t l) e)
 
+pub every-same : (p q : ℕ → Bool) (n : ℕ) → ((t : ℕ) → t < n → p t ≡ q t) → every p n ≡ every q n
+unfolding every
+every-same p q zero h = refl
+every-same p q (suc n) h = rw (h n (omega arith), every-same p q n (λ t l. h t (omega arith)))
+
 -- a fact of every number below i, and of i
 pub up-to : (P : ℕ → Type 0) (i : ℕ) → ((t : ℕ) → t < i → P t) → P i → (t : ℕ) → t < suc i → P t
-up-to P i h p t l = go (ℕ-discrete t i)
-  where
-    go : Dec (t ≡ i) → P t
-    go (yes q) = rw q p
-    go (no q) = h t (omega arith)
+up-to P i h p t l = elim (ℕ-discrete t i) [ yes q ↦ rw q p | no q ↦ h t (omega arith) ]
 
 -- ---- a test of every number, as far as a loop has come
 

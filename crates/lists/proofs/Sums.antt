@@ -1,8 +1,8 @@
 -- Sums over lists of numbers, what holds of every element, and lists given by a function. None of this is in the source. Assumes nothing.
-use mathlib.Core.Path.{_≡_, refl, sym, ap, ap₂}
+use mathlib.Core.Path.{_≡_, refl, sym, ap, ap₂, _∙_}
 use mathlib.Core.Bool.{Bool, true, false, cond}
 use mathlib.Core.List.{List, [], _∷_, _++_}
-use Prim.Native.Nat.{ℕ, zero, suc, _+_, _≤_, _<_}
+use Prim.Native.Nat.{ℕ, zero, suc, _+_, _≤_, _<_, _*_, _-_}
 use native.Mathlib.Omega.{arith}
 use native.Mathlib.Decide.{ℕ-discrete}
 use lib.Dec.{eqb}
@@ -14,6 +14,10 @@ use Rattle.lists.proofs.Bools.{fails}
 pub sum-add : (f g : ℕ → ℕ) (ts : List ℕ) → sum (λ t. f t + g t) ts ≡ sum f ts + sum g ts
 sum-add f g [] = refl
 sum-add f g (t ∷ ts) = omega (arith, sum-add f g ts)
+
+pub sum-scale : (k : ℕ) (f : ℕ → ℕ) (ts : List ℕ) → sum (λ t. k * f t) ts ≡ k * sum f ts
+sum-scale k f [] = omega arith
+sum-scale k f (t ∷ ts) = omega (arith, sum-scale k f ts)
 
 pub sum-mono : (f g : ℕ → ℕ) {ts : List ℕ} → All (λ t. f t ≤ g t) ts → sum f ts ≤ sum g ts
 sum-mono f g none = omega arith
@@ -34,6 +38,10 @@ sum-swap f (k ∷ ks) us = omega (arith, sum-swap f ks us, sum-add (f k) (λ u. 
 pub all-map : {P Q : ℕ → Type 0} → ((t : ℕ) → P t → Q t) → {ts : List ℕ} → All P ts → All Q ts
 all-map h none = none
 all-map h (more p ps) = more (h _ p) (all-map h ps)
+
+pub all-both : {P Q : ℕ → Type 0} {ts : List ℕ} → All P ts → All Q ts → All (λ t. P t × Q t) ts
+all-both none none = none
+all-both (more p ps) (more q qs) = more (p, q) (all-both ps qs)
 
 pub all-head : {P : ℕ → Type 0} {t : ℕ} {ts : List ℕ} → All P (t ∷ ts) → P t
 all-head (more h hs) = h
@@ -65,6 +73,15 @@ in-second [] i = i
 in-second (u ∷ ts) i = later (in-second ts i)
 
 -- ---- the numbers below n
+
+pub below-length : (n : ℕ) → length (below n) ≡ n
+below-length zero = refl
+below-length (suc n) = ap suc (below-length n)
+
+pub below-at : (n k : ℕ) → k < n → getD (below n) k 0 ≡ n - (k + 1)
+below-at zero k h = absurd (omega arith)
+below-at (suc n) zero h = omega arith
+below-at (suc n) (suc k) h = below-at n k (omega arith) ∙ omega arith
 
 pub all-below : {P : ℕ → Type 0} (n : ℕ) → ((t : ℕ) → t < n → P t) → All P (below n)
 all-below zero h = none
@@ -107,11 +124,7 @@ at-most-one p (suc n) alone = go (p n) refl (at-most-one p n (λ u v l m. alone 
 
 pub sum-point : (f : ℕ → ℕ) (n j : ℕ) → j < n → f j ≤ sum f (below n)
 sum-point f zero j h = omega arith
-sum-point f (suc n) j h = go (ℕ-discrete j n) (sum-point f n j)
-  where
-    go : Dec (j ≡ n) → (j < n → f j ≤ sum f (below n)) → f j ≤ f n + sum f (below n)
-    go (yes q) ih = omega (arith, ap f q)
-    go (no q) ih = omega (arith, ih (omega arith))
+sum-point f (suc n) j h = elim (ℕ-discrete j n) [ yes q ↦ omega (arith, ap f q) | no q ↦ omega (arith, sum-point f n j (omega arith)) ]
 
 -- f is at most g, and at j there is room for a more
 pub sum-room : (f g : ℕ → ℕ) (a n j : ℕ) → j < n → ((t : ℕ) → cond (eqb t j) a 0 + f t ≤ g t) → a + sum f (below n) ≤ sum g (below n)

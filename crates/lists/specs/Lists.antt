@@ -1,7 +1,9 @@
 -- Words about lists and bounded counting that the other definitions use (no rule of its own). Assumes nothing.
-use mathlib.Core.Bool.{Bool, true, _&&_}
+use mathlib.Core.Path.{_≡_}
+use mathlib.Core.Bool.{Bool, true, cond, _&&_}
 use mathlib.Core.List.{List, [], _∷_}
-use Prim.Native.Nat.{ℕ, zero, suc, _+_}
+use Prim.Native.Nat.{ℕ, zero, suc, _+_, _<_}
+use lib.ListN.{length, getD}
 
 -- p of every number below n
 unfoldable pub every : (ℕ → Bool) → ℕ → Bool
@@ -23,6 +25,11 @@ abbrev pub below : ℕ → List ℕ
 below zero = []
 below (suc n) = n ∷ below n
 
+-- those of a list of which p holds
+unfoldable pub keep : (ℕ → Bool) → List ℕ → List ℕ
+keep p [] = []
+keep p (t ∷ ts) = let rest = keep p ts in cond (p t) (t ∷ rest) rest
+
 -- every element of a list has P
 pub data All {A : Type 0} (P : A → Type 0) : List A → Type 0 where
   none : All P []
@@ -32,3 +39,8 @@ pub data All {A : Type 0} (P : A → Type 0) : List A → Type 0 where
 pub data In (t : ℕ) : List ℕ → Type 0 where
   here : {ts : List ℕ} → In t (t ∷ ts)
   later : {u : ℕ} {ts : List ℕ} → In t ts → In t (u ∷ ts)
+
+-- the first k places of a list of n hold what f gives
+pub record FilledTo (f : ℕ → ℕ) (n : ℕ) (l : List ℕ) (k : ℕ) : Type 0 where
+  pub places : length l ≡ n
+  pub values : (i : ℕ) → i < k → getD l i 0 ≡ f i

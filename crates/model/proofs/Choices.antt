@@ -12,7 +12,7 @@ use lib.Seq.{getD-set-same, getD-set-other}
 use borrow.Author.Tests.{eqb-true}
 use Rattle.lists.specs.Lists.{sum, below}
 use Rattle.model.specs.Choice.{has, chosen, choose, chooseEach, back, fill}
-use Rattle.lists.proofs.Bools.{not-both, up-to}
+use Rattle.lists.proofs.Bools.{not-both, up-to, cond-most}
 use Rattle.lists.proofs.Sums.{sum-add, sum-mono, sum-point, sum-room, all-of, all-below}
 
 -- ---- one turn more
@@ -25,11 +25,7 @@ put-keeps (b ∷ S) (suc j) zero e = e
 put-keeps (b ∷ S) (suc j) (suc t) e = put-keeps S j t e
 
 pub put-from : (S : List Bool) (j t : ℕ) → has (set S j true) t ≡ true → (t ≡ j) ⊎ (has S t ≡ true)
-put-from S j t e = go (ℕ-discrete t j)
-  where
-    go : Dec (t ≡ j) → (t ≡ j) ⊎ (has S t ≡ true)
-    go (yes q) = inl q
-    go (no q) = inr (sym (getD-set-other S j t true false q) ∙ e)
+put-from S j t e = elim (ℕ-discrete t j) [ yes q ↦ inl q | no q ↦ inr (sym (getD-set-other S j t true false q) ∙ e) ]
 
 pub none-chosen : (m t : ℕ) → has (replicate m false) t ≡ true → ⊥
 none-chosen zero t e = not-both e refl
@@ -162,17 +158,15 @@ chosen-put-most n S f j = both n .1
     after : ℕ → ℕ
     after t = cond (has (set S j true) t) (f t) 0
 
-    most : (b : Bool) (k : ℕ) → cond b k 0 ≤ k
-    most true k = omega arith
-    most false k = omega arith
-
     both : (n : ℕ) → (n ≤ j → sum after (below n) ≤ sum before (below n)) × (sum after (below n) ≤ f j + sum before (below n))
     both zero = (λ l. omega arith, omega arith)
     both (suc n) = go (ℕ-discrete n j) (both n)
       where
         go : Dec (n ≡ j) → (n ≤ j → sum after (below n) ≤ sum before (below n)) × (sum after (below n) ≤ f j + sum before (below n)) →
             (suc n ≤ j → after n + sum after (below n) ≤ before n + sum before (below n)) × (after n + sum after (below n) ≤ f j + (before n + sum before (below n)))
-        go (yes q) ih = (λ l. absurd (omega arith), omega (arith, ih .0 (omega arith), most (has (set S j true) n) (f n), ap f q))
+        go (yes q) ih =
+            let own : after n ≤ f n = cond-most (has (set S j true) n) (omega arith) in
+            (λ l. absurd (omega arith), omega (arith, ih .0 (omega arith), own, ap f q))
         go (no q) ih = let same : after n ≡ before n = ap (λ (b : Bool). cond b (f n) 0) (getD-set-other S j n true false q) in (λ l. omega (arith, same, ih .0 (omega arith)), omega (arith, same, ih .1))
 
 -- where the sum is above 0, so is the part of a chosen turn

@@ -8,7 +8,7 @@ use native.Mathlib.Omega.{arith}
 use native.Mathlib.Decide.{decLt}
 use lib.ListN.{length}
 use lib.Seq.{getD-set-same, getD-set-other, ext-getD}
-use Rattle.lists.proofs.Bools.{not-both, fails}
+use Rattle.lists.proofs.Bools.{not-both, same-tests}
 use Rattle.model.specs.Turns.{Turns, PositiveLengths}
 use Rattle.model.specs.Choice.{has, fits, choose, chooseEach, fill}
 use Rattle.model.specs.Filling.{CanJoin, FilledUp}
@@ -108,10 +108,6 @@ module _ (T : Turns) (lengths : PositiveLengths T) (S : List Bool) where
         from t l (inr j) = inr (joins-fits t l j)
 
 -- ---- there is no other
-
-same-tests : (a b : Bool) → (a ≡ true → b ≡ true) → (b ≡ true → a ≡ true) → a ≡ b
-same-tests true b f g = sym (f refl)
-same-tests false b f g = sym (fails b (λ e. not-both (g e) refl))
 
 -- where the turns of lower numbers are alike, what one has the other has
 has-too : (T : Turns) (S P Q : List Bool) → FilledUp T S P → FilledUp T S Q → (t : ℕ) → t < T .count → ((u : ℕ) → u < t → has P u ≡ has Q u) → has P t ≡ true → has Q t ≡ true

@@ -13,8 +13,14 @@ use Rattle.sheet.specs.Read.{sheetCauses}
 use Rattle.sheet.proofs.Unrefused.{few-turns}
 use Rattle.instance_spec.specs.Problem.{sheetTurns}
 use Rattle.instance_spec.proofs.SheetTurns.{sheet-count, sheet-worths}
-use Rattle.plan_spec.specs.Plan.{plannedBoard, planCauses, planOf}
+use Rattle.plan_spec.specs.Plan.{plannedBoard, planCauses, planOf, boardFor}
 use Rattle.plan_spec.proofs.Boards.{ReadsBack, board-back}
+use Rattle.board_open.proofs.Written.{map-read}
+use Rattle.board.specs.Board.{boardMap}
+use Rattle.choice_map.specs.Choice.{mapOf}
+use Rattle.model.proofs.Promised.{planned-length}
+use Rattle.model.specs.Choice.{choice}
+use Rattle.model.specs.Pick.{steps}
 
 -- ---- every sheet that is not refused
 
@@ -29,6 +35,11 @@ module _ (s : List ℕ) (z : firstOf (sheetCauses s) ≡ 0) where
   pub planned-back : ReadsBack (sheetTurns s) (plannedBoard s)
   unfolding plannedBoard
   planned-back = board-back (sheetTurns s) sheet-few worths
+
+  -- its map is that of the planner's choice
+  pub planned-map : boardMap (plannedBoard s) ≡ mapOf (choice (sheetTurns s))
+  unfolding plannedBoard boardFor
+  planned-map = map-read (choice (sheetTurns s)) (steps (sheetTurns s)) _ _ (omega (arith, planned-length (sheetTurns s), sheet-few))
 
 -- where nothing is refused the lent bytes begin with its board
 pub plan-written : (s lent : List ℕ) → planOf s lent .answer .refusal ≡ 0 → planOf s lent ≡ wrote (plannedBoard s) lent

@@ -8,9 +8,9 @@ use native.Mathlib.Omega.{arith}
 use lib.Dec.{ltb, leb, eqb}
 use lib.ListN.{getD}
 use borrow.Author.Tests.{eqb-true, leb-true, le-leb}
-use Rattle.lists.specs.Lists.{sum, below, All, none, more}
+use Rattle.lists.specs.Lists.{sum, below}
 use Rattle.lists.proofs.Bools.{and-1, and-2, and-of}
-use Rattle.lists.proofs.Sums.{all-map, sum-add, sum-mono, sum-zero, all-of}
+use Rattle.lists.proofs.Sums.{all-map, sum-add, sum-mono, sum-zero, all-of, all-both}
 use Rattle.model.specs.Turns.{Turns, PositiveLengths, NoDrivers, byDriver, oneDriver, conflict, Holds, Conflict, same-slope, same-groomer, same-driver}
 use Rattle.model.specs.Feasible.{Feasible, worthOf, OneTurnASlope}
 use Rattle.model.proofs.Groups.{Clique, one-of}
@@ -100,10 +100,6 @@ module _ (T : Turns) (slopes : ℕ) (prices : List ℕ) where
 
   -- ---- the most of a groomer
 
-  both : {P Q : ℕ → Type 0} {R : List ℕ} → All P R → All Q R → All (λ t. P t × Q t) R
-  both none none = none
-  both (more p ps) (more q qs) = more (p, q) (both ps qs)
-
   set-own : {g : ℕ} {R : List ℕ} → GroomerSet T g R → OwnSet (pricedTurns T slopes prices) g R
   unfolding pricedTurns
   set-own s =
@@ -123,7 +119,7 @@ module _ (T : Turns) (slopes : ℕ) (prices : List ℕ) where
         numbers = o .feasible .numbers;
         own = o .own;
         once = o .feasible .once;
-        apart = all-map (λ t h. all-map (λ u k d minute a b. k .1 d (conflict-priced t u (h .0 ∙ sym (k .0)) minute a b)) (both (o .own) (h .1))) (both (o .own) (o .feasible .apart));
+        apart = all-map (λ t h. all-map (λ u k d minute a b. k .1 d (conflict-priced t u (h .0 ∙ sym (k .0)) minute a b)) (all-both (o .own) (h .1))) (all-both (o .own) (o .feasible .apart));
       }
 
   pub most-counted : PositiveLengths T → (g : ℕ) → MostCounted T slopes prices g (groomerWorth (pricedTurns T slopes prices) g)

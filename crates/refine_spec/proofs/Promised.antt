@@ -1,7 +1,6 @@
 -- What the entry's own answer promises. Assumes nothing.
-use Prim.Native.Nat.{ℕ, _≤_, _<_}
-use mathlib.Core.Path.{_≡_, sym, ap, _∙_}
-use mathlib.Core.Logic.{_⊎_, inl, inr}
+use Prim.Native.Nat.{ℕ, _≤_}
+use mathlib.Core.Path.{_≡_, sym, ap, _∙_, refl}
 use mathlib.Core.List.{List, [], _∷_, _++_}
 use mathlib.Core.Bool.{not}
 use native.Mathlib.Omega.{arith}
@@ -9,6 +8,8 @@ use lib.Dec.{eqb}
 use lib.ListN.{length, take, drop}
 use lib.Seq.{take-append-seam, drop-append-seam}
 use borrow.Author.Tests.{eq-eqb}
+use Rattle.refine_spec.specs.Shift.{shiftRule, shiftStart, shiftRefined}
+use Rattle.refine_spec.proofs.Rounds.{Given, given-made, given-ended, given-more-worth, given-more-limit, given-not-before, given-same}
 use Rattle.refusal.specs.Number.{badPrices}
 use Rattle.refusal.specs.Cause.{_when_, firstOf}
 use Rattle.refusal.proofs.Order.{first-goes}
@@ -33,12 +34,12 @@ use Rattle.price_spec.specs.Prices.{turnPrice}
 use Rattle.price_spec.specs.Limit.{priceCount, limitCauses, sheetLimit, limitIs, limitOf}
 use Rattle.price_spec.proofs.LimitCauses as limits
 use Rattle.price_spec.proofs.Promised.{limit-promised}
-use Rattle.refine_spec.specs.Rounds.{Stage}
+use Rattle.refine_spec.specs.Rounds.{Stage, startFrom}
 use Rattle.refine_spec.specs.Refine.{Refinement, boardWith, refinementOf, refineOf}
 use Rattle.refine_spec.specs.Promises.{refinedBoard, refinedPrices, RefinePromised}
 use Rattle.refine_spec.proofs.RefineCauses.{sheetRefined, refine-is, refine-clear}
 use Rattle.refine_spec.proofs.Boards.{ReadsWith, sheet-back, with-passes}
-use Rattle.refine_spec.proofs.Shift.{shift-list, shift-driverless, shift-limit, shift-worth, shift-size, shift-apart, shift-full, shift-planned, shift-more, shift-made, shift-ended, shift-not-before}
+use Rattle.refine_spec.proofs.Shift.{shift-list, shift-driverless, shift-limit, shift-worth, shift-size, shift-apart, shift-full, shift-planned}
 
 -- a list of the right length on a sheet that is not refused has a limit
 limit-given : (s prices : List ℕ) → firstOf (sheetCauses s) ≡ 0 → length prices ≡ priceCount s → limitOf s prices .refusal ≡ 0
@@ -49,17 +50,15 @@ limit-given s prices z l =
 
 -- the numbers returned are those of the last stage
 module _ (s : List ℕ) (rounds : ℕ) (board prices : List ℕ) (e : refineOf s rounds board prices .refusal ≡ 0) where
-  given-worth : refineOf s rounds board prices .worth ≡ sheetRefined s rounds .worth
+  given : Given (sheetRefined s rounds) (refineOf s rounds board prices .worth) (refineOf s rounds board prices .limit) (refineOf s rounds board prices .rounds)
   unfolding refinementOf
-  given-worth = ap (λ (r : Refinement). r .worth) (refine-is s rounds board prices e)
-
-  given-limit : refineOf s rounds board prices .limit ≡ sheetRefined s rounds .limit
-  unfolding refinementOf
-  given-limit = ap (λ (r : Refinement). r .limit) (refine-is s rounds board prices e)
-
-  given-rounds : refineOf s rounds board prices .rounds ≡ sheetRefined s rounds .rounds
-  unfolding refinementOf
-  given-rounds = ap (λ (r : Refinement). r .rounds) (refine-is s rounds board prices e)
+  given =
+      let r = refine-is s rounds board prices e in
+      record {
+        worth-is = ap (λ (r : Refinement). r .worth) r;
+        limit-is = ap (λ (r : Refinement). r .limit) r;
+        rounds-is = ap (λ (r : Refinement). r .rounds) r;
+      }
 
 module _ (s : List ℕ) (rounds : ℕ) (board prices : List ℕ) (e : refineOf s rounds board prices .refusal ≡ 0) where
   -- the sheet's turns, its groomers and slopes, and the last stage
@@ -124,10 +123,10 @@ module _ (s : List ℕ) (rounds : ℕ) (board prices : List ℕ) (e : refineOf s
   text-passes = with-passes s sound (x .choice) (shift-size T groomers slopes rounds) (shift-apart T groomers slopes rounds) (shift-full T groomers slopes rounds) earned
 
   worth-written : boardWorth (refinedBoard s rounds board prices) ≡ refineOf s rounds board prices .worth
-  worth-written = ap boardWorth front ∙ (back .worth ∙ (sym (shift-worth T groomers slopes rounds) ∙ sym (given-worth s rounds board prices e)))
+  worth-written = ap boardWorth front ∙ (back .worth ∙ (sym (shift-worth T groomers slopes rounds) ∙ sym (given s rounds board prices e .worth-is)))
 
   worth-planned : boardWorth (plannedBoard s) ≤ refineOf s rounds board prices .worth
-  worth-planned = omega (arith, planned-back s sound .worth, shift-planned T groomers slopes rounds, given-worth s rounds board prices e)
+  worth-planned = omega (arith, planned-back s sound .worth, shift-planned T groomers slopes rounds, given s rounds board prices e .worth-is)
 
   -- ---- the limit
 
@@ -139,10 +138,10 @@ module _ (s : List ℕ) (rounds : ℕ) (board prices : List ℕ) (e : refineOf s
   list-limit = limits.limit-is s (x .list) list-given ∙ ap limitIs (sym (shift-limit T groomers slopes rounds))
 
   limit-written : limitOf s (refinedPrices s rounds board prices) ≡ limitIs (refineOf s rounds board prices .limit)
-  limit-written = ap (limitOf s) list-front ∙ (list-limit ∙ ap limitIs (sym (given-limit s rounds board prices e)))
+  limit-written = ap (limitOf s) list-front ∙ (list-limit ∙ ap limitIs (sym (given s rounds board prices e .limit-is)))
 
   all-within : (R : List ℕ) → Feasible T R → worthOf T R ≤ refineOf s rounds board prices .limit
-  all-within R f = omega (arith, limit-promised s (x .list) list-given .within R f, ap (λ (a : LimitAnswer). a .limit) list-limit, given-limit s rounds board prices e)
+  all-within R f = omega (arith, limit-promised s (x .list) list-given .within R f, ap (λ (a : LimitAnswer). a .limit) list-limit, given s rounds board prices e .limit-is)
 
   own-within : refineOf s rounds board prices .worth ≤ refineOf s rounds board prices .limit
   own-within =
@@ -152,42 +151,16 @@ module _ (s : List ℕ) (rounds : ℕ) (board prices : List ℕ) (e : refineOf s
         all-within (members (T .count) S) (members-feasible T S (apart-reads T S (sheet-lengths s sound) (shift-apart T groomers slopes rounds))),
         chosen-members (T .count) S (T .worth),
         shift-worth T groomers slopes rounds,
-        given-worth s rounds board prices e,
+        given s rounds board prices e .worth-is,
       )
-
-  -- ---- more rounds, and the rounds made
-
-  -- another call that refuses nothing, of the same sheet
-  module _ (k : ℕ) (board′ prices′ : List ℕ) where
-    more-earned : rounds ≤ k → refineOf s k board′ prices′ .refusal ≡ 0 → refineOf s rounds board prices .worth ≤ refineOf s k board′ prices′ .worth
-    more-earned h o = omega (arith, shift-more T groomers slopes rounds k h .0, given-worth s rounds board prices e, given-worth s k board′ prices′ o)
-
-    more-limited : rounds ≤ k → refineOf s k board′ prices′ .refusal ≡ 0 → refineOf s k board′ prices′ .limit ≤ refineOf s rounds board prices .limit
-    more-limited h o = omega (arith, shift-more T groomers slopes rounds k h .1, given-limit s rounds board prices e, given-limit s k board′ prices′ o)
-
-    none-before : k < refineOf s rounds board prices .rounds → refineOf s k board′ prices′ .refusal ≡ 0 → refineOf s k board′ prices′ .limit ≡ refineOf s k board′ prices′ .worth → ⊥
-    none-before h o q =
-        shift-not-before T groomers slopes rounds k (omega (arith, given-rounds s rounds board prices e)) (sym (given-limit s k board′ prices′ o) ∙ (q ∙ given-worth s k board′ prices′ o))
-
-  same-given : (board′ prices′ : List ℕ) → refineOf s rounds board′ prices′ .refusal ≡ 0 →
-      (refineOf s rounds board′ prices′ .worth ≡ refineOf s rounds board prices .worth) × (refineOf s rounds board′ prices′ .limit ≡ refineOf s rounds board prices .limit)
-      × (refineOf s rounds board′ prices′ .rounds ≡ refineOf s rounds board prices .rounds)
-  same-given board′ prices′ o = (
-    given-worth s rounds board′ prices′ o ∙ sym (given-worth s rounds board prices e),
-    given-limit s rounds board′ prices′ o ∙ sym (given-limit s rounds board prices e),
-    given-rounds s rounds board′ prices′ o ∙ sym (given-rounds s rounds board prices e),
-  )
-
-  all-ended : (refineOf s rounds board prices .rounds ≡ rounds) ⊎ (refineOf s rounds board prices .limit ≡ refineOf s rounds board prices .worth)
-  all-ended = go (shift-ended T groomers slopes rounds)
-    where
-      go : (x .rounds ≡ rounds) ⊎ (x .limit ≡ x .worth) → (refineOf s rounds board prices .rounds ≡ rounds) ⊎ (refineOf s rounds board prices .limit ≡ refineOf s rounds board prices .worth)
-      go (inl q) = inl (given-rounds s rounds board prices e ∙ q)
-      go (inr q) = inr (given-limit s rounds board prices e ∙ (q ∙ sym (given-worth s rounds board prices e)))
 
   -- every answer that refuses nothing
   pub refine-promised : RefinePromised s rounds board prices
+  unfolding shiftRefined shiftStart startFrom
   refine-promised =
+      let R = shiftRule T groomers slopes in
+      let start = shiftStart T groomers slopes in
+      let g = given s rounds board prices e in
       record {
         passes = rw front text-passes;
         steps-same = ap writtenSteps front ∙ (back .step-list ∙ sym (planned-back s sound .step-list));
@@ -198,12 +171,12 @@ module _ (s : List ℕ) (rounds : ℕ) (board prices : List ℕ) (e : refineOf s
         within = all-within;
         worth-within = own-within;
         best = λ q R f. omega (arith, all-within R f, q, worth-written);
-        more-worth = more-earned;
-        more-limit = more-limited;
-        places-apart = same-given;
-        made = omega (arith, given-rounds s rounds board prices e, shift-made T groomers slopes rounds);
-        ended = all-ended;
-        not-before = none-before;
+        more-worth = λ k b p h o. given-more-worth R start refl rounds g k (given s k b p o) h;
+        more-limit = λ k b p h o. given-more-limit R start refl rounds g k (given s k b p o) h;
+        places-apart = λ b p o. given-same g (given s rounds b p o);
+        made = given-made R start refl rounds g;
+        ended = given-ended R start refl rounds g;
+        not-before = λ k b p h o. given-not-before R start refl rounds g k (given s k b p o) h;
         driverless = λ u l d. ap (λ (p : List ℕ). turnPrice slopes p u) list-front ∙ shift-driverless T groomers slopes rounds u l d;
         board-rest = rest;
         prices-rest = list-rest;

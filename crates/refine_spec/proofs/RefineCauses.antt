@@ -1,8 +1,8 @@
 -- The entry's number: exactly the first cause in the order gives it, and 0 is given exactly where there is none. Assumes nothing.
-use Prim.Native.Nat.{ℕ, _≤_}
+use Prim.Native.Nat.{ℕ, _≤_, _<_}
 use mathlib.Core.Path.{_≡_, refl, sym, _∙_}
-use mathlib.Core.List.{List}
-use mathlib.Core.Logic.{_↔_, ⊎-elim}
+use mathlib.Core.List.{List, [], _∷_, _++_}
+use mathlib.Core.Logic.{_↔_, ⊎-elim, _⊎_, inl, inr}
 use mathlib.Core.Bool.{Bool, true, _||_}
 use native.Mathlib.Omega.{arith}
 use lib.Dec.{ltb}
@@ -10,8 +10,8 @@ use lib.ListN.{length}
 use borrow.Author.Tests.{ltb-true, ltb-false, lt-ltb, le-ltb}
 use Rattle.lists.proofs.Bools.{or-1, or-2, or-cases, or-false-1, or-false-2}
 use Rattle.refusal.specs.Number.{bufferTooSmall}
-use Rattle.refusal.specs.Cause.{firstOf}
-use Rattle.refusal.proofs.Order.{clear-last}
+use Rattle.refusal.specs.Cause.{firstOf, Cause, _when_}
+use Rattle.refusal.proofs.Order.{clear-last, numbered}
 use Rattle.refusal.proofs.Outcome.{number-first, number-iff, number-none}
 use Rattle.wire.specs.Number.{Bytes}
 use Rattle.sheet.specs.Read.{countsIn, turnCount, sheetCauses}
@@ -32,31 +32,39 @@ sheetRefined s rounds = shiftRefined (sheetTurns s) (countsIn s .groomers) (coun
 
 -- ---- the test of the lent places, and its words
 
+-- one of two places is too small: the test in words, and as the last cause
+pub few-iff : (a x b y : ℕ) → ((ltb a x || ltb b y) ≡ true) ↔ ((a < x) ⊎ (b < y))
+few-iff a x b y = (
+  λ e. ⊎-elim (λ p. inl (ltb-true a x p)) (λ p. inr (ltb-true b y p)) (or-cases (ltb a x) (ltb b y) e),
+  ⊎-elim (λ h. or-1 (ltb a x) (ltb b y) (lt-ltb a x h)) (λ h. or-2 (ltb a x) (ltb b y) (lt-ltb b y h)),
+)
+
+pub clear-both : (cs : List Cause) (a x b y : ℕ) → numbered cs ≡ true
+    → (firstOf (cs ++ (bufferTooSmall when (ltb a x || ltb b y) ∷ [])) ≡ 0) ↔ ((firstOf cs ≡ 0) × (x ≤ a) × (y ≤ b))
+clear-both cs a x b y n =
+    let last = clear-last cs bufferTooSmall (ltb a x || ltb b y) n (omega arith) in (
+      λ e. let (z, q) = last .0 e in (z, ltb-false a x (or-false-1 (ltb a x) (ltb b y) q), ltb-false b y (or-false-2 (ltb a x) (ltb b y) q)),
+      λ (z, l, m). last .1 (z, rw (le-ltb a x l, le-ltb b y m)),
+    )
+
 module _ (s : List ℕ) (bytes numbers : ℕ) where
   -- too few lent bytes, or too few lent numbers
   abbrev tooFew : Bool
   tooFew = ltb bytes (boardLength (turnCount s) (turnCount s)) || ltb numbers (priceCount s)
 
-  fails : PlacesFail s bytes numbers → tooFew ≡ true
-  fails (few-bytes h) = or-1 (ltb bytes (boardLength (turnCount s) (turnCount s))) (ltb numbers (priceCount s)) (lt-ltb bytes (boardLength (turnCount s) (turnCount s)) h)
-  fails (few-prices h) = or-2 (ltb bytes (boardLength (turnCount s) (turnCount s))) (ltb numbers (priceCount s)) (lt-ltb numbers (priceCount s) h)
+  either : PlacesFail s bytes numbers → (bytes < boardLength (turnCount s) (turnCount s)) ⊎ (numbers < priceCount s)
+  either (few-bytes h) = inl h
+  either (few-prices h) = inr h
 
   places-iff : (tooFew ≡ true) ↔ PlacesFail s bytes numbers
-  places-iff = (
-    λ e. ⊎-elim (λ b. few-bytes (ltb-true bytes (boardLength (turnCount s) (turnCount s)) b)) (λ n. few-prices (ltb-true numbers (priceCount s) n))
-        (or-cases (ltb bytes (boardLength (turnCount s) (turnCount s))) (ltb numbers (priceCount s)) e),
-    fails,
-  )
+  places-iff =
+      let w = few-iff bytes (boardLength (turnCount s) (turnCount s)) numbers (priceCount s) in
+      (λ e. ⊎-elim few-bytes few-prices (w .0 e), λ f. w .1 (either f))
 
   -- no cause is there just if the sheet is not refused, and there are lent bytes and lent numbers enough
   clear-iff : (firstOf (refineCauses s bytes numbers) ≡ 0) ↔ ((firstOf (sheetCauses s) ≡ 0) × (boardLength (turnCount s) (turnCount s) ≤ bytes) × (priceCount s ≤ numbers))
   unfolding refineCauses
-  clear-iff =
-      let need = boardLength (turnCount s) (turnCount s) in
-      let last = clear-last (sheetCauses s) bufferTooSmall tooFew (sheet-numbered s) (omega arith) in (
-        λ e. let (z, q) = last .0 e in (z, ltb-false bytes need (or-false-1 (ltb bytes need) (ltb numbers (priceCount s)) q), ltb-false numbers (priceCount s) (or-false-2 (ltb bytes need) (ltb numbers (priceCount s)) q)),
-        λ (z, l, m). last .1 (z, rw (le-ltb bytes need l, le-ltb numbers (priceCount s) m)),
-      )
+  clear-iff = clear-both (sheetCauses s) bytes (boardLength (turnCount s) (turnCount s)) numbers (priceCount s) (sheet-numbered s)
 
 module _ (s : List ℕ) (rounds : ℕ) (board prices : List ℕ) where
   pub refine-number : refineOf s rounds board prices .refusal ≡ firstOf (refineCauses s (length board) (length prices))

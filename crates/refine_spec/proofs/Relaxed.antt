@@ -9,8 +9,8 @@ use lib.Dec.{eqb}
 use lib.Seq.{ext-getD}
 use borrow.Author.Tests.{eq-eqb, ne-eqb}
 use Rattle.lists.specs.Lists.{All, none, more}
-use Rattle.lists.proofs.Bools.{not-both, fails}
-use Rattle.lists.proofs.Sums.{all-map, tab-length, tab-at}
+use Rattle.lists.proofs.Bools.{fails, same-tests}
+use Rattle.lists.proofs.Sums.{all-map, tab-length, tab-at, all-append}
 use Rattle.model.specs.Turns.{Turns}
 use Rattle.model.specs.Choice.{has}
 use Rattle.best_spec.specs.Table.{Best, bestOver, bestChoice, isAmong}
@@ -26,10 +26,6 @@ use Rattle.refine_spec.specs.Shift.{isRelaxed, relaxedSet}
 
 -- ---- elements of two lists
 
-all-both : {P : ℕ → Type 0} {xs ys : List ℕ} → All P xs → All P ys → All P (xs ++ ys)
-all-both none q = q
-all-both (more p ps) q = more p (all-both ps q)
-
 among-both : (xs ys : List ℕ) (t : ℕ) → isAmong (xs ++ ys) t ≡ (isAmong xs t || isAmong ys t)
 unfolding isAmong
 among-both [] ys t = refl
@@ -38,11 +34,6 @@ among-both (x ∷ xs) ys t = rw (among-both xs ys t) (either (eqb t x) (isAmong 
     either : (a b c : Bool) → (a || (b || c)) ≡ ((a || b) || c)
     either true b c = refl
     either false b c = refl
-
--- two tests that pass together
-same-tests : (a b : Bool) → (a ≡ true → b ≡ true) → (b ≡ true → a ≡ true) → a ≡ b
-same-tests true b f g = sym (f refl)
-same-tests false b f g = sym (fails b (λ e. not-both (g e) refl))
 
 module _ (T : Turns) where
   -- ---- a list in order: the turns of groomers below g, those of g, those of groomers above
@@ -121,7 +112,7 @@ module _ (T : Turns) where
   three-tables {g} p =
       ap (bestOver T) (p .split)
       ∙ groomers-add T (p .own ++ p .upper) (p .lower)
-      (all-map (λ x l. all-both (all-map (λ y e d. omega arith) (p .are-own)) (all-map (λ y k d. omega arith) (p .are-upper))) (p .are-lower))
+      (all-map (λ x l. all-append (all-map (λ y e d. omega arith) (p .are-own)) (all-map (λ y k d. omega arith) (p .are-upper))) (p .are-lower))
       ∙ ap (together (bestOver T (p .lower))) (groomers-add T (p .upper) (p .own) (all-map (λ x e. all-map (λ y k d. omega arith) (p .are-upper)) (p .are-own)))
 
   -- a turn is in the set of all turns just if it is in its groomer's own

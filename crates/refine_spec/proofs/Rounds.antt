@@ -1,5 +1,5 @@
 -- Rounds, whatever the rule: how they go on from a look, what they keep, and what more of them bring. Assumes nothing.
-use mathlib.Core.Path.{_≡_, refl, ap, _∙_}
+use mathlib.Core.Path.{_≡_, refl, ap, _∙_, sym}
 use mathlib.Core.Logic.{_⊎_, inl, inr}
 use mathlib.Core.Bool.{Bool, true, false, cond}
 use mathlib.Core.List.{List}
@@ -192,3 +192,38 @@ module _ (R : RoundRule) where
           (k : ℕ) → x .rounds + k < y .rounds → Met (refined R k x) → ⊥
       next n x y d ih zero h = rw (refined-last x) d
       next n x y d ih (suc k) h = rw (refined-next k x d) (ih k (omega (arith, looked-rounds x)))
+
+-- ---- of an answer that gives a stage's numbers
+
+pub record Given (x : Stage) (worth limit rounds : ℕ) : Type 0 where
+  pub worth-is : worth ≡ x .worth
+  pub limit-is : limit ≡ x .limit
+  pub rounds-is : rounds ≡ x .rounds
+
+-- those after n rounds, none being made at the start
+module _ (R : RoundRule) (start : Stage) (z : start .rounds ≡ 0) (n : ℕ) {worth limit rounds : ℕ} (g : Given (refined R n start) worth limit rounds) where
+  pub given-made : rounds ≤ n
+  given-made = omega (arith, g .rounds-is, rounds-most R n start, z)
+
+  pub given-ended : (rounds ≡ n) ⊎ (limit ≡ worth)
+  given-ended = go (rounds-ended R n start)
+    where
+      go : (refined R n start .rounds ≡ start .rounds + n) ⊎ Met (refined R n start) → (rounds ≡ n) ⊎ (limit ≡ worth)
+      go (inl e) = inl (omega (arith, g .rounds-is, z, e))
+      go (inr e) = inr (g .limit-is ∙ e ∙ sym (g .worth-is))
+
+  -- beside another such answer, after k rounds
+  module _ (k : ℕ) {worth′ limit′ rounds′ : ℕ} (o : Given (refined R k start) worth′ limit′ rounds′) where
+    pub given-more-worth : n ≤ k → worth ≤ worth′
+    given-more-worth h = omega (arith, more-rounds R n k start h .0, g .worth-is, o .worth-is)
+
+    pub given-more-limit : n ≤ k → limit′ ≤ limit
+    given-more-limit h = omega (arith, more-rounds R n k start h .1, g .limit-is, o .limit-is)
+
+    pub given-not-before : k < rounds → limit′ ≡ worth′ → ⊥
+    given-not-before h q = not-met-before R n start k (omega (arith, h, g .rounds-is, z)) (sym (o .limit-is) ∙ q ∙ o .worth-is)
+
+-- two answers that give the same stage
+pub given-same : {x : Stage} {worth limit rounds worth′ limit′ rounds′ : ℕ} → Given x worth limit rounds → Given x worth′ limit′ rounds′
+    → (worth′ ≡ worth) × (limit′ ≡ limit) × (rounds′ ≡ rounds)
+given-same g o = (o .worth-is ∙ sym (g .worth-is), o .limit-is ∙ sym (g .limit-is), o .rounds-is ∙ sym (g .rounds-is))

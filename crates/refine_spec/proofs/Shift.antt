@@ -1,6 +1,5 @@
 -- What the rounds of a shift keep: the list has a price for each slope and each turn, and that of a turn without a driver is 0; the choice has no conflict and leaves no room; limit and worth are theirs. Assumes nothing.
 use mathlib.Core.Path.{_≡_, refl, sym, ap, _∙_}
-use mathlib.Core.Logic.{_⊎_, inl, inr}
 use mathlib.Core.Bool.{Bool, true, false, cond}
 use mathlib.Core.List.{List}
 use Prim.Native.Nat.{ℕ, _+_, _≤_, _<_}
@@ -10,13 +9,13 @@ use lib.Seq.{getD-append-add}
 use Rattle.lists.specs.Lists.{tab, below}
 use Rattle.lists.proofs.Sums.{sum-zero, all-of, tab-length, tab-at}
 use Rattle.model.specs.Turns.{Turns, oneDriver, byDriver}
-use Rattle.model.specs.Choice.{has, chosen, choice}
+use Rattle.model.specs.Choice.{has, chosen, choice, fits}
 use Rattle.model.proofs.Filled.{NoConflict, NoRoom}
 use Rattle.model.proofs.Promised.{planned-length, choice-apart, choice-full}
 use Rattle.price_spec.specs.Prices.{slopePrice, turnPrice, paysTurn, limitBy}
 use Rattle.refine_spec.specs.Rounds.{Stage, startFrom}
 use Rattle.refine_spec.specs.Shift.{relaxedSet, slopePayers, turnPayers, movedPrice, turnChange, movedPrices, shiftRule, shiftStart, shiftRefined}
-use Rattle.refine_spec.proofs.Rounds.{Met, listed-limit, chosen-worth, choice-kept, lists-kept, worth-grows, more-rounds, rounds-most, rounds-ended, not-met-before}
+use Rattle.refine_spec.proofs.Rounds.{listed-limit, chosen-worth, choice-kept, lists-kept, worth-grows}
 use Rattle.refine_spec.proofs.Selection.{from-length, from-apart, from-full}
 
 -- ---- moved prices
@@ -108,34 +107,9 @@ module _ (T : Turns) (groomers slopes rounds : ℕ) where
 
   pub shift-size : length (last .choice) ≡ T .count
   unfolding shiftRule
-  shift-size = choice-has (λ S. length S ≡ T .count) (λ prices. from-length T (relaxedSet T slopes prices)) (planned-length T)
+  shift-size = choice-has (λ S. length S ≡ T .count) (λ prices. from-length (fits T) T (relaxedSet T slopes prices)) (planned-length T)
 
   -- the planner's choice is worth no more
   pub shift-planned : chosen (T .count) (choice T) (T .worth) ≤ last .worth
   unfolding shiftRefined shiftStart startFrom shiftRule
   shift-planned = worth-grows (shiftRule T groomers slopes) rounds (shiftStart T groomers slopes)
-
-  pub shift-more : (more : ℕ) → rounds ≤ more → (last .worth ≤ shiftRefined T groomers slopes more .worth) × (shiftRefined T groomers slopes more .limit ≤ last .limit)
-  unfolding shiftRefined
-  shift-more more h = more-rounds (shiftRule T groomers slopes) rounds more (shiftStart T groomers slopes) h
-
-  -- none is made before the first look
-  started : shiftStart T groomers slopes .rounds ≡ 0
-  unfolding shiftStart startFrom
-  started = refl
-
-  pub shift-made : last .rounds ≤ rounds
-  unfolding shiftRefined
-  shift-made = omega (arith, started, rounds-most (shiftRule T groomers slopes) rounds (shiftStart T groomers slopes))
-
-  pub shift-ended : (last .rounds ≡ rounds) ⊎ Met last
-  unfolding shiftRefined
-  shift-ended = go (rounds-ended (shiftRule T groomers slopes) rounds (shiftStart T groomers slopes))
-    where
-      go : (last .rounds ≡ shiftStart T groomers slopes .rounds + rounds) ⊎ Met last → (last .rounds ≡ rounds) ⊎ Met last
-      go (inl e) = inl (omega (arith, started, e))
-      go (inr e) = inr e
-
-  pub shift-not-before : (k : ℕ) → k < last .rounds → Met (shiftRefined T groomers slopes k) → ⊥
-  unfolding shiftRefined
-  shift-not-before k h = not-met-before (shiftRule T groomers slopes) rounds (shiftStart T groomers slopes) k (omega (arith, started))

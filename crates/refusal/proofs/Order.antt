@@ -8,6 +8,7 @@ use native.Mathlib.Omega.{arith}
 use native.Mathlib.Decide.{ℕ-discrete}
 use lib.Dec.{ltb}
 use borrow.Author.Tests.{ltb-true}
+use Rattle.lists.proofs.Bools.{and-1, and-2}
 use Rattle.refusal.specs.Cause.{Cause, firstOf, There, here, later, FirstAmong, First, _when_}
 
 -- every number in the list is above 0, which stands for none
@@ -18,18 +19,10 @@ numbered (c ∷ cs) = ltb 0 (c .number) && numbered cs
 never : {A : Type 0} → true ≡ false → A
 never e = absurd (true≢false e)
 
-both-0 : (a b : Bool) → (a && b) ≡ true → a ≡ true
-both-0 true b e = refl
-both-0 false b e = e
-
-both-1 : (a b : Bool) → (a && b) ≡ true → b ≡ true
-both-1 true b e = e
-both-1 false b e = never (sym e)
-
 pub numbered-append : (a b : List Cause) → numbered a ≡ true → numbered b ≡ true → numbered (a ++ b) ≡ true
 numbered-append [] b p q = q
 numbered-append (c ∷ a) b p q =
-    rw (both-0 (ltb 0 (c .number)) (numbered a) p) (numbered-append a b (both-1 (ltb 0 (c .number)) (numbered a) p) q)
+    rw (and-1 (ltb 0 (c .number)) (numbered a) p) (numbered-append a b (and-2 (ltb 0 (c .number)) (numbered a) p) q)
 
 -- ---- one list after another
 
@@ -47,10 +40,10 @@ first-stops (c ∷ a) b k e z = go (c .there) e (λ f. first-stops a b k f z)
 pub first-goes : (a b : List Cause) → numbered a ≡ true → firstOf a ≡ 0 → firstOf (a ++ b) ≡ firstOf b
 unfolding firstOf
 first-goes [] b p e = refl
-first-goes (c ∷ a) b p e = go (c .there) e (first-goes a b (both-1 (ltb 0 (c .number)) (numbered a) p))
+first-goes (c ∷ a) b p e = go (c .there) e (first-goes a b (and-2 (ltb 0 (c .number)) (numbered a) p))
   where
     go : (t : Bool) → cond t (c .number) (firstOf a) ≡ 0 → (firstOf a ≡ 0 → firstOf (a ++ b) ≡ firstOf b) → cond t (c .number) (firstOf (a ++ b)) ≡ firstOf b
-    go true e ih = absurd (omega (arith, ltb-true 0 (c .number) (both-0 (ltb 0 (c .number)) (numbered a) p)))
+    go true e ih = absurd (omega (arith, ltb-true 0 (c .number) (and-1 (ltb 0 (c .number)) (numbered a) p)))
     go false e ih = ih e
 
 -- lists with the same first cause have it before the same list too
@@ -74,10 +67,10 @@ clear-cons c cs z e = go (c .there) refl e
 pub clear-append : (a b : List Cause) → numbered a ≡ true → firstOf (a ++ b) ≡ 0 → (firstOf a ≡ 0) × (firstOf b ≡ 0)
 unfolding firstOf
 clear-append [] b p e = (refl, e)
-clear-append (c ∷ a) b p e = go (c .there) e (clear-append a b (both-1 (ltb 0 (c .number)) (numbered a) p))
+clear-append (c ∷ a) b p e = go (c .there) e (clear-append a b (and-2 (ltb 0 (c .number)) (numbered a) p))
   where
     go : (t : Bool) → cond t (c .number) (firstOf (a ++ b)) ≡ 0 → (firstOf (a ++ b) ≡ 0 → (firstOf a ≡ 0) × (firstOf b ≡ 0)) → (cond t (c .number) (firstOf a) ≡ 0) × (firstOf b ≡ 0)
-    go true e ih = absurd (omega (arith, ltb-true 0 (c .number) (both-0 (ltb 0 (c .number)) (numbered a) p)))
+    go true e ih = absurd (omega (arith, ltb-true 0 (c .number) (and-1 (ltb 0 (c .number)) (numbered a) p)))
     go false e ih = ih e
 
 -- of a list and one cause more
@@ -90,7 +83,7 @@ clear-last a k t n z = (
 
 -- ---- the order
 
-none-there : {k r : ℕ} → There [] k r → ⊥
+pub none-there : {k r : ℕ} → There [] k r → ⊥
 none-there = elim [ ]
 
 -- a cause of a list with a head: it is the head's, or stands later
@@ -102,10 +95,10 @@ cases (later {r = q} h) = inr (q, refl, h)
 pub none-given : (cs : List Cause) → firstOf cs ≡ 0 → numbered cs ≡ true → (k r : ℕ) → There cs k r → ⊥
 unfolding firstOf
 none-given [] e p k r h = none-there h
-none-given (c ∷ cs) e p k r h = go (c .there) refl e (cases h) (λ f. none-given cs f (both-1 (ltb 0 (c .number)) (numbered cs) p) k)
+none-given (c ∷ cs) e p k r h = go (c .there) refl e (cases h) (λ f. none-given cs f (and-2 (ltb 0 (c .number)) (numbered cs) p) k)
   where
     go : (t : Bool) → c .there ≡ t → cond t (c .number) (firstOf cs) ≡ 0 → ((c .there ≡ true) × (k ≡ c .number) × (r ≡ 0)) ⊎ ((q : ℕ) × (r ≡ suc q) × There cs k q) → (firstOf cs ≡ 0 → (q : ℕ) → There cs k q → ⊥) → ⊥
-    go true q e w ih = omega (arith, ltb-true 0 (c .number) (both-0 (ltb 0 (c .number)) (numbered cs) p))
+    go true q e w ih = omega (arith, ltb-true 0 (c .number) (and-1 (ltb 0 (c .number)) (numbered cs) p))
     go false q e (inl x) ih = never (sym (x .0) ∙ q)
     go false q e (inr x) ih = ih e (x .0) (x .2)
 

@@ -13,7 +13,7 @@ use Rattle.refusal.specs.Number.{bufferTooSmall}
 use Rattle.refusal.specs.Cause.{Cause, _when_, There, here, later, firstOf, FirstAmong}
 use Rattle.refusal.specs.Outcome.{thenRoom}
 use Rattle.refusal.specs.Words.{Only, only, Then, before, behind, ThenRoom}
-use Rattle.refusal.proofs.Order.{numbered, first-stops, first-goes, clear-append, none-given, first-same}
+use Rattle.refusal.proofs.Order.{numbered, first-stops, first-goes, clear-append, none-given, first-same, none-there}
 
 -- the words have no place from n on
 abbrev pub Within : (ℕ → ℕ → Type 0) → ℕ → Type 0
@@ -51,12 +51,9 @@ module _ (n : ℕ) (P : Type 0) (test : Bool) (iff : (test ≡ true) ↔ P) wher
   says : {k r : ℕ} → Only n P k r → There (n when test ∷ []) k r
   says (only p) = here (iff .1 p)
 
-  none-behind : {k r : ℕ} → There [] k r → ⊥
-  none-behind = elim [ ]
-
   said : {k r : ℕ} → There (n when test ∷ []) k r → Only n P k r
   said (here e) = only (iff .0 e)
-  said (later h) = absurd (none-behind h)
+  said (later h) = absurd (none-there h)
 
   pub only-tells : numbered (n when test ∷ []) ≡ true → Tells (Only n P) (n when test ∷ [])
   only-tells z = says-tells (Only n P) (n when test ∷ []) (λ k r. (says, said)) z

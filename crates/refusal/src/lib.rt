@@ -1,5 +1,7 @@
 // The numbers that the box gives for a refusal, in document order; 0 is none. The trade's word for
 // each stands behind it.
+ghost use mathlib.Core.Path.{_≡_};
+ghost use Rattle.refusal.specs.Written.{writeRefused};
 
 pub const TRUNCATED: u8 = 1; // torn: the sheet stops short of the end of its header or of a record that must follow
 
@@ -59,4 +61,14 @@ pub const BAD_PRICES: u8 = 26; // a price list of another length than is due: sl
 pub struct WriteAnswer {
     pub refusal: u8,
     pub bytes: u32,
+}
+
+// A refusal's answer.
+pub fn refused(k: u8) -> WriteAnswer
+    ensures { λ r. ⌜ r ≡ writeRefused k ⌝ }
+{
+    WriteAnswer {
+        refusal: k,
+        bytes: 0,
+    }
 }

@@ -27,11 +27,7 @@ use Rattle.search_spec.proofs.Searches.{compared-cases, sets-with, sets
 listed-split : {U : List Bool} (As : List (List Bool)) {Bs : List (List Bool)} → ListedSet U (As ++ Bs) → ListedSet U As ⊎ ListedSet U Bs
 listed-split [] h = inr h
 listed-split (A ∷ As) here = inl here
-listed-split (A ∷ As) (there h) = go (listed-split As h)
-  where
-    go : {U : List Bool} {Bs : List (List Bool)} → ListedSet U As ⊎ ListedSet U Bs → ListedSet U (A ∷ As) ⊎ ListedSet U Bs
-    go (inl l) = inl (there l)
-    go (inr r) = inr r
+listed-split (A ∷ As) (there h) = elim (listed-split As h) [ inl l ↦ inl (there l) | inr r ↦ inr r ]
 
 listed-left : {U : List Bool} {As : List (List Bool)} (Bs : List (List Bool)) → ListedSet U As → ListedSet U (As ++ Bs)
 listed-left Bs here = here
@@ -101,11 +97,7 @@ module _ (T : Turns) where
     where
       go : (b : Bool) → fits T S t ≡ b → ListedSet U (setsFrom T (suc left) t S) → (fits T S t ≡ true → ListedSet U (setsFrom T left (suc t) (set S t true)) → Grown (suc left) t S U)
           → (ListedSet U (setsFrom T left (suc t) S) → Grown (suc left) t S U) → Grown (suc left) t S U
-      go true f h ih jh = split (listed-split (setsFrom T left (suc t) (set S t true)) (rw (sets-with T left t S f) at h))
-        where
-          split : ListedSet U (setsFrom T left (suc t) (set S t true)) ⊎ ListedSet U (setsFrom T left (suc t) S) → Grown (suc left) t S U
-          split (inl k) = ih f k
-          split (inr k) = jh k
+      go true f h ih jh = elim (listed-split (setsFrom T left (suc t) (set S t true)) (rw (sets-with T left t S f) at h)) [ inl k ↦ ih f k | inr k ↦ jh k ]
       go false f h ih jh = jh (rw (sets-without T left t S f) at h)
 
   -- ---- every such set is listed

@@ -10,9 +10,8 @@ use lib.ListN.{length, take, drop}
 use lib.Seq.{take-at, drop-at}
 use Rattle.refusal.specs.Cause.{firstOf}
 use Rattle.model.specs.Pick.{steps}
-use Rattle.model.specs.Choice.{choice}
 use Rattle.model.specs.Ceiling.{ceiling}
-use Rattle.model.proofs.Promised.{planned-length, planned-promises}
+use Rattle.model.proofs.Promised.{planned-promises}
 use Rattle.search_spec.specs.Search.{Progress, searchAll}
 use Rattle.search_spec.specs.Promises.{visitsMade, SearchPromises}
 use Rattle.search_spec.specs.Sets.{Compares}
@@ -20,15 +19,13 @@ use Rattle.search_spec.proofs.Firsts.{first-stays}
 use Rattle.search_spec.proofs.Sets.{search-compares}
 use Rattle.search_spec.proofs.Promised.{visits-most, visits-empty, none-allowed, search-promises}
 use Rattle.sheet.specs.Read.{turnCount, sheetCauses}
-use Rattle.sheet.proofs.Unrefused.{few-turns}
 use Rattle.choice_map.specs.Choice.{mapBytes, mapOf, choiceIn}
 use Rattle.choice_map.proofs.Clean.{map-length, map-choice}
 use Rattle.board.specs.Board.{boardWorth, boardMap}
-use Rattle.board_open.proofs.Written as written
 use Rattle.instance_spec.specs.Problem.{sheetTurns}
 use Rattle.instance_spec.proofs.SheetTurns.{sheet-count, sheet-lengths}
-use Rattle.plan_spec.specs.Plan.{boardFor, plannedBoard}
-use Rattle.plan_spec.proofs.Planned.{planned-back}
+use Rattle.plan_spec.specs.Plan.{plannedBoard}
+use Rattle.plan_spec.proofs.Planned.{planned-back, planned-map}
 use Rattle.search_spec.specs.Improve.{mostSearched, improveCauses, Improvement, improvedFor, improveOf}
 use Rattle.search_spec.specs.SheetPromises.{answeredMap, answeredChoice, ImprovedSheet, PlanComesBack}
 use Rattle.search_spec.proofs.ImproveCauses.{improve-number, improve-answers, clear-iff}
@@ -109,15 +106,11 @@ module _ (s : List ℕ) (limit : ℕ) (lent : List ℕ) (z : improveOf s limit l
   compares-are : Compares (sheetTurns s) limit (searchAll (sheetTurns s) limit .worth) (searchAll (sheetTurns s) limit .best)
   compares-are = search-compares (sheetTurns s) (sheet-lengths s sound) limit
 
-  plan-map : boardMap (plannedBoard s) ≡ mapOf (choice (sheetTurns s))
-  unfolding plannedBoard boardFor
-  plan-map = written.map-read (choice (sheetTurns s)) (steps (sheetTurns s)) _ _ (omega (arith, planned-length (sheetTurns s), sheet-count s sound, few-turns s sound))
-
   kept : improveOf s limit lent .answer .worth ≤ boardWorth (plannedBoard s) → answeredMap s limit lent ≡ boardMap (plannedBoard s)
   unfolding best-map
   kept l =
       map-first ∙ ap mapOf (first-stays (sheetTurns s) (compares-are .first-most) (omega (arith, worth-is, promised .earns, planned-back s sound .worth)))
-      ∙ sym plan-map
+      ∙ sym (planned-map s sound)
 
   pub improved-sheet : ImprovedSheet s limit lent
   improved-sheet =

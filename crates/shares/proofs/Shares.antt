@@ -5,13 +5,12 @@ use mathlib.Core.List.{List}
 use Prim.Native.Nat.{ℕ, _+_, _-_, _*_, _/_, _≤_, _<_}
 use native.Mathlib.Omega.{arith}
 use native.Mathlib.Nat.{div-add-mod', mul-le-mul-right, lt-of-mul-lt-mul-left}
-use native.Mathlib.Decide.{ℕ-discrete}
 use lib.IntN.{ℤ}
 use lib.ListN.{length, getD, set, length-set}
-use lib.Seq.{getD-set-same, getD-set-other}
 use mir.Syntax.{w16, w32}
 use mir.Val.{Fits}
 use borrow.Author.Tests.{eq-eqb, ne-eqb}
+use Rattle.lists.proofs.Places.{put-more}
 use Rattle.turn.specs.Turn.{mostWorth}
 use Rattle.model.specs.Turns.{overlapping}
 use Rattle.model.specs.Steps.{residual, lessened, afterStepBy}
@@ -64,11 +63,13 @@ module _ (units amount : ℕ) where
   table-start shares l = record { places = l; each = λ d h. absurd (omega arith) }
 
   pub table-more : (k : ℕ) (shares : List ℕ) {share : ℕ} → 2 * k ≤ units → units ≤ mostUnits → share ≡ roundedUp (2 * k * amount) units → share ≤ amount → SharesTo units amount k shares → SharesTo units amount (k + 1) (set shares k share)
-  table-more k shares {share} h u e f c = record { places = length-set shares k share ∙ c .places; each = λ d l m. go d l m (ℕ-discrete d k) }
-    where
-      go : (d : ℕ) → d < k + 1 → 2 * d ≤ units → Dec (d ≡ k) → (getD (set shares k share) d 0 ≡ roundedUp (2 * d * amount) units) × (getD (set shares k share) d 0 ≤ amount)
-      go d l m (yes q) = let r : getD (set shares k share) k 0 ≡ share = getD-set-same shares k share 0 (omega (arith, c .places)) in rw (q, r) (e, f)
-      go d l m (no q) = rw (getD-set-other shares k d share 0 q) (c .each d (omega arith) m)
+  table-more k shares {share} h u e f c =
+      record {
+        places = length-set shares k share ∙ c .places;
+        each =
+            put-more (λ d x. 2 * d ≤ units → (x ≡ roundedUp (2 * d * amount) units) × (x ≤ amount)) shares k share
+            (omega (arith, c .places)) (c .each) (λ m. (e, f));
+      }
 
   pub table-done : (k : ℕ) (shares : List ℕ) → units < 2 * k → SharesTo units amount k shares → SharesBy units amount shares
   table-done k shares h c = record { places = c .places; each = λ d m. c .each d (omega arith) m }

@@ -97,41 +97,20 @@ pub ruleset read-cases = (read-fault, read-small)
 
 module _ (s : List ℕ) {a : ReadAnswer} (e : a ≡ answerOf s) where
   pub whole-refusal : a .refusal ≡ firstOf (sheetCauses s)
-  unfolding answerOf sheetCauses
+  unfolding sheetCauses
   whole-refusal = whole-refusal-for garage s e
 
   module _ (z : a .refusal ≡ 0) where
     pub whole-accepted : firstOf (sheetCauses s) ≡ 0
     whole-accepted = sym whole-refusal ∙ z
 
-    pub whole-answer : a ≡ readAnswer s
-    unfolding answerOf
-    whole-answer = whole-answer-for garage s e z
-
-    pub whole-turns : a .turns ≡ turnCount s
-    whole-turns = ap (λ (x : ReadAnswer). x .turns) whole-answer
-
     pub whole-few : a .turns ≤ mostTurns
-    unfolding answerOf garage
+    unfolding garage
     whole-few = whole-few-for garage s e z garage-sound
-
-    module _ (lent : List ℕ) {t : List ℕ} (w : a .refusal ≡ 0 → t ≡ atFront (tableOf s) lent) where
-      pub whole-room : rowNumbers * a .turns ≤ length t
-      unfolding answerOf
-      whole-room = whole-room-for garage s e z lent w
-
-      pub whole-table : take (rowNumbers * a .turns) t ≡ tableOf s
-      unfolding answerOf
-      whole-table = whole-table-for garage s e z lent w
-
-      pub whole-rows : length (take (rowNumbers * a .turns) t) ≡ rowNumbers * a .turns
-      unfolding answerOf
-      whole-rows = whole-rows-for garage s e z lent w
 
 -- its reader is that of its kind
 module _ (s : List ℕ) {K : Kind} (k : K ≡ garage) where
   pub answer-garage : {a : ReadAnswer} → a ≡ answerFor K s → a ≡ answerOf s
-  unfolding answerOf
   answer-garage e = e ∙ rw k
 
   pub read-garage : (lent : List ℕ) {x : Reading} → x ≡ readFor K s lent → x ≡ readOf s lent

@@ -121,7 +121,7 @@ unfoldable pub readCauses : List ℕ → ℕ → List Cause
 readCauses = readCausesFor garage
 
 -- its answer
-unfoldable pub answerOf : List ℕ → ReadAnswer
+abbrev pub answerOf : List ℕ → ReadAnswer
 answerOf = answerFor garage
 
 -- reading it

@@ -77,11 +77,7 @@ backwards [] = start
 backwards (c ∷ cs) = in-front c (backwards cs)
 
 nothing-spells : (x : ℕ) → Spells x [] → ⊥
-nothing-spells x s = go (s .short)
-  where
-    go : (_≡_ {A = ℕ} 0 1) ⊎ _≢_ {A = ℕ} 48 48 → ⊥
-    go (inl e) = omega (arith, e)
-    go (inr e) = e refl
+nothing-spells x s = elim (s .short) [ inl e ↦ omega (arith, e) | inr e ↦ e refl ]
 
 -- the last character is the last digit, if those before it are the digits of their value
 last-digit : (cs : List ℕ) (c x : ℕ) → ((y : ℕ) → Spells y cs → cs ≡ decimal y) → Spells x (cs ++ (c ∷ [])) → cs ++ (c ∷ []) ≡ decimal x

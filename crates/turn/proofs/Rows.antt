@@ -3,10 +3,10 @@ use Prim.Native.Nat.{ℕ, zero, suc, _+_, _-_, _*_, _%_, _<_, _≤_}
 use mathlib.Core.Path.{_≡_, refl, sym, _∙_, ap, ap₂}
 use mathlib.Core.List.{List, [], _∷_, _++_}
 use native.Mathlib.Omega.{arith}
-use native.Mathlib.Numerals.{add-one}
 use native.Mathlib.Nat.{zero-add}
 use lib.ListN.{length, getD, drop}
-use lib.Seq.{drop-cons, drop-length, drop-drop, getD-drop}
+use lib.Seq.{drop-length, drop-drop, getD-drop}
+use Rattle.lists.proofs.Places.{drop-step}
 use Rattle.turn.specs.declared.Turn.{Turn}
 use Rattle.turn.specs.Turn.{rowNumbers, rowOf, rows, turnIn, turnsOfTable, tableRows, tableTurns}
 
@@ -43,10 +43,6 @@ row-rest : (t : Turn) (rest table : List ℕ) (i : ℕ) → drop (i * rowNumbers
 row-rest t rest table i e =
     let n : (i + 1) * rowNumbers ≡ i * rowNumbers + rowNumbers = omega arith in
     rw n (sym (drop-drop rowNumbers (i * rowNumbers) table) ∙ ap (drop rowNumbers) e)
-
--- and the other way: where a row has its places, it is that of the turn there
-drop-step : (l : List ℕ) (j : ℕ) → j < length l → drop j l ≡ getD l j 0 ∷ drop (j + 1) l
-drop-step l j h = rw (add-one, drop-cons l j 0 h)
 
 turn-row : (table : List ℕ) (i : ℕ) → (i + 1) * rowNumbers ≤ length table → drop (i * rowNumbers) table ≡ rowOf (turnIn table i) ++ drop ((i + 1) * rowNumbers) table
 turn-row table i h =

@@ -1,13 +1,14 @@
 -- Invariant: the first i bytes are 0. Measure: the bytes left.
 use borrow.Author.Needs.{needs}
-use Rattle.best.proofs.AnswerCases.{Cleared, zeroed-cases}
-use Prim.Native.Nat.{_-_}
+use Prim.Native.Nat.{_-_, _≤_}
 use lib.ListN.{length}
+use Rattle.lists.proofs.Places.{clear-cases}
+use Rattle.lists.specs.Lists.{FilledTo}
 use Rattle.best.proofs.clear.Statement.{statement}
 use Rattle.best.proofs.clear.Tie as tie
 
 abbrev Inv-loop : tie.InvT-loop
-Inv-loop map₀ i₀ map i = Cleared map map₀ i
+Inv-loop map₀ i₀ map i = (i ≤ length map₀) × FilledTo (λ k. 0) (length map₀) map i
 
 abbrev μ-loop : tie.MeasureT-loop
 μ-loop map₀ i₀ map i = length map₀ - i
@@ -18,10 +19,10 @@ clear-spec =
     (tie.spec
     Inv-loop
     μ-loop
-    (λ c. search (needs, zeroed-cases))
-    (λ c. search (needs, zeroed-cases))
-    (λ c. search (needs, zeroed-cases))
-    (λ c. search (needs, zeroed-cases))
-    (λ c. search (needs, zeroed-cases))
-    (λ c. search (needs, zeroed-cases))
-    (λ c. search (needs, zeroed-cases)))
+    (λ c. search (needs, clear-cases))
+    (λ c. search (needs, clear-cases))
+    (λ c. search (needs, clear-cases))
+    (λ c. search (needs, clear-cases))
+    (λ c. search (needs, clear-cases))
+    (λ c. search (needs, clear-cases))
+    (λ c. search (needs, clear-cases)))

@@ -1,7 +1,7 @@
 -- Invariant: the list has the moves for the draws below d. Measure: the draws left.
 use borrow.Author.Needs.{needs}
-use Rattle.hall_moves.proofs.MoveCases.{moves-cases}
 use Prim.Native.Nat.{_-_, _≤_}
+use Rattle.lists.proofs.Places.{filled-cases}
 use Rattle.hall_moves.specs.Moves.{movePlaces, MovesTo}
 use Rattle.hall_moves.proofs.put_moves.Statement.{statement}
 use Rattle.hall_moves.proofs.put_moves.Tie as tie
@@ -18,12 +18,12 @@ put-moves-spec =
     (tie.spec
     Inv-loop
     μ-loop
-    (λ c. search (needs, moves-cases))
-    (λ c. search (needs, moves-cases))
-    (λ c κs. search (needs, moves-cases))
-    (λ c. search (needs, moves-cases))
-    (λ c. search (needs, moves-cases))
-    (λ c. search (needs, moves-cases))
-    (λ c. search (needs, moves-cases))
-    (λ c. search (needs, moves-cases))
-    (λ c. search (needs, moves-cases)))
+    (λ c. search (needs, filled-cases))
+    (λ c. search (needs, filled-cases))
+    (λ c κs. search (needs, filled-cases))
+    (λ c. search (needs, filled-cases))
+    (λ c. search (needs, filled-cases))
+    (λ c. search (needs, filled-cases))
+    (λ c. search (needs, filled-cases))
+    (λ c. search (needs, filled-cases))
+    (λ c. search (needs, filled-cases)))

@@ -1,7 +1,8 @@
-use Rattle.archive.proofs.RestoreCases.{record-kept, fields-room, fields-room-over}
+use Rattle.archive.proofs.RestoreCases.{fields-room, fields-room-over}
 use Rattle.write.proofs.Overs.{map-over-cases}
 use borrow.Author.Needs.{needs}
 use Rattle.archive.proofs.restoring.put_record.Statement.{statement}
+use Rattle.write.proofs.WriteRecords.{length-kept}
 use Rattle.archive.proofs.restoring.put_record.Tie as tie
 
 pub put-record-spec : {M : Type 1} → statement M
@@ -11,9 +12,9 @@ put-record-spec =
     (λ c. search needs)
     (λ c. search needs)
     (λ c κs. search (needs, fields-room))
-    (λ c. search (needs, record-kept))
+    (λ c. search (needs, length-kept))
     (λ c. search (needs, map-over-cases))
     (λ c. search needs)
     (λ c κs. search (needs, fields-room-over))
-    (λ c. search (needs, record-kept))
+    (λ c. search (needs, length-kept))
     (λ c. search (needs, map-over-cases)))
