@@ -22,5 +22,3 @@ module _ (seen limit : ℕ) where
 
     pub list-put : {list′ : List ℕ} → seen < limit → length prices ≡ length list → list′ ≡ puts list 0 prices → list′ ≡ cond (ltb seen limit) prices list
     list-put h l e = rw (lt-ltb seen limit h) (all-copied list prices l e)
-
-pub ruleset lower-cases = (lower-not, lower-is, list-stays, list-put)

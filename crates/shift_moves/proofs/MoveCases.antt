@@ -21,7 +21,7 @@ use Rattle.model.specs.Turns.{Turns, NoDrivers}
 use Rattle.model.specs.Choice.{has, chosen}
 use Rattle.choice_map.specs.Choice.{choiceIn}
 use Rattle.instance.specs.Columns.{rowIn, turnsBy}
-use Rattle.instance.proofs.Rows.{count-is, slope-at}
+use Rattle.instance.proofs.Rows.{slope-at}
 use Rattle.price_spec.specs.Prices.{slopePrice, turnPrice}
 use Rattle.prices.specs.declared.Extent.{Extent}
 use Rattle.prices.specs.OrdersAndCounts.{mostPrice, turnsIn, driversTurn, DriversUpTo, Ordered, Priced}
@@ -314,18 +314,6 @@ module _ (e : Extent) (cols orders relaxed : List ℕ) (change : ℕ) (prices : 
     unfolding turnsBy
     prices-lowered new z u q p b =
         all-lowered (turnsBy (e .size) cols) (e .slopes) (choiceIn (e .size .count) relaxed) change prices mid new (w .list) a (none-named e cols z u) (rw (p ∙ q) at b)
-
--- moved prices are a list of the same turns and slopes
-pub moved-priced : (e : Extent) (cols prices : List ℕ) (S : List Bool) (change : ℕ) → Priced e cols prices → Priced e cols (movedPrices (turnsIn e cols) (e .slopes) S change prices)
-moved-priced e cols prices S change w =
-    record {
-      places = w .places;
-      few = w .few;
-      few-slopes = w .few-slopes;
-      numbers = w .numbers;
-      drivers = w .drivers;
-      list = moved-length (turnsIn e cols) (e .slopes) S change prices ∙ ap (λ (n : ℕ). e .slopes + n) (count-is (e .size) cols);
-    }
 
 pub few-slopes : (e : Extent) (cols prices : List ℕ) → Priced e cols prices → e .slopes ≤ mostSlopes
 few-slopes e cols prices w = w .few-slopes
