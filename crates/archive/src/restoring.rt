@@ -139,7 +139,8 @@ fn judge_kept(k: &[u8], table: &mut [u16]) -> u8
     }
 }
 
-// A record from a place on, which at least so many bytes follow; the place behind it.
+// Puts a record at a place; returns the place behind it. At least `later` bytes follow: with two or more, each
+// field may be put without a test, since the next one goes over what is too much (put_fields_over).
 fn put_record(out: &mut [u8], at: usize, m: u8, t: Turn, later: usize) -> usize
     requires { ⌜ at + 1 + widthOf m + later ≤ length (now out) ⌝ }
     ensures { λ r. ⌜ (r ≡ at + 1 + widthOf m) × Over later (now (out .entry)) at (recordOf m t) (now (out .exit)) r ⌝ }

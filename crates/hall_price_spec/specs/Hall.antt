@@ -35,7 +35,7 @@ hallRule H vehicles =
       moved = λ change prices. movedMinutes H (hallRelaxed H prices) change prices;
     }
 
--- before the first look: every price is 0, the change is the greatest worth by 8, rounded up, in parts as the prices, and the choice is that of the hall's plan
+-- before the first look: every price is 0, the change is an eighth of the greatest worth, rounded up, in parts as the prices, and the choice is that of the hall's plan
 unfoldable pub hallStart : Hall → ℕ → Stage
 hallStart H vehicles = startFrom (hallRule H vehicles) (firstChange 8 (greatestOf (H .windows .worth) (below (windowCount H)))) (replicate shiftMinutes 0) (hallChoice H)
 

@@ -1,4 +1,4 @@
--- What the hall's functions ask of the columns that they are lent (request R-14). Assumes nothing.
+-- What the hall's functions ask of the columns that they are lent. For inner functions only (request R-14). Assumes nothing.
 use mathlib.Core.Path.{_≡_}
 use mathlib.Core.List.{List}
 use Prim.Native.Nat.{ℕ, _≤_, _<_}

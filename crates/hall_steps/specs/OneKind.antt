@@ -1,4 +1,4 @@
--- The windows of one kind in a hall that columns hold: which they are, what the engine gets of them, and their steps (request R-14). Assumes nothing.
+-- The windows of one kind in a hall that columns hold: which they are, what the engine gets of them, and their steps. For inner functions only (request R-14). Assumes nothing.
 use mathlib.Core.Bool.{Bool, not, cond}
 use mathlib.Core.List.{List}
 use Prim.Native.Nat.{ℕ}

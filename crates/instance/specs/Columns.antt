@@ -1,4 +1,4 @@
--- Turns in columns of numbers, one column behind another: slopes, groomers, starts, ends, worths, drivers (no rule of its own). Assumes nothing.
+-- Turns in columns of numbers, one column behind another: slopes, groomers, starts, ends, worths, drivers (no rule of its own). For inner functions only. Assumes nothing.
 use mathlib.Core.Path.{_≡_}
 use mathlib.Core.Bool.{cond}
 use mathlib.Core.List.{List}

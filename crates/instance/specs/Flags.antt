@@ -1,4 +1,4 @@
--- A flag for each number of a slope: whether one of some turns is on it (no rule of its own). Assumes nothing.
+-- A flag for each number of a slope: whether one of some turns is on it (no rule of its own). For inner functions only. Assumes nothing.
 use mathlib.Core.Path.{_≡_}
 use mathlib.Core.Bool.{Bool, not, _&&_}
 use mathlib.Core.List.{List}

@@ -1,4 +1,4 @@
--- From a sheet's table to the columns: what the functions on the way ask and give (no rule of its own). Assumes nothing.
+-- From a sheet's table to the columns: what the functions on the way ask and give (no rule of its own). For inner functions only. Assumes nothing.
 use mathlib.Core.Path.{_≡_}
 use mathlib.Core.List.{List}
 use Prim.Native.Nat.{ℕ, _+_, _<_}

@@ -1,4 +1,4 @@
--- By which ways two turns conflict, said of their rows (document 01: turns and when they clash; requests R-2, R-5). Assumes nothing.
+-- By which ways two turns conflict, said of their rows. For inner functions only (document 01: turns and when they clash; requests R-2, R-5). Assumes nothing.
 use mathlib.Core.Bool.{Bool, _&&_, _||_}
 use Prim.Native.Nat.{ℕ, _+_}
 use lib.Dec.{ltb, eqb}

@@ -1,6 +1,6 @@
-// By which ways two turns conflict. Steps, the order of steps, choices and the search ask here. The table of
-// the best worth, whose turns have different slopes and no drivers, tests groomer and gap itself
-// (is_in_the_way of best_table).
+// By which ways two turns conflict. Steps, the order of steps, the planner's choice, the check and the search
+// ask here. The table of the best worth reads neither slopes nor drivers and tests groomer and gap itself
+// (is_in_the_way of best_table); the choice in rounds goes by that table's orders.
 ghost use mathlib.Core.Path.{_≡_};
 ghost use Prim.Native.Nat.{_<_};
 ghost use Rattle.model.specs.Turns.{overlapping};

@@ -1,4 +1,4 @@
--- A problem's turns by end, in columns of their own: which turn stands at a place, and at which place a turn stands (no rule of its own). Assumes nothing.
+-- A problem's turns by end, in columns of their own: which turn stands at a place, and at which place a turn stands (no rule of its own). For inner functions only. Assumes nothing.
 use mathlib.Core.Path.{_≡_}
 use mathlib.Core.Logic.{_≢_}
 use mathlib.Core.Bool.{cond}

@@ -104,7 +104,7 @@ pub fn put_places(order: &[u16], places: &mut [u16])
     }
 }
 
-// The place of a turn, and how many there are where it is none.
+// The place of a turn, or the number of turns if the turn has none.
 pub fn place_of(places: &[u16], t: u16) -> usize
     ensures { λ r. ⌜ r ≡ placeAt (now (places .entry)) t ⌝ }
 {

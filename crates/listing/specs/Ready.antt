@@ -1,4 +1,4 @@
--- What the listing's functions ask of what they are lent (document 01: the program slopes). Assumes nothing.
+-- What the listing's functions ask of what they are lent. For inner functions only (document 01: the program slopes). Assumes nothing.
 use Prim.Native.Nat.{ℕ}
 use mathlib.Core.List.{List}
 use Rattle.choice_map.specs.Choice.{choiceIn, Clean}

@@ -1,4 +1,4 @@
--- The days of all groomers as one table of numbers: for each groomer rows of three places, a stint each, cut off at the shift's end. For inner functions only (request R-13). Assumes nothing.
+-- How the table of days is filled, turn by turn in order of start. For inner functions only (request R-13). Assumes nothing.
 use mathlib.Core.Path.{_≡_}
 use mathlib.Core.Bool.{Bool, cond}
 use mathlib.Core.List.{List, [], _∷_}

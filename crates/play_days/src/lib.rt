@@ -30,7 +30,7 @@ pub const MINUTES: u16 = turn::SHIFT_MINUTES as u16;
 // As many groomers as a sheet can have.
 pub const GROOMERS: usize = sheet::MOST_GROOMERS as usize;
 
-// Each stint that is over has driven over, so that no more than these come up in a shift.
+// Ten minutes of driving over follow each stint, so no more than these can be over in a shift.
 const DAY_ROWS: usize = (turn::SHIFT_MINUTES / OVER_MINUTES as u32) as usize;
 
 // Turn, begin, end.

@@ -30,7 +30,7 @@ delayIn delays u = getD delays u 0
 unfoldable pub delaysFit : List ℕ → ℕ → Bool
 delaysFit delays n = every (λ u. ltb (delayIn delays u) (suc mostDelay)) n
 
--- the minutes in which a turn is worked, where its groomer is free from some minute on: from the planned one, or from that one if it is later; for its length and its delay
+-- turn u as it is worked by a groomer that is free from a minute on: it begins at its start or, if later, at that minute, and lasts its length and its delay
 unfoldable pub stintOf : Turns → (ℕ → ℕ) → ℕ → ℕ → Stint
 stintOf T delay free u =
     let begin = max (T .start u) free in
@@ -118,7 +118,7 @@ InStint k m = (k .begin ≤ m) × (m < k .end)
 abbrev pub OverFrom : Stint → ℕ → Type 0
 OverFrom k m = (k .end ≤ m) × (m < k .end + overMinutes)
 
--- in minute m of a day d is done
+-- in minute m of a day, d is what is done
 pub record DoingIs (day : List Stint) (m : ℕ) (d : Doing) : Type 0 where
   -- a turn is worked just in the minutes of its stint
   pub works-iff : (u : ℕ) → (d ≡ works u) ↔ ((i : ℕ) × (i < length day) × (stintAt day i .turn ≡ u) × InStint (stintAt day i) m)

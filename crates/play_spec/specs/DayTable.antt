@@ -11,7 +11,7 @@ use Rattle.model.specs.Turns.{Turns}
 use Rattle.play_spec.specs.declared.Stint.{Stint}
 use Rattle.play_spec.specs.Day.{overMinutes, mostDelay, delayIn, dayOf, Doing, works, drives, stands}
 
--- the stints that a day can have gone through: each has driven over
+-- the most stints that can be over in a shift: driving over follows each
 abbrev pub dayRows : ℕ
 dayRows = shiftMinutes / overMinutes
 
@@ -29,7 +29,7 @@ dayTablePlaces = mostGroomers * dayPlaces
 unfoldable pub cut : ℕ → ℕ
 cut x = cond (ltb x shiftMinutes) x shiftMinutes
 
--- where row j of its day starts
+-- where row j of groomer g's day starts, groomers from 0
 abbrev pub stintPlace : ℕ → ℕ → ℕ
 stintPlace g j = g * dayPlaces + j * rowSize
 

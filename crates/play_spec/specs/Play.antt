@@ -68,7 +68,7 @@ pub data DelaysFail (s delays : List ℕ) : Type 0 where
 abbrev pub LentPlayCause : List ℕ → List ℕ → ℕ → ℕ → ℕ → Type 0
 LentPlayCause s delays = ThenRoom (Only badDelays (DelaysFail s delays)) 1 (countsIn s .groomers)
 
--- a cause to refuse is there, at its place in the order: behind those of the check, of which the six for a board are the last
+-- a cause to refuse is there, at its place in the order: behind a sheet's places the board's six stand at 1 to 6, so these begin at 7
 abbrev pub PlayCause : List ℕ → List ℕ → List ℕ → ℕ → ℕ → ℕ → Type 0
 PlayCause s b delays places = Then (CheckCause s b) (placeOf (turnCount s) 7) (LentPlayCause s delays places)
 

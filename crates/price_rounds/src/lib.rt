@@ -38,7 +38,7 @@ pub struct Start {
     pub worth: u32,
 }
 
-// What make_rounds gets: the rule, the most rounds, and the worth of the choice to start from.
+// The rule beside them.
 pub struct Task {
     pub rule: RuleFor,
     pub rounds: u32,

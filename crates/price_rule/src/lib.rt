@@ -107,7 +107,8 @@ fn choose_in_hall(h: HallSize, cols: &[u16; PLACES], list: &[u16], map: &mut [u8
     round_parts::worth_chosen(p, cols, &*map)
 }
 
-// The same by either rule; a shift's turns are tested by the runs of its orders.
+// Goes through a list from its last number to its first and chooses each turn or window that fits; a shift's
+// turns are tested by the runs of its orders.
 fn choose_listed(
     r: RuleFor,
     cols: &[u16; PLACES],

@@ -21,7 +21,7 @@ pub record Stage : Type 0 where
   pub choice : List Bool
   pub worth : ℕ
 
--- before the first look: its own limit stands already, so that the look finds none lower
+-- before the first look: the kept limit is that of the first prices already, so the first look does not lower it
 unfoldable pub startFrom : RoundRule → ℕ → List ℕ → List Bool → Stage
 startFrom R change prices S = record { prices = prices; change = change; rounds = 0; limit = R .limit prices; list = prices; choice = S; worth = R .worth S }
 
@@ -58,7 +58,7 @@ betterChoice R x =
 unfoldable pub looked : RoundRule → Stage → Stage
 looked R x = betterChoice R (lowerLimit R x)
 
--- the change of the next round: fifteen sixteenths of it, rounded down, and never below 1
+-- the change of the next round: fifteen sixteenths of the last one, rounded down, never below 1
 unfoldable pub nextChange : ℕ → ℕ
 nextChange change = max 1 (15 * change / 16)
 

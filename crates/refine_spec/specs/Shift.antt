@@ -61,7 +61,7 @@ shiftRule T groomers slopes =
 unfoldable pub greatestWorth : Turns → ℕ
 greatestWorth T = greatestOf (T .worth) (below (T .count))
 
--- before the first look: every price is 0, the change is the greatest worth by 4, rounded up, and the choice is the planner's
+-- before the first look: every price is 0, the change is a quarter of the greatest worth, rounded up, and the choice is the planner's
 unfoldable pub shiftStart : Turns → ℕ → ℕ → Stage
 shiftStart T groomers slopes = startFrom (shiftRule T groomers slopes) (firstChange 4 (greatestWorth T)) (replicate (slopes + T .count) 0) (choice T)
 

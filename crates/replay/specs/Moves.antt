@@ -1,4 +1,4 @@
--- A board's written steps by place: each with the place of its turn for the turn's number (no rule of its own). Assumes nothing.
+-- A board's written steps by place: each with the place of its turn for the turn's number (no rule of its own). For inner functions only. Assumes nothing.
 use Prim.Native.Nat.{ℕ}
 use mathlib.Core.List.{List}
 use Rattle.model.specs.Steps.{Step}

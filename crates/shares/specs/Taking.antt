@@ -1,4 +1,4 @@
--- A step by shares, in columns and of rows (request R-14). Assumes nothing.
+-- A step by shares, in columns and of rows. For inner functions only (request R-14). Assumes nothing.
 use mathlib.Core.Path.{_≡_}
 use mathlib.Core.Bool.{cond}
 use mathlib.Core.List.{List}
