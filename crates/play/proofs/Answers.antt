@@ -43,8 +43,8 @@ use Rattle.play_spec.specs.DayTable.{DelaysFit, Days}
 use Rattle.play_spec.proofs.Delays.{fit-delays}
 use Rattle.play_spec.specs.declared.Standing.{Standing}
 use Rattle.play_spec.specs.declared.PlayAnswer.{PlayAnswer}
-use Rattle.play.specs.declared.Prepared.{Prepared}
-use Rattle.play.specs.declared.Lent.{Lent}
+use Rattle.play.specs.declared.preparing.Prepared.{Prepared}
+use Rattle.play.specs.declared.preparing.Lent.{Lent}
 use Rattle.play_days.specs.Table.{blankTable, GroomersKnown, Playable}
 use Rattle.play_days.proofs.Rows.{blank-places}
 use Rattle.play_spec.specs.Standing.{standingAfter}

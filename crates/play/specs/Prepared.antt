@@ -12,8 +12,8 @@ use Rattle.instance_spec.specs.Problem.{sheetTurns}
 use Rattle.board.specs.Board.{boardChoice}
 use Rattle.play_spec.specs.Day.{delayIn}
 use Rattle.play_spec.specs.DayTable.{dayTablePlaces, Days}
-use Rattle.play.specs.declared.Prepared.{Prepared}
-use Rattle.play.specs.declared.Lent.{Lent}
+use Rattle.play.specs.declared.preparing.Prepared.{Prepared}
+use Rattle.play.specs.declared.preparing.Lent.{Lent}
 use Rattle.play_spec.specs.Play.{playCauses}
 
 -- what is known before the first minute, where these are the causes to refuse: the answer, and where none is there a table that holds the days

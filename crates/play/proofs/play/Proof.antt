@@ -1,4 +1,4 @@
--- `play::play` meets its contract: a walk of its MIR, by hand, with no loop. The blank table is put into a local, which is lent to the covered `checked` for a lifetime that is made for the call; then the local has its array back. Where something is refused, the answer is made and the list is as it was. Otherwise the table is lent once more, as a shared slice, to `minutes`; the list is lent on for good. Assumes nothing.
+-- `play::play` meets its contract: a walk of its MIR, by hand, with no loop. The blank table is put into a local, which is lent to the covered `prepare` for a lifetime that is made for the call; then the local has its array back. Where something is refused, the answer is made and the list is as it was. Otherwise the table is lent once more, as a shared slice, to `minutes`; the list is lent on for good. Assumes nothing.
 --     big-lit          a constant whose bound a proof shows
 --     plays            what follows where nothing is refused
 use mathlib.Core.Path.{_≡_, refl, sym, ap, subst}
@@ -53,7 +53,7 @@ use Rattle.play_spec.specs.DayTable.{dayTablePlaces}
 use Rattle.turn.specs.Turn.{shiftMinutes}
 use Rattle.sheet.specs.Kind.{mostGroomers}
 use Rattle.play_spec.specs.declared.Standing.{Standing}
-use Rattle.play.specs.declared.Prepared.{Prepared}
+use Rattle.play.specs.declared.preparing.Prepared.{Prepared}
 use Rattle.play_spec.specs.declared.PlayAnswer.{PlayAnswer}
 use Rattle.refusal.specs.Outcome.{beside}
 use Rattle.play_spec.specs.Play.{playOf}
@@ -64,22 +64,22 @@ use Rattle.play_days.proofs.Rows.{blank-made}
 use Rattle.play.proofs.Whole.{all-typed, all-in, elements, elements-back}
 use Rattle.play.proofs.Answers.{is-some, is-none, play-refused, play-answer}
 use Rattle.play_spec.proofs.Standing as T
-use Rattle.play.proofs.Prepared as P
-use Rattle.play.proofs.Prepared.Laws as P′
+use Rattle.play.proofs.preparing.Prepared as P
+use Rattle.play.proofs.preparing.Prepared.Laws as P′
 use Rattle.play_spec.proofs.PlayAnswer as E
 use Rattle.play_spec.proofs.PlayAnswer.Laws as E′
 use Rattle.play.proofs.answer_of as answer
 use Rattle.play.proofs.answer_of.Symbol as answer-def
 use Rattle.play.proofs.answer_of.Symbol.{name as #play·answer_of}
 use Rattle.play.proofs.answer_of.Met as answer-thm
-use Rattle.play.proofs.checked as checked
-use Rattle.play.proofs.checked.Symbol as checked-def
-use Rattle.play.proofs.checked.Symbol.{name as #play·checked}
-use Rattle.play.proofs.checked.Met as checked-thm
-use Rattle.play.proofs.minutes as minutes
-use Rattle.play.proofs.minutes.Symbol as minutes-def
-use Rattle.play.proofs.minutes.Symbol.{name as #play·minutes}
-use Rattle.play.proofs.minutes.Met as minutes-thm
+use Rattle.play.proofs.preparing.prepare as prepare
+use Rattle.play.proofs.preparing.prepare.Symbol as prepare-def
+use Rattle.play.proofs.preparing.prepare.Symbol.{name as #play·prepare}
+use Rattle.play.proofs.preparing.prepare.Met as prepare-thm
+use Rattle.play.proofs.moving.minutes as minutes
+use Rattle.play.proofs.moving.minutes.Symbol as minutes-def
+use Rattle.play.proofs.moving.minutes.Symbol.{name as #play·minutes}
+use Rattle.play.proofs.moving.minutes.Met as minutes-thm
 use Rattle.play.proofs.play.Key.{name as #play·play}
 use Rattle.play.proofs.play as f
 use Rattle.play.proofs.play.Statement as stated
@@ -136,8 +136,8 @@ module _ {M : Type 1} {𝓤 : URA M} {H : Heap 𝓤} {A : Atoms 𝓤} {K : Type 
 
 module _ {M : Type 1} (𝓤 : URA M) (H : Heap 𝓤) (A : Atoms 𝓤) (mem : Memory → SProp 𝓤) (run : Routine → Fun 𝓤) where
   -- the contracts that the proof cites
-  abbrev Checked : Contract 𝓤
-  Checked = tripleOf 𝓤 H A checked.signature (checked.spec 𝓤 H A mem run)
+  abbrev Prepare : Contract 𝓤
+  Prepare = tripleOf 𝓤 H A prepare.signature (prepare.spec 𝓤 H A mem run)
 
   abbrev Minutes : Contract 𝓤
   Minutes = tripleOf 𝓤 H A minutes.signature (minutes.spec 𝓤 H A mem run)
@@ -199,15 +199,15 @@ module _ {M : Type 1} (𝓤 : URA M) (H : Heap 𝓤) (A : Atoms 𝓤) (W : Given
   abbrev tx : ℕ → GName → List ℕ → RefT (List ℕ)
   tx k δ xs = record { ptr = (k, 0); name = δ; now = xs }
 
-  -- what `checked` binds outside, what it asks, and what it says
+  -- what `prepare` binds outside, what it asks, and what it says
   abbrev Lent-to : ℕ → ℕ → GName → RefT (List ℕ) × (RefT (List ℕ) × (RefT (List ℕ) × (ℕ × (RefT (List ℕ) × Unit {0}))))
   Lent-to k ν δ = (c, (d, (e, (length ys, (tx k δ blankTable, tt)))))
 
-  abbrev to-checked : ℕ → ℕ → GName → Checked 𝓤 H A mem run .Ghost
-  to-checked k ν δ = (((κ′, (ν ∷ [], tt)), (q′, (fullShare, tt)), tt, Lent-to k ν δ, (ss ∷ [], (bs ∷ [], (ds ∷ [], (vint w64 (length ys) ∷ [], (vptr k 0 ∷ [], tt)))))), tt)
+  abbrev to-prepare : ℕ → ℕ → GName → Prepare 𝓤 H A mem run .Ghost
+  to-prepare k ν δ = (((κ′, (ν ∷ [], tt)), (q′, (fullShare, tt)), tt, Lent-to k ν δ, (ss ∷ [], (bs ∷ [], (ds ∷ [], (vint w64 (length ys) ∷ [], (vptr k 0 ∷ [], tt)))))), tt)
 
-  goes-checked : (k ν : ℕ) (δ : GName) → ent 𝓤 (⋆ 𝓤 H A ((‵ (flft κ′ q′) ⊛ ‵ (flft (ν ∷ []) fullShare)) ∷ (‵ Sheet ⊛ ‵ Board ⊛ ‵ Delays ⊛ ‵ (MutRef (named 1) (ν ∷ []) Tab .own (tx k δ blankTable) (vptr k 0 ∷ []))) ∷ [])) (Checked 𝓤 H A mem run .pre (to-checked k ν δ))
-  goes-checked k ν δ =
+  goes-prepare : (k ν : ℕ) (δ : GName) → ent 𝓤 (⋆ 𝓤 H A ((‵ (flft κ′ q′) ⊛ ‵ (flft (ν ∷ []) fullShare)) ∷ (‵ Sheet ⊛ ‵ Board ⊛ ‵ Delays ⊛ ‵ (MutRef (named 1) (ν ∷ []) Tab .own (tx k δ blankTable) (vptr k 0 ∷ []))) ∷ [])) (Prepare 𝓤 H A mem run .pre (to-prepare k ν δ))
+  goes-prepare k ν δ =
       qed W ((‵ (flft κ′ q′) ⊛ ‵ (flft (ν ∷ []) fullShare)) ∷ (‵ Sheet ⊛ ‵ Board ⊛ ‵ Delays ⊛ ‵ (MutRef (named 1) (ν ∷ []) Tab .own (tx k δ blankTable) (vptr k 0 ∷ []))) ∷ []) ∵ says ! refl $
       split ! $ nothing ! $ move ! (2 ∷ 0 ∷ []) $ join ! $ move ! (1 ∷ 0 ∷ []) $ join ! $ frame ! $ split ! $ move ! (1 ∷ []) $ split ! $ move ! (1 ∷ []) $ split ! $
       -- [the delays'; the table's; the board's; the sheet's]
@@ -257,7 +257,7 @@ module _ {M : Type 1} (𝓤 : URA M) (H : Heap 𝓤) (A : Atoms 𝓤) (W : Given
         moved-fits : p .moved < 2 ^ 64
         moved-fits = let l = found .few in omega (arith, l)
 
-  module _ (𝓣 : Tables 𝓤 H) (fm : FmC 𝓤 H (W .laws) (𝓣 .C)) (known-checked : Triple 𝓤 (𝓣 .C #play·checked) (Checked 𝓤 H A mem run)) (known-minutes : Triple 𝓤 (𝓣 .C #play·minutes) (Minutes 𝓤 H A mem run)) (known-answer : Triple 𝓤 (𝓣 .C #play·answer_of) (Answer 𝓤 H A mem run)) where
+  module _ (𝓣 : Tables 𝓤 H) (fm : FmC 𝓤 H (W .laws) (𝓣 .C)) (known-prepare : Triple 𝓤 (𝓣 .C #play·prepare) (Prepare 𝓤 H A mem run)) (known-minutes : Triple 𝓤 (𝓣 .C #play·minutes) (Minutes 𝓤 H A mem run)) (known-answer : Triple 𝓤 (𝓣 .C #play·answer_of) (Answer 𝓤 H A mem run)) where
     abbrev En : ℕ → ℕ → ℕ → ℕ → ℕ → ℕ → ℕ → ℕ → ℕ → ℕ → ℕ → ℕ → ℕ → ℕ → ℕ → Env 𝓤 H
     En l₀ l₁ l₂ l₃ l₄ l₅ l₆ l₇ l₈ l₉ l₁₀ l₁₁ l₁₂ l₁₃ l₁₄ = (answer-ty, l₀) ∷ (bytes-ty, l₁) ∷ (bytes-ty, l₂) ∷ (words-ty, l₃) ∷ (list-ty, l₄) ∷ (array-ty, l₅) ∷ (prepared-ty, l₆) ∷ (word, l₇) ∷ (mut-ref, l₈) ∷ (tyBool, l₉) ∷ (tyUnit, l₁₀) ∷ (again-ref, l₁₁) ∷ (again-ty, l₁₂) ∷ (array-ref, l₁₃) ∷ (table-ty, l₁₄) ∷ []
 
@@ -322,11 +322,11 @@ module _ {M : Type 1} (𝓤 : URA M) (H : Heap 𝓤) (A : Atoms 𝓤) (W : Given
         move ! (8 ∷ []) $ use1 W (‵ Delays ⊛ ‵ Delays) (shr-slice-copy 𝓤 H A W (named 0) κ′ u16 .twice e (ds ∷ [])) $ split ! $ move ! (9 ∷ []) $ use1 W (‵ Board ⊛ ‵ Board) (shr-slice-copy 𝓤 H A W (named 0) κ′ u8 .twice d (bs ∷ [])) $ split ! $
         move ! (10 ∷ []) $ use1 W (‵ Sheet ⊛ ‵ Sheet) (shr-slice-copy 𝓤 H A W (named 0) κ′ u8 .twice c (ss ∷ [])) $ split ! $
         -- [the sheet's, twice; the board's, twice; the delays', twice; the table's; the lender's; ν's token; the list's; its token; the slices' token; _14; …]
-        move ! (4 ∷ 6 ∷ []) $ join ! $ move ! (3 ∷ 0 ∷ []) $ join ! $ move ! (1 ∷ 0 ∷ []) $ join ! $ move ! (8 ∷ 5 ∷ []) $ join ! $ use2 W (raw (Checked 𝓤 H A mem run .pre (to-checked l₅ ν δ))) (goes-checked l₅ ν δ) $
-        -- [what `checked` asks; the sheet's; the board's; the delays'; the lender's; the list's; its token; _14; …]
-        calls-at ! fm (Checked 𝓤 H A mem run) known-checked (to-checked l₅ ν δ) (and-then ! (load ! (from ! (stop !)) (look ! 32 refl)) (and-then ! (load ! (from ! (stop !)) (look ! 30 refl)) (and-then ! (load ! (from ! (stop !)) (look ! 28 refl)) (and-then ! (load ! (from ! (stop !)) (look ! 21 refl)) (and-then ! (load ! (from ! (stop !)) (look ! 19 refl)) (no-more !)))))) (λ v.
-        use1 W (later (some (λ (p : Prepared). ((‵ (flft κ′ q′) ⊛ ‵ (flft (ν ∷ []) fullShare) ⊛ ‵ ftrue) ⊛ ‵ (P.the-row .own p (v ∷ []))) ⊛ raw (ensured 𝓤 H A checked.ended (checked.clauses 𝓤 H A mem run) (κ′, (ν ∷ [], tt)) (Lent-to l₅ ν δ) tt p)))) (id⊢ 𝓤 _) $ await ! tt $ pick ! (λ p.
-        split ! $ move ! (1 ∷ []) $ use1 W (some (λ (zs : Unit {0} × (Unit {0} × (Unit {0} × (Unit {0} × (List ℕ × Unit {0}))))). ‵ (lasts checked.ended (κ′, (ν ∷ [], tt)) (Lent-to l₅ ν δ) zs) ⊛ raw (fact 𝓤 (Found p (zs .1 .1 .1 .1 .0))))) (id⊢ 𝓤 _) $ pick ! (λ zs.
+        move ! (4 ∷ 6 ∷ []) $ join ! $ move ! (3 ∷ 0 ∷ []) $ join ! $ move ! (1 ∷ 0 ∷ []) $ join ! $ move ! (8 ∷ 5 ∷ []) $ join ! $ use2 W (raw (Prepare 𝓤 H A mem run .pre (to-prepare l₅ ν δ))) (goes-prepare l₅ ν δ) $
+        -- [what `prepare` asks; the sheet's; the board's; the delays'; the lender's; the list's; its token; _14; …]
+        calls-at ! fm (Prepare 𝓤 H A mem run) known-prepare (to-prepare l₅ ν δ) (and-then ! (load ! (from ! (stop !)) (look ! 32 refl)) (and-then ! (load ! (from ! (stop !)) (look ! 30 refl)) (and-then ! (load ! (from ! (stop !)) (look ! 28 refl)) (and-then ! (load ! (from ! (stop !)) (look ! 21 refl)) (and-then ! (load ! (from ! (stop !)) (look ! 19 refl)) (no-more !)))))) (λ v.
+        use1 W (later (some (λ (p : Prepared). ((‵ (flft κ′ q′) ⊛ ‵ (flft (ν ∷ []) fullShare) ⊛ ‵ ftrue) ⊛ ‵ (P.the-row .own p (v ∷ []))) ⊛ raw (ensured 𝓤 H A prepare.ended (prepare.clauses 𝓤 H A mem run) (κ′, (ν ∷ [], tt)) (Lent-to l₅ ν δ) tt p)))) (id⊢ 𝓤 _) $ await ! tt $ pick ! (λ p.
+        split ! $ move ! (1 ∷ []) $ use1 W (some (λ (zs : Unit {0} × (Unit {0} × (Unit {0} × (Unit {0} × (List ℕ × Unit {0}))))). ‵ (lasts prepare.ended (κ′, (ν ∷ [], tt)) (Lent-to l₅ ν δ) zs) ⊛ raw (fact 𝓤 (Found p (zs .1 .1 .1 .1 .0))))) (id⊢ 𝓤 _) $ pick ! (λ zs.
         split ! $ move ! (1 ∷ []) $ heard ! (Found p (zs .1 .1 .1 .1 .0)) (λ found.
         fsplit ! $ drop ! $ fsplit ! $ drop ! $ fsplit ! $ drop ! $ fsplit ! $ drop ! $ fsplit ! $ move ! (1 ∷ []) $ drop ! $ move ! (1 ∷ []) $ split ! $ split ! $ move ! (1 ∷ []) $ split ! $ move ! (1 ∷ []) $ drop ! $ move ! (2 ∷ []) $
         peeks ! P.the-row (Is P.the-row) (shows 𝓤 H A P.the-row) p (v ∷ []) (λ is.
@@ -359,20 +359,20 @@ module _ {M : Type 1} (𝓤 : URA M) (H : Heap 𝓤) (A : Atoms 𝓤) (W : Given
         settled p v is = subst (Is P.the-row p) (LL.tells P.the-type P′.the-laws p (v ∷ []) is) is
 
 module _ {M : Type 1} (𝓤 : URA M) (H : Heap 𝓤) (A : Atoms 𝓤) (W : Given 𝓤 H A) (mem : Memory → SProp 𝓤) (run : Routine → Fun 𝓤) where
-  play-walks : (𝓣 : Tables 𝓤 H) → Triple 𝓤 (𝓣 .C #play·checked) (Checked 𝓤 H A mem run) → Triple 𝓤 (𝓣 .C #play·minutes) (Minutes 𝓤 H A mem run) → Triple 𝓤 (𝓣 .C #play·answer_of) (Answer 𝓤 H A mem run) → Walks 𝓤 H A f.ended stayed (WpFn 𝓤 H (𝓣 .C) (𝓣 .Λ) code.function) (f.clauses 𝓤 H A mem run)
-  play-walks 𝓣 known-checked known-minutes known-answer = walked 𝓤 H A f.ended stayed (f.clauses 𝓤 H A mem run) (WpFn 𝓤 H (𝓣 .C) (𝓣 .Λ) code.function)
+  play-walks : (𝓣 : Tables 𝓤 H) → Triple 𝓤 (𝓣 .C #play·prepare) (Prepare 𝓤 H A mem run) → Triple 𝓤 (𝓣 .C #play·minutes) (Minutes 𝓤 H A mem run) → Triple 𝓤 (𝓣 .C #play·answer_of) (Answer 𝓤 H A mem run) → Walks 𝓤 H A f.ended stayed (WpFn 𝓤 H (𝓣 .C) (𝓣 .Λ) code.function) (f.clauses 𝓤 H A mem run)
+  play-walks 𝓣 known-prepare known-minutes known-answer = walked 𝓤 H A f.ended stayed (f.clauses 𝓤 H A mem run) (WpFn 𝓤 H (𝓣 .C) (𝓣 .Λ) code.function)
       (λ κs. (slice-vals, (slice-vals, (slice-vals, (slice-vals, tt))))) (λ κs. (shr-slice-tells (named 0) (κs .0) u8, (shr-slice-tells (named 0) (κs .0) u8, (shr-slice-tells (named 0) (κs .0) u16, (mut-slice-tells (named 1) (κs .1 .0) T.the-row, tt)))))
       (λ κs qs bounds a g are. via 𝓤 _ (fst∗ 𝓤 _ (emp 𝓤))
-      (walk 𝓤 H A W mem run (κs .1 .0) (κs .0) (qs .1 .0) (qs .0) (a .1 .1 .1 .0 .ptr .0) (a .1 .1 .1 .0 .ptr .1) (a .1 .1 .1 .0 .name) (a .1 .1 .1 .0 .now) (a .0) (a .1 .0) (a .1 .1 .0) (are .1 .1 .1 .0 .0 .1) (are .0 .0 .1) (are .1 .0 .0 .1) (are .1 .1 .0 .0 .1) 𝓣 (fmOf 𝓤 H (W .laws) 𝓣) known-checked known-minutes known-answer))
+      (walk 𝓤 H A W mem run (κs .1 .0) (κs .0) (qs .1 .0) (qs .0) (a .1 .1 .1 .0 .ptr .0) (a .1 .1 .1 .0 .ptr .1) (a .1 .1 .1 .0 .name) (a .1 .1 .1 .0 .now) (a .0) (a .1 .0) (a .1 .1 .0) (are .1 .1 .1 .0 .0 .1) (are .0 .0 .1) (are .1 .0 .0 .1) (are .1 .1 .0 .0 .1) 𝓣 (fmOf 𝓤 H (W .laws) 𝓣) known-prepare known-minutes known-answer))
 
   goes : AllGo 𝓤 H A W 2 (f.signature .params) (f.ended .kept) stayed
   goes = (goes-none-slice 𝓤 H A W 2 (0 ∷ []) tt (plain (λ _. u8)) yes, (goes-none-slice 𝓤 H A W 2 (0 ∷ []) tt (plain (λ _. u8)) yes, (goes-none-slice 𝓤 H A W 2 (0 ∷ []) tt (plain (λ _. u16)) yes, (goes-gave-slice 𝓤 H A W 2 1 tt (plain (λ _. T.the-row)), tt))))
 
-play-meets : {M : Type 1} (𝓤 : URA M) (H : Heap 𝓤) (A : Atoms 𝓤) → Given 𝓤 H A → (mem : Memory → SProp 𝓤) (run : Routine → Fun 𝓤) (𝓣 : Tables 𝓤 H) → Triple 𝓤 (𝓣 .C #play·checked) (Checked 𝓤 H A mem run) → Triple 𝓤 (𝓣 .C #play·minutes) (Minutes 𝓤 H A mem run) → Triple 𝓤 (𝓣 .C #play·answer_of) (Answer 𝓤 H A mem run)
+play-meets : {M : Type 1} (𝓤 : URA M) (H : Heap 𝓤) (A : Atoms 𝓤) → Given 𝓤 H A → (mem : Memory → SProp 𝓤) (run : Routine → Fun 𝓤) (𝓣 : Tables 𝓤 H) → Triple 𝓤 (𝓣 .C #play·prepare) (Prepare 𝓤 H A mem run) → Triple 𝓤 (𝓣 .C #play·minutes) (Minutes 𝓤 H A mem run) → Triple 𝓤 (𝓣 .C #play·answer_of) (Answer 𝓤 H A mem run)
     → Meets 𝓤 H A f.signature (WpFn 𝓤 H (𝓣 .C) (𝓣 .Λ) code.function) (f.spec 𝓤 H A mem run)
-play-meets 𝓤 H A W mem run 𝓣 known-checked known-minutes known-answer =
+play-meets 𝓤 H A W mem run 𝓣 known-prepare known-minutes known-answer =
     walk-meets 𝓤 H A f.ended stayed W (goes 𝓤 H A W mem run) (f.clauses 𝓤 H A mem run)
-    (WpFn 𝓤 H (𝓣 .C) (𝓣 .Λ) code.function) (WpFn-mono 𝓤 H (W .laws) 𝓣 code.function) (play-walks 𝓤 H A W mem run 𝓣 known-checked known-minutes known-answer)
+    (WpFn 𝓤 H (𝓣 .C) (𝓣 .Λ) code.function) (WpFn-mono 𝓤 H (W .laws) 𝓣 code.function) (play-walks 𝓤 H A W mem run 𝓣 known-prepare known-minutes known-answer)
 
 pub play-spec : {M : Type 1} → stated.statement M
 unfolding code.routine tablesOf
@@ -380,6 +380,6 @@ play-spec 𝓤 H 𝓜 𝓖 𝓡 =
     entered 𝓤 H (tripleOf 𝓤 H (𝓖 .A) f.signature (f.spec 𝓤 H (𝓖 .A) (𝓜 .mem) (𝓡 .run)))
     (tables 𝓤 H 𝓜 𝓡 code.env .C) (tables 𝓤 H 𝓜 𝓡 code.env .Λ) #play·play code.function (code.unfolded 𝓤 H 𝓜 𝓡)
     (play-meets 𝓤 H (𝓖 .A) (givenOf 𝓤 H 𝓜 𝓖) (𝓜 .mem) (𝓡 .run) (tablesOf 𝓤 H 𝓜 (tables 𝓤 H 𝓜 𝓡 code.env))
-    (cited 𝓤 H (Checked 𝓤 H (𝓖 .A) (𝓜 .mem) (𝓡 .run)) 𝓜 𝓡 code.env #play·checked checked-def.routine code.calls-play·checked (checked-thm.met 𝓤 H 𝓜 𝓖 𝓡))
-    (cited 𝓤 H (Minutes 𝓤 H (𝓖 .A) (𝓜 .mem) (𝓡 .run)) 𝓜 𝓡 code.env #play·minutes minutes-def.routine code.calls-play·minutes (minutes-thm.met 𝓤 H 𝓜 𝓖 𝓡))
+    (cited 𝓤 H (Prepare 𝓤 H (𝓖 .A) (𝓜 .mem) (𝓡 .run)) 𝓜 𝓡 code.env #play·prepare prepare-def.routine code.calls-play·preparing·prepare (prepare-thm.met 𝓤 H 𝓜 𝓖 𝓡))
+    (cited 𝓤 H (Minutes 𝓤 H (𝓖 .A) (𝓜 .mem) (𝓡 .run)) 𝓜 𝓡 code.env #play·minutes minutes-def.routine code.calls-play·moving·minutes (minutes-thm.met 𝓤 H 𝓜 𝓖 𝓡))
     (cited 𝓤 H (Answer 𝓤 H (𝓖 .A) (𝓜 .mem) (𝓡 .run)) 𝓜 𝓡 code.env #play·answer_of answer-def.routine code.calls-play·answer-of (answer-thm.met 𝓤 H 𝓜 𝓖 𝓡)))

@@ -1,0 +1,19 @@
+use Rattle.play.proofs.Answers.{days-cases}
+use borrow.Author.Needs.{needs}
+use Rattle.play.proofs.preparing.prepare_days.Statement.{statement}
+use Rattle.play.proofs.preparing.prepare_days.Tie as tie
+
+pub prepare-days-spec : {M : Type 1} → statement M
+prepare-days-spec =
+    tie.close
+    (tie.spec
+    (λ c κs. search needs)
+    (λ c. search needs)
+    (λ c κs. search needs)
+    (λ c. search (needs, days-cases))
+    (λ c κs. search needs)
+    (λ c κs. search (needs, days-cases))
+    (λ c. search needs)
+    (λ c. search (needs, days-cases))
+    (λ c κs. search needs)
+    (λ c. search (needs, days-cases)))
