@@ -1,5 +1,5 @@
 pub mod KeyCases
 pub mod OrderCases
-pub mod WayCases
+pub mod BlockedCases
 pub mod TableCases
 pub mod BestCases

@@ -1,10 +1,10 @@
 // A look at a hall's prices of minutes: the limit, and the relaxed set.
-mod looking;
+mod limit;
 mod relaxed;
 mod sums;
 
 use instance::Size;
-pub use looking::limit_at;
+pub use limit::limit_at;
 pub use relaxed::look_at;
 pub use sums::MINUTES;
 

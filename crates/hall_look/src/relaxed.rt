@@ -8,8 +8,8 @@ ghost use Rattle.choice_map.specs.Choice.{choiceIn, Clean};
 ghost use Rattle.hall_price_spec.specs.Prices.{hallLimit, hallRelaxed};
 ghost use Rattle.hall_look.specs.Look.{hallFor, withBefore, HallPosed, WindowsTaken};
 use super::HallSize;
-use super::looking::VEHICLES;
-use super::looking::limit_with;
+use super::limit::VEHICLES;
+use super::limit::limit_with;
 use instance::PLACES;
 
 // Sets the bit of window number - 1, and none where the number is 0.

@@ -3,8 +3,8 @@ use borrow.Author.Needs.{needs}
 use Rattle.hall_look.proofs.LookCases.{bests-cases}
 use Prim.Native.Nat.{_-_, _≤_}
 use Rattle.hall_look.specs.Look.{hallFor, Bests}
-use Rattle.hall_look.proofs.looking.put_bests.Statement.{statement}
-use Rattle.hall_look.proofs.looking.put_bests.Tie as tie
+use Rattle.hall_look.proofs.limit.put_bests.Statement.{statement}
+use Rattle.hall_look.proofs.limit.put_bests.Tie as tie
 
 abbrev Inv-loop : tie.InvT-loop
 Inv-loop h cols prices sums most₀ taken₀ t₀ most taken t = Bests (hallFor h cols) prices t most taken × (t ≤ h .size .count)

@@ -3,8 +3,8 @@ use Prim.Native.Nat.{_-_}
 use mathlib.Core.Path.{_≡_}
 use Rattle.hall_look.proofs.LookCases.{SummedBests, sum-cases}
 use borrow.Author.Needs.{needs}
-use Rattle.hall_look.proofs.looking.bests_sum.Statement.{statement}
-use Rattle.hall_look.proofs.looking.bests_sum.Tie as tie
+use Rattle.hall_look.proofs.limit.bests_sum.Statement.{statement}
+use Rattle.hall_look.proofs.limit.bests_sum.Tie as tie
 
 abbrev Inv-loop : tie.InvT-loop
 Inv-loop vehicles most last sum₀ v₀ sum v = SummedBests most vehicles v sum × (last ≡ vehicles)

@@ -1,7 +1,7 @@
 use Rattle.hall_look.proofs.LookCases.{keep-cases}
 use borrow.Author.Needs.{needs}
-use Rattle.hall_look.proofs.looking.keep_best.Statement.{statement}
-use Rattle.hall_look.proofs.looking.keep_best.Tie as tie
+use Rattle.hall_look.proofs.limit.keep_best.Statement.{statement}
+use Rattle.hall_look.proofs.limit.keep_best.Tie as tie
 
 pub keep-best-spec : {M : Type 1} → statement M
 keep-best-spec =

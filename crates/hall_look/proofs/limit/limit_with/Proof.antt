@@ -1,7 +1,7 @@
 use Rattle.hall_look.proofs.LookCases.{look-cases}
 use borrow.Author.Needs.{needs}
-use Rattle.hall_look.proofs.looking.limit_with.Statement.{statement}
-use Rattle.hall_look.proofs.looking.limit_with.Tie as tie
+use Rattle.hall_look.proofs.limit.limit_with.Statement.{statement}
+use Rattle.hall_look.proofs.limit.limit_with.Tie as tie
 
 pub limit-with-spec : {M : Type 1} → statement M
 limit-with-spec =
