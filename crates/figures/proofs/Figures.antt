@@ -19,12 +19,12 @@ use Rattle.draw_spec.proofs.Draws.{length-first, length-second, length-third, l
 use Rattle.hall_spec.specs.Hall.{isWide, wideDraw}
 use Rattle.hall_spec.specs.Plan.{roundedUp, smallTakes}
 use Rattle.hall_spec.specs.Charge.{chargingSheet}
-use Rattle.price_spec.proofs.LimitCauses.{limit-accepted-iff}
+use Rattle.limit_spec.proofs.LimitCauses.{limit-accepted-iff}
 use Rattle.refine_spec.specs.Rounds.{startFrom, firstChange, nextChange}
 use Rattle.refine_spec.specs.Shift.{movedPrice, turnChange, shiftStart}
-use Rattle.hall_price_spec.specs.Prices.{windowPays, supplyCost}
-use Rattle.hall_price_spec.specs.Hall.{movedMinute, hallStart}
-use Rattle.hall_price_spec.proofs.LimitCauses.{charge-limit-accepted-iff}
+use Rattle.hall_by_prices_spec.specs.Prices.{windowPays, supplyCost}
+use Rattle.hall_by_prices_spec.specs.Hall.{movedMinute, hallStart}
+use Rattle.hall_by_prices_spec.proofs.LimitCauses.{charge-limit-accepted-iff}
 use Rattle.figures.specs.Figures.{Figures}
 
 pub figures : Figures

@@ -36,12 +36,12 @@ use Rattle.hall_spec.specs.Hall.{mostUnits, mostVehicles, hallGap, Hall, window
 use Rattle.hall_spec.specs.Plan.{smallTakes, smallSteps, hallWorth}
 use Rattle.hall_spec.specs.Promises.{worthOfWindows, HallPromises}
 use Rattle.hall_spec.specs.Charge.{chargingSheet, AcceptedCharging}
-use Rattle.price_spec.specs.Limit.{limitOf}
+use Rattle.limit_spec.specs.Limit.{limitOf}
 use Rattle.refine_spec.specs.Rounds.{nextChange, greatestOf}
 use Rattle.refine_spec.specs.Shift.{movedPrice, turnChange, greatestWorth, shiftStart}
-use Rattle.hall_price_spec.specs.Prices.{minutesCost, windowPays, minutePrice, supplyCost}
-use Rattle.hall_price_spec.specs.Hall.{movedMinute, hallStart}
-use Rattle.hall_price_spec.specs.Limit.{chargeLimitOf}
+use Rattle.hall_by_prices_spec.specs.Prices.{minutesCost, windowPays, minutePrice, supplyCost}
+use Rattle.hall_by_prices_spec.specs.Hall.{movedMinute, hallStart}
+use Rattle.hall_by_prices_spec.specs.Limit.{chargeLimitOf}
 
 pub record Figures : Type 0 where
   -- ---- turns

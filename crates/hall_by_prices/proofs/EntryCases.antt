@@ -22,10 +22,10 @@ use Rattle.hall_spec.specs.Hall.{hallGap}
 use Rattle.hall_spec.specs.Charge.{chargingSheet, hallOf}
 use Rattle.hall_spec.proofs.ChargingSheets.{charging-sound, charging-given, vehicles-of}
 use Rattle.hall.proofs.Charges.{accepted, charge-held, hall-is}
-use Rattle.price_spec.specs.declared.LimitAnswer.{LimitAnswer}
-use Rattle.price_spec.specs.Limit.{limitIs, limitRefused}
-use Rattle.hall_price_spec.specs.Prices.{hallLimit}
-use Rattle.hall_price_spec.specs.Limit.{chargeLimitCauses, sheetHallLimit, chargeLimitOf}
+use Rattle.limit_spec.specs.declared.LimitAnswer.{LimitAnswer}
+use Rattle.limit_spec.specs.Limit.{limitIs, limitRefused}
+use Rattle.hall_by_prices_spec.specs.Prices.{hallLimit}
+use Rattle.hall_by_prices_spec.specs.Limit.{chargeLimitCauses, sheetHallLimit, chargeLimitOf}
 use Rattle.hall_look.specs.declared.HallSize.{HallSize}
 use Rattle.hall_look.specs.Look.{hallFor, HallPosed}
 

@@ -36,10 +36,10 @@ use Rattle.price_rule.specs.declared.RuleFor.the-variants.{Hall}
 use Rattle.price_rule.specs.Rules.{sizeOf, pricesOf, changeOf, ruleLimit, relaxedOf, fitsOf, movedOf, choiceOf, ruleWorth, roundRule, RulePosed}
 use Rattle.price_rounds.specs.declared.Reached.{Reached}
 use Rattle.price_rounds.specs.Rounds.{roundsFrom, Reaches, RoundsStart}
-use Rattle.hall_price_spec.specs.declared.ChargeRefineAnswer.{ChargeRefineAnswer}
-use Rattle.hall_price_spec.specs.Hall.{hallRule, hallStart, hallRefined}
-use Rattle.hall_price_spec.specs.Refine.{chargeRefineCauses, chargeRefinement, notChargeRefined, chargeRefineOf}
-use Rattle.hall_price_spec.specs.Answer.{chargeRefinedBy, chargeRefineRefused}
+use Rattle.hall_by_prices_spec.specs.declared.ChargeRefineAnswer.{ChargeRefineAnswer}
+use Rattle.hall_by_prices_spec.specs.Hall.{hallRule, hallStart, hallRefined}
+use Rattle.hall_by_prices_spec.specs.Refine.{chargeRefineCauses, chargeRefinement, notChargeRefined, chargeRefineOf}
+use Rattle.hall_by_prices_spec.specs.Answer.{chargeRefinedBy, chargeRefineRefused}
 use Rattle.hall_look.specs.declared.HallSize.{HallSize}
 use Rattle.hall_look.specs.Look.{hallFor, HallPosed}
 use Rattle.hall_by_prices.proofs.EntryCases.{own, vehicles-are, hall-posed, hall-for}

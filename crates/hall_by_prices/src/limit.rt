@@ -1,12 +1,12 @@
 // The hall's limit at given prices.
 ghost use mathlib.Core.Path.{_≡_};
-ghost use Rattle.price_spec.specs.Limit.{limitRefused};
-ghost use Rattle.hall_price_spec.specs.Limit.{chargeLimitOf};
+ghost use Rattle.limit_spec.specs.Limit.{limitRefused};
+ghost use Rattle.hall_by_prices_spec.specs.Limit.{chargeLimitOf};
 use hall_look::HallSize;
 use hall_look::MINUTES;
 use instance::PLACES;
 use instance::Size;
-use price_spec::LimitAnswer;
+use limit_spec::LimitAnswer;
 
 fn refused(k: u8) -> LimitAnswer
     ensures { λ r. ⌜ r ≡ limitRefused k ⌝ }

@@ -10,7 +10,7 @@ use Rattle.instance.specs.declared.ways.Row.{Row}
 use Rattle.hall_spec.specs.Hall.{mostUnits, mostVehicles, Hall}
 use Rattle.shares.specs.Taking.{hallBy}
 use Rattle.hall_steps.specs.Bounds.{HallHeld}
-use Rattle.hall_price_spec.specs.Prices.{priceParts, minutePrice, windowCounts, richestOf, vehicleBest}
+use Rattle.hall_by_prices_spec.specs.Prices.{priceParts, minutePrice, windowCounts, richestOf, vehicleBest}
 use Rattle.hall_look.specs.declared.HallSize.{HallSize}
 
 -- the greatest 16-bit number

@@ -5,7 +5,7 @@ ghost use Prim.Native.Nat.{_*_, _≤_};
 ghost use lib.ListN.{length, replicate};
 ghost use Rattle.turn.specs.Turn.{shiftMinutes};
 ghost use Rattle.choice_map.specs.Choice.{choiceIn, Clean};
-ghost use Rattle.hall_price_spec.specs.Prices.{hallLimit, hallRelaxed};
+ghost use Rattle.hall_by_prices_spec.specs.Prices.{hallLimit, hallRelaxed};
 ghost use Rattle.hall_look.specs.Look.{hallFor, withBefore, HallPosed, WindowsTaken};
 use super::HallSize;
 use super::limit::VEHICLES;

@@ -30,8 +30,8 @@ use Rattle.hall_spec.specs.Plan.{roundedUp}
 use Rattle.hall_spec.proofs.Windows.{charges-in, in-charges, drawAt-charging, drawAt-not}
 use Rattle.hall.specs.Supply.{Drawn}
 use Rattle.hall.proofs.Supplies.{draw-start, draw-done, draw-next}
-use Rattle.hall_price_spec.specs.Prices.{minutePrice}
-use Rattle.hall_price_spec.specs.Hall.{highestMinutePrice, movedMinute, movedMinutes}
+use Rattle.hall_by_prices_spec.specs.Prices.{minutePrice}
+use Rattle.hall_by_prices_spec.specs.Hall.{highestMinutePrice, movedMinute, movedMinutes}
 use Rattle.hall_look.specs.declared.HallSize.{HallSize}
 use Rattle.hall_look.specs.Look.{mostPrice, hallFor, HallPosed, WindowRow}
 use Rattle.hall_moves.specs.Moves.{mostDrawn, noMove, mostMove, movePlaces, moveBy, movedBy, MovesTo, EachTo, FewMoves, PricesFit, FewDrawn, RoomForMore, DrawnBy}

@@ -10,8 +10,8 @@ use Rattle.turn.specs.Turn.{shiftMinutes, mostWorth}
 use Rattle.sheet.specs.Kind.{mostTurns}
 use Rattle.hall_spec.specs.Hall.{mostUnits, Hall, drawnAt}
 use Rattle.hall_spec.specs.Plan.{roundedUp}
-use Rattle.hall_price_spec.specs.Prices.{minutePrice}
-use Rattle.hall_price_spec.specs.Hall.{highestMinutePrice}
+use Rattle.hall_by_prices_spec.specs.Prices.{minutePrice}
+use Rattle.hall_by_prices_spec.specs.Hall.{highestMinutePrice}
 use Rattle.hall_look.specs.Look.{mostPrice}
 
 -- the most that windows draw at a minute: all of them, and all units each

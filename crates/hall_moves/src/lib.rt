@@ -6,7 +6,7 @@ ghost use Rattle.turn.specs.Turn.{shiftMinutes, mostWorth};
 ghost use Rattle.choice_map.specs.Choice.{choiceIn, Clean};
 ghost use Rattle.hall_spec.specs.Hall.{mostUnits};
 ghost use Rattle.hall.specs.Supply.{Drawn};
-ghost use Rattle.hall_price_spec.specs.Hall.{highestMinutePrice, movedMinutes};
+ghost use Rattle.hall_by_prices_spec.specs.Hall.{highestMinutePrice, movedMinutes};
 ghost use Rattle.hall_look.specs.Look.{mostPrice, hallFor, HallPosed, WindowRow};
 ghost use Rattle.hall_moves.specs.Moves.{mostDrawn, noMove, mostMove, movePlaces, moveBy, movedBy, MovesTo, EachTo, FewMoves, PricesFit, FewDrawn, RoomForMore, DrawnBy};
 use hall_look::HallSize;

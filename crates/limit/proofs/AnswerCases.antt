@@ -21,12 +21,12 @@ use Rattle.instance.specs.Load.{shiftSize, Loaded}
 use Rattle.instance_spec.proofs.SheetTurns.{sheet-count, sheet-slopes, sheet-groomers, sheet-drivers}
 use Rattle.best_spec.specs.Table.{bestWorth}
 use Rattle.best_table.specs.OrderAndTable.{Ranged}
-use Rattle.price_spec.specs.declared.LimitAnswer.{LimitAnswer}
-use Rattle.price_spec.specs.Prices.{priceSum, limitBy}
-use Rattle.price_spec.specs.Limit.{priceCount, limitCauses, sheetLimit, limitIs, limitRefused, limitOf}
-use Rattle.price_spec.proofs.Limits.{priced-sum, priced-best}
-use Rattle.prices.specs.declared.Extent.{Extent}
-use Rattle.prices.specs.OrdersAndCounts.{countedTurns, turnsIn, Driven, Priced}
+use Rattle.limit_spec.specs.declared.LimitAnswer.{LimitAnswer}
+use Rattle.limit_spec.specs.Prices.{priceSum, limitBy}
+use Rattle.limit_spec.specs.Limit.{priceCount, limitCauses, sheetLimit, limitIs, limitRefused, limitOf}
+use Rattle.limit_spec.proofs.Limits.{priced-sum, priced-best}
+use Rattle.shift_look.specs.declared.Extent.{Extent}
+use Rattle.shift_look.specs.OrdersAndCounts.{countedTurns, turnsIn, Driven, Priced}
 use Rattle.refusal.proofs.Outcome.{unless-first, unless-none}
 use Rattle.instance.proofs.Posed.{loaded-held, loaded-turns, loaded-count}
 

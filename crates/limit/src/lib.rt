@@ -5,13 +5,13 @@ ghost use lib.ListN.{length};
 ghost use Rattle.instance.specs.Columns.{Held};
 ghost use Rattle.best_spec.specs.Table.{bestWorth};
 ghost use Rattle.best_table.specs.OrderAndTable.{Ranged};
-ghost use Rattle.price_spec.specs.Prices.{priceSum};
-ghost use Rattle.price_spec.specs.Limit.{limitRefused, limitOf};
-ghost use Rattle.prices.specs.OrdersAndCounts.{countedTurns, turnsIn, orderPlaces, Driven, Priced};
+ghost use Rattle.limit_spec.specs.Prices.{priceSum};
+ghost use Rattle.limit_spec.specs.Limit.{limitRefused, limitOf};
+ghost use Rattle.shift_look.specs.OrdersAndCounts.{countedTurns, turnsIn, orderPlaces, Driven, Priced};
 use instance::PLACES;
-use price_spec::LimitAnswer;
-use prices::Extent;
-use prices::ORDERS;
+use limit_spec::LimitAnswer;
+use shift_look::Extent;
+use shift_look::ORDERS;
 
 // The limit of a problem, with places for the orders. Where no turn names a driver, the groomers'
 // order alone is enough.
@@ -27,11 +27,11 @@ fn limit_with(
     ensures { λ r. ⌜ r ≡ priceSum (turnsIn e (now (cols .entry))) (e .slopes) (now (prices .entry))
         + bestWorth (countedTurns (turnsIn e (now (cols .entry))) (e .slopes) (now (prices .entry))) ⌝ }
 {
-    if 0 < prices::driver_bound(e.size, cols) {
-        prices::put_orders(e, cols, &mut *orders, &mut *room);
-        return prices::limit_at(e, cols, &*orders, prices);
+    if 0 < shift_look::driver_bound(e.size, cols) {
+        shift_look::put_orders(e, cols, &mut *orders, &mut *room);
+        return shift_look::limit_at(e, cols, &*orders, prices);
     }
-    prices::limit_driverless(e, cols, prices, &mut *orders)
+    shift_look::limit_driverless(e, cols, prices, &mut *orders)
 }
 
 fn refused(k: u8) -> LimitAnswer

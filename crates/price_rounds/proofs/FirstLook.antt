@@ -17,11 +17,11 @@ use Rattle.best_spec.proofs.Tables.{best-ind}
 use Rattle.best_spec.proofs.Ordering.{order-sum}
 use Rattle.choice_map.proofs.Clean.{zeros-at}
 use Rattle.instance.proofs.Rows.{count-is}
-use Rattle.price_spec.specs.Prices.{slopePrice, turnPrice, countsFor, priceSum}
-use Rattle.prices.specs.OrdersAndCounts.{countedTurns, turnsIn}
+use Rattle.limit_spec.specs.Prices.{slopePrice, turnPrice, countsFor, priceSum}
+use Rattle.shift_look.specs.OrdersAndCounts.{countedTurns, turnsIn}
 use Rattle.hall_spec.specs.Hall.{windowCount, vehicle}
-use Rattle.hall_price_spec.specs.Prices.{minutePrice, windowCounts, vehicleBest, supplyCost, hallLimit}
-use Rattle.hall_price_spec.proofs.HallLimits.{vehicle-most}
+use Rattle.hall_by_prices_spec.specs.Prices.{minutePrice, windowCounts, vehicleBest, supplyCost, hallLimit}
+use Rattle.hall_by_prices_spec.proofs.HallLimits.{vehicle-most}
 use Rattle.hall_look.specs.declared.HallSize.{HallSize}
 use Rattle.hall_look.specs.Look.{hallFor, HallPosed}
 use Rattle.price_rule.specs.declared.RuleFor.{RuleFor}

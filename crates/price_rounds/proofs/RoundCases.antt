@@ -15,13 +15,13 @@ use Rattle.choice_map.specs.Choice.{mapBytes, choiceIn, Clean}
 use Rattle.instance.specs.declared.columns.Size.{Size}
 use Rattle.instance.specs.Columns.{turnsBy, Held}
 use Rattle.instance.proofs.Rows.{count-is}
-use Rattle.prices.specs.OrdersAndCounts.{turnsIn}
+use Rattle.shift_look.specs.OrdersAndCounts.{turnsIn}
 use Rattle.refine_spec.specs.Rounds.{RoundRule, Stage, lowerLimit, betterChoice, looked, nextChange, moving, refined}
 use Rattle.refine_spec.specs.Selection.{byWorth}
 use Rattle.refine_spec.proofs.Loop.{loop-stops, loop-left, loop-goes, first-same}
 use Rattle.refine_spec.proofs.Shift.{moved-length}
 use Rattle.round_parts.proofs.RankCases.{all-copied, keys-room, keys-given}
-use Rattle.hall_price_spec.specs.Hall.{movedMinutes}
+use Rattle.hall_by_prices_spec.specs.Hall.{movedMinutes}
 use Rattle.price_rule.specs.declared.RuleFor.{RuleFor}
 use Rattle.price_rule.specs.declared.RuleFor.the-variants.{Shift, Hall}
 use Rattle.price_rule.specs.Rules.{sizeOf, pricesOf, changeOf, ruleLimit, relaxedOf, movedOf, choiceOf, ruleWorth, roundRule, RulePosed}

@@ -10,7 +10,7 @@ use Rattle.choice_map.specs.Choice.{choiceIn, Clean}
 use Rattle.instance.specs.Columns.{columnPlaces, turnsBy}
 use Rattle.refine_spec.specs.Rounds.{Stage, startFrom, refined}
 use Rattle.refine_spec.specs.Selection.{byWorth}
-use Rattle.prices.specs.declared.Extent.{Extent}
+use Rattle.shift_look.specs.declared.Extent.{Extent}
 use Rattle.hall_look.specs.declared.HallSize.{HallSize}
 use Rattle.price_rule.specs.declared.RuleFor.{RuleFor}
 use Rattle.price_rule.specs.declared.RuleFor.the-variants.{Shift, Hall}

@@ -18,12 +18,12 @@ use price_rule::look_at;
 use price_rule::move_prices;
 use price_rule::put_orders;
 use price_rule::size_of;
-use prices::Extent;
-use prices::ORDERS;
 use round_parts::is_over;
 use round_parts::keep_lower;
 use round_parts::next_change;
 use round_parts::put_ranks;
+use shift_look::Extent;
+use shift_look::ORDERS;
 
 // A hall has a price for each minute; the slopes and turns of a shift are fewer.
 const MOST_PRICES: usize = MINUTES;

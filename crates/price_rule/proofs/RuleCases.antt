@@ -14,9 +14,9 @@ use Rattle.instance.specs.Columns.{columnPlaces, turnsBy, Held}
 use Rattle.instance.proofs.Rows.{count-is}
 use Rattle.selection.specs.Asked.{NumbersOf}
 use Rattle.best_table.specs.OrderAndTable.{Ranged}
-use Rattle.price_spec.specs.Prices.{priceSum}
-use Rattle.prices.specs.declared.Extent.{Extent}
-use Rattle.prices.specs.OrdersAndCounts.{countedTurns, turnsIn, orderPlaces, Driven, Ordered, Priced}
+use Rattle.limit_spec.specs.Prices.{priceSum}
+use Rattle.shift_look.specs.declared.Extent.{Extent}
+use Rattle.shift_look.specs.OrdersAndCounts.{countedTurns, turnsIn, orderPlaces, Driven, Ordered, Priced}
 use Rattle.selection_by_runs.specs.Runs.{RunsOf}
 use Rattle.refine_spec.specs.Rounds.{firstChange}
 use Rattle.refine_spec.specs.Selection.{byWorth}
@@ -24,8 +24,8 @@ use Rattle.refine_spec.specs.Shift.{greatestWorth, movedPrices}
 use Rattle.round_parts.specs.Ranks.{withChosen}
 use Rattle.round_parts.proofs.RankCases.{ranks-numbers, ranks-bits, ranks-fit, list-fits, list-numbers, list-made, list-size}
 use Rattle.hall_spec.specs.Hall.{staysAllowed}
-use Rattle.hall_price_spec.specs.Prices.{hallLimit, hallRelaxed}
-use Rattle.hall_price_spec.specs.Hall.{movedMinutes}
+use Rattle.hall_by_prices_spec.specs.Prices.{hallLimit, hallRelaxed}
+use Rattle.hall_by_prices_spec.specs.Hall.{movedMinutes}
 use Rattle.hall_look.specs.declared.HallSize.{HallSize}
 use Rattle.hall_look.specs.Look.{hallFor, HallPosed}
 use Rattle.price_rule.specs.declared.RuleFor.{RuleFor}

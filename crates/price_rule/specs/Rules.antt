@@ -11,16 +11,16 @@ use Rattle.best_spec.specs.Table.{bestWorth, bestChoice}
 use Rattle.instance.specs.declared.columns.Size.{Size}
 use Rattle.instance.specs.Columns.{columnPlaces, turnsBy, Held}
 use Rattle.best_table.specs.OrderAndTable.{Ranged}
-use Rattle.price_spec.specs.Prices.{priceSum}
-use Rattle.prices.specs.declared.Extent.{Extent}
-use Rattle.prices.specs.OrdersAndCounts.{countedTurns, turnsIn, orderPlaces, Ordered}
+use Rattle.limit_spec.specs.Prices.{priceSum}
+use Rattle.shift_look.specs.declared.Extent.{Extent}
+use Rattle.shift_look.specs.OrdersAndCounts.{countedTurns, turnsIn, orderPlaces, Ordered}
 use Rattle.selection_by_runs.specs.Runs.{RunsOf}
 use Rattle.refine_spec.specs.Rounds.{RoundRule, firstChange}
 use Rattle.refine_spec.specs.Selection.{choiceFrom}
 use Rattle.refine_spec.specs.Shift.{greatestWorth, movedPrices}
 use Rattle.hall_spec.specs.Hall.{staysAllowed}
-use Rattle.hall_price_spec.specs.Prices.{hallLimit, hallRelaxed}
-use Rattle.hall_price_spec.specs.Hall.{movedMinutes}
+use Rattle.hall_by_prices_spec.specs.Prices.{hallLimit, hallRelaxed}
+use Rattle.hall_by_prices_spec.specs.Hall.{movedMinutes}
 use Rattle.hall_look.specs.Look.{hallFor, HallPosed}
 use Rattle.price_rule.specs.declared.RuleFor.{RuleFor}
 use Rattle.price_rule.specs.declared.RuleFor.the-variants.{Shift, Hall}

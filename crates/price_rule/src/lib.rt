@@ -11,17 +11,17 @@ ghost use Rattle.instance.specs.Columns.{columnPlaces, turnsBy};
 ghost use Rattle.selection.specs.Asked.{NumbersOf};
 ghost use Rattle.hall_spec.specs.Hall.{staysAllowed};
 ghost use Rattle.hall_look.specs.Look.{hallFor, HallPosed};
-ghost use Rattle.prices.specs.OrdersAndCounts.{orderPlaces};
+ghost use Rattle.shift_look.specs.OrdersAndCounts.{orderPlaces};
 ghost use Rattle.refine_spec.specs.Selection.{byWorth};
 ghost use Rattle.price_rule.specs.Rules.{sizeOf, pricesOf, changeOf, ruleLimit, relaxedOf, fitsOf, choiceOf, ruleWorth, movedOf, RulePosed, OrderedFor, RunsFor};
 use hall_look::HallSize;
 use hall_steps::OneKind;
 use instance::PLACES;
 use instance::Size;
-use prices::Extent;
-use prices::ORDERS;
 use round_parts::greatest_worth;
 use selection::ASKED;
+use shift_look::Extent;
+use shift_look::ORDERS;
 
 pub enum RuleFor {
     Shift(Extent),
@@ -50,7 +50,7 @@ pub fn put_orders(
     ensures { λ _. ⌜ OrderedFor r (now (cols .entry)) (now (orders .exit)) × RunsFor r (now (cols .entry)) (now (room .exit)) ⌝ }
 {
     if let RuleFor::Shift(e) = r {
-        prices::put_orders(e, cols, &mut *orders, &mut *room);
+        shift_look::put_orders(e, cols, &mut *orders, &mut *room);
         selection_by_runs::put_runs(e.size, cols, &*orders, &mut *room);
     }
 }
@@ -81,7 +81,7 @@ pub fn look_at(
         × (choiceIn (sizeOf r .count) (now (relaxed .exit)) ≡ relaxedOf r (now (cols .entry)) (now (prices .entry))) ⌝ }
 {
     match r {
-        RuleFor::Shift(e) => prices::look_at(e, cols, orders, prices, &mut *relaxed),
+        RuleFor::Shift(e) => shift_look::look_at(e, cols, orders, prices, &mut *relaxed),
         RuleFor::Hall(h) => hall_look::look_at(h, cols, prices, &mut *relaxed),
     }
 }

@@ -36,11 +36,11 @@ use Rattle.selection.proofs.Unchosen.{zeros-size}
 use Rattle.plan_spec.specs.Plan.{boardFor}
 use Rattle.plan_spec.proofs.Boards.{choice-count}
 use Rattle.best_table.specs.OrderAndTable.{Ranged}
-use Rattle.price_spec.specs.Prices.{priceSum, limitBy}
-use Rattle.price_spec.specs.Limit.{priceCount}
-use Rattle.price_spec.proofs.Limits.{priced-sum, priced-best}
-use Rattle.prices.specs.declared.Extent.{Extent}
-use Rattle.prices.specs.OrdersAndCounts.{countedTurns, turnsIn}
+use Rattle.limit_spec.specs.Prices.{priceSum, limitBy}
+use Rattle.limit_spec.specs.Limit.{priceCount}
+use Rattle.limit_spec.proofs.Limits.{priced-sum, priced-best}
+use Rattle.shift_look.specs.declared.Extent.{Extent}
+use Rattle.shift_look.specs.OrdersAndCounts.{countedTurns, turnsIn}
 use Rattle.refine_spec.specs.declared.RefineAnswer.{RefineAnswer}
 use Rattle.refine_spec.specs.Rounds.{RoundRule, Stage, startFrom, refined, firstChange}
 use Rattle.refine_spec.specs.Selection.{choiceFrom}

@@ -12,7 +12,7 @@ use Rattle.instance.specs.declared.columns.Size.{Size}
 use Rattle.instance.specs.Columns.{turnsBy}
 use Rattle.plan_spec.specs.Plan.{boardFor}
 use Rattle.refine_spec.specs.Rounds.{Stage}
-use Rattle.prices.specs.declared.Extent.{Extent}
+use Rattle.shift_look.specs.declared.Extent.{Extent}
 use Rattle.price_rule.specs.declared.RuleFor.the-variants.{Shift}
 use Rattle.price_rounds.specs.Rounds.{roundsFrom}
 use Rattle.refine.specs.declared.planned.Planned.{Planned}

@@ -5,7 +5,7 @@ ghost use lib.ListN.{length};
 ghost use Rattle.model.specs.Choice.{choice};
 ghost use Rattle.board.specs.Board.{boardLength};
 ghost use Rattle.instance.specs.Columns.{columnPlaces};
-ghost use Rattle.prices.specs.OrdersAndCounts.{turnsIn};
+ghost use Rattle.shift_look.specs.OrdersAndCounts.{turnsIn};
 ghost use Rattle.refine_spec.specs.Refine.{refinementOf, refineOf};
 ghost use Rattle.refine_spec.specs.Answer.{refinedBy, refineRefused};
 ghost use Rattle.price_rule.specs.Rules.{ShiftPosed};
@@ -19,8 +19,8 @@ use planned::plan_board;
 use planned::write_choice;
 use price_rounds::Start;
 use price_rounds::shift_rounds;
-use prices::Extent;
 use refine_spec::RefineAnswer;
+use shift_look::Extent;
 
 // Plans a board and makes it better by rounds, where the lent places suffice.
 fn refine_with(

@@ -29,11 +29,11 @@ use Rattle.instance_spec.proofs.SheetTurns.{sheet-count, sheet-lengths}
 use Rattle.check_spec.specs.Check.{Passes}
 use Rattle.plan_spec.specs.Plan.{plannedBoard}
 use Rattle.plan_spec.proofs.Planned.{planned-back}
-use Rattle.price_spec.specs.declared.LimitAnswer.{LimitAnswer}
-use Rattle.price_spec.specs.Prices.{turnPrice}
-use Rattle.price_spec.specs.Limit.{priceCount, limitCauses, sheetLimit, limitIs, limitOf}
-use Rattle.price_spec.proofs.LimitCauses as limits
-use Rattle.price_spec.proofs.Promised.{limit-promised}
+use Rattle.limit_spec.specs.declared.LimitAnswer.{LimitAnswer}
+use Rattle.limit_spec.specs.Prices.{turnPrice}
+use Rattle.limit_spec.specs.Limit.{priceCount, limitCauses, sheetLimit, limitIs, limitOf}
+use Rattle.limit_spec.proofs.LimitCauses as limits
+use Rattle.limit_spec.proofs.Promised.{limit-promised}
 use Rattle.refine_spec.specs.Rounds.{Stage, startFrom}
 use Rattle.refine_spec.specs.Refine.{Refinement, boardWith, refinementOf, refineOf}
 use Rattle.refine_spec.specs.Promises.{refinedBoard, refinedPrices, RefinePromised}

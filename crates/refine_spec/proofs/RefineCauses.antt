@@ -21,7 +21,7 @@ use Rattle.sheet.proofs.Accepting.{accepted-iff}
 use Rattle.sheet.proofs.ReadCauses.{more-tell}
 use Rattle.board.specs.Board.{boardLength}
 use Rattle.instance_spec.specs.Problem.{sheetTurns}
-use Rattle.price_spec.specs.Limit.{priceCount}
+use Rattle.limit_spec.specs.Limit.{priceCount}
 use Rattle.refine_spec.specs.Rounds.{Stage}
 use Rattle.refine_spec.specs.Shift.{shiftRefined}
 use Rattle.refine_spec.specs.Refine.{Refinement, refineCauses, refinementOf, refineOf, PlacesFail, few-bytes, few-prices, FirstRefineCause}

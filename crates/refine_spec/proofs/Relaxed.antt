@@ -20,8 +20,8 @@ use Rattle.best_spec.proofs.Ordering.{Ordered, empty, first, order-ordered}
 use Rattle.best_spec.proofs.Tables.{best-every, leads-groomer}
 use Rattle.best_spec.proofs.Groomers.{together, groomers-add}
 use Rattle.best_spec.proofs.Optimal.{bestTurns, choice-among, among-choice, best-length}
-use Rattle.price_spec.specs.Prices.{countsFor, pricedTurns}
-use Rattle.price_spec.proofs.Bare.{withWorths, bare-choice}
+use Rattle.limit_spec.specs.Prices.{countsFor, pricedTurns}
+use Rattle.limit_spec.proofs.Bare.{withWorths, bare-choice}
 use Rattle.refine_spec.specs.Shift.{isRelaxed, relaxedSet}
 
 -- ---- elements of two lists

@@ -12,7 +12,7 @@ use Rattle.model.specs.Turns.{Turns, oneDriver, byDriver}
 use Rattle.model.specs.Choice.{has, chosen, choice, fits}
 use Rattle.model.proofs.Filled.{NoConflict, NoRoom}
 use Rattle.model.proofs.Promised.{planned-length, choice-apart, choice-full}
-use Rattle.price_spec.specs.Prices.{slopePrice, turnPrice, paysTurn, limitBy}
+use Rattle.limit_spec.specs.Prices.{slopePrice, turnPrice, paysTurn, limitBy}
 use Rattle.refine_spec.specs.Rounds.{Stage, startFrom}
 use Rattle.refine_spec.specs.Shift.{relaxedSet, slopePayers, turnPayers, movedPrice, turnChange, movedPrices, shiftRule, shiftStart, shiftRefined}
 use Rattle.refine_spec.proofs.Rounds.{listed-limit, chosen-worth, choice-kept, lists-kept, worth-grows}

@@ -18,7 +18,7 @@ use Rattle.board.specs.Board.{stepBytes, boardOf}
 use Rattle.instance_spec.specs.Problem.{problemOf, sheetTurns}
 use Rattle.best_spec.specs.Table.{laterFirst, turnOrder, greater, inTheWay, blocked, bestTable, bestOver, isAmong}
 use Rattle.best_spec.specs.Groomers.{keep, ownTurns, groomerWorth, groomersWorth}
-use Rattle.price_spec.specs.Prices.{slopePrice, turnPrice, paysTurn, paidBy, countsFor, pricedTurns, priceSum, limitBy}
+use Rattle.limit_spec.specs.Prices.{slopePrice, turnPrice, paysTurn, paidBy, countsFor, pricedTurns, priceSum, limitBy}
 use Rattle.refine_spec.specs.Rounds.{startFrom, lowerLimit, betterChoice, looked, nextChange, moving, refined, greatestOf, firstChange}
 use Rattle.refine_spec.specs.Selection.{poorerFirst, byWorth, choiceFrom}
 use Rattle.refine_spec.specs.Shift.{isRelaxed, relaxedSet, slopePayers, turnPayers, movedPrice, turnChange, movedPrices, shiftRule, greatestWorth, shiftStart, shiftRefined}

@@ -3,7 +3,7 @@ use mathlib.Core.Path.{_≡_}
 use mathlib.Core.List.{List, [], _∷_, _++_}
 use Prim.Native.Nat.{ℕ}
 use lib.ListN.{length, replicate}
-use Rattle.price_spec.specs.Cases.{shift, driven, noneAtAll}
+use Rattle.limit_spec.specs.Cases.{shift, driven, noneAtAll}
 use Rattle.refine_spec.specs.Refine.{Refinement, notRefined, refineOf}
 
 -- two groomers, two slopes, four turns: (slope, groomer, start, end, worth) are (2,2,90,120,90) (1,1,90,120,90) (1,1,0,30,10) (2,1,60,90,100)

@@ -10,8 +10,8 @@ use Rattle.board.specs.Board.{boardTally, boardWorth, writtenSteps}
 use Rattle.instance_spec.specs.Problem.{sheetTurns}
 use Rattle.check_spec.specs.Check.{Passes}
 use Rattle.plan_spec.specs.Plan.{plannedBoard}
-use Rattle.price_spec.specs.Prices.{turnPrice}
-use Rattle.price_spec.specs.Limit.{priceCount, limitIs, limitOf}
+use Rattle.limit_spec.specs.Prices.{turnPrice}
+use Rattle.limit_spec.specs.Limit.{priceCount, limitIs, limitOf}
 use Rattle.refine_spec.specs.Refine.{refineOf}
 
 -- the bytes of the board that the entry wrote

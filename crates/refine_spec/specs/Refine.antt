@@ -16,7 +16,7 @@ use Rattle.refusal.specs.Written.{atFront}
 use Rattle.sheet.specs.Accepted.{MoreCause}
 use Rattle.board.specs.Board.{boardLength, boardOf}
 use Rattle.instance_spec.specs.Problem.{sheetTurns}
-use Rattle.price_spec.specs.Limit.{priceCount}
+use Rattle.limit_spec.specs.Limit.{priceCount}
 use Rattle.refine_spec.specs.Rounds.{Stage}
 use Rattle.refine_spec.specs.Shift.{shiftRefined}
 

@@ -9,7 +9,7 @@ use Rattle.model.specs.Turns.{Turns}
 use Rattle.model.specs.Choice.{chosen, fits, choice}
 use Rattle.best_spec.specs.Table.{bestOver, isAmong}
 use Rattle.best_spec.specs.Groomers.{ownTurns}
-use Rattle.price_spec.specs.Prices.{slopePrice, turnPrice, paysTurn, pricedTurns, limitBy}
+use Rattle.limit_spec.specs.Prices.{slopePrice, turnPrice, paysTurn, pricedTurns, limitBy}
 use Rattle.refine_spec.specs.Rounds.{RoundRule, Stage, startFrom, refined, greatestOf, firstChange}
 use Rattle.refine_spec.specs.Selection.{choiceFrom}
 

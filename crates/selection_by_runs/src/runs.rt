@@ -4,7 +4,7 @@ ghost use Prim.Native.Nat.{_≤_, _<_};
 ghost use lib.ListN.{length};
 ghost use Rattle.sheet.specs.Kind.{mostTurns};
 ghost use Rattle.instance.specs.Columns.{columnPlaces, turnsBy, Held};
-ghost use Rattle.prices.specs.OrdersAndCounts.{paidTo, Ordered};
+ghost use Rattle.shift_look.specs.OrdersAndCounts.{paidTo, Ordered};
 ghost use Rattle.selection_by_runs.specs.Runs.{driverColumns, runTurn, runEndAt, withRunPlace, NotReached, OrderFits, ColumnsTo, RunsOf};
 use super::BY_DRIVER;
 use super::BY_GROOMER;
@@ -15,9 +15,9 @@ use instance::MOST_TURNS;
 use instance::PLACES;
 use instance::Size;
 use instance::as_place;
-use prices::DRIVERS;
-use prices::ORDERS;
-use prices::TOS;
+use shift_look::DRIVERS;
+use shift_look::ORDERS;
+use shift_look::TOS;
 
 // A turn of an order, and where its run ends.
 struct Placed {

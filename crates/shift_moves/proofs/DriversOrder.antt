@@ -19,9 +19,9 @@ use Rattle.instance.specs.Columns.{turnsBy}
 use Rattle.best_spec.specs.Table.{turnOrder}
 use Rattle.best_spec.proofs.Ordering as ordering
 use Rattle.best_table.proofs.OrderCases.{order-length, order-within}
-use Rattle.price_spec.specs.Prices.{paysTurn}
-use Rattle.prices.specs.declared.Extent.{Extent}
-use Rattle.prices.specs.OrdersAndCounts.{byDrivers, turnsIn, driversTurn, paidFrom, paidTo, Ordered, Priced}
+use Rattle.limit_spec.specs.Prices.{paysTurn}
+use Rattle.shift_look.specs.declared.Extent.{Extent}
+use Rattle.shift_look.specs.OrdersAndCounts.{byDrivers, turnsIn, driversTurn, paidFrom, paidTo, Ordered, Priced}
 use Rattle.refine_spec.specs.Shift.{turnPayers}
 use Rattle.shift_moves.specs.Moves.{payersBefore, PaidRuns, EachOnce}
 use Rattle.shift_moves.proofs.PayerCases.{no-zero}

@@ -22,10 +22,10 @@ use Rattle.model.specs.Choice.{has, chosen}
 use Rattle.choice_map.specs.Choice.{choiceIn}
 use Rattle.instance.specs.Columns.{rowIn, turnsBy}
 use Rattle.instance.proofs.Rows.{slope-at}
-use Rattle.price_spec.specs.Prices.{slopePrice, turnPrice}
-use Rattle.prices.specs.declared.Extent.{Extent}
-use Rattle.prices.specs.OrdersAndCounts.{mostPrice, turnsIn, driversTurn, DriversUpTo, Ordered, Priced}
-use Rattle.prices.proofs.DriverlessCases.{none-named}
+use Rattle.limit_spec.specs.Prices.{slopePrice, turnPrice}
+use Rattle.shift_look.specs.declared.Extent.{Extent}
+use Rattle.shift_look.specs.OrdersAndCounts.{mostPrice, turnsIn, driversTurn, DriversUpTo, Ordered, Priced}
+use Rattle.shift_look.proofs.DriverlessCases.{none-named}
 use Rattle.refine_spec.specs.Shift.{highestPrice, slopePayers, turnPayers, movedPrice, turnChange, movedPrices}
 use Rattle.shift_moves.specs.Moves.{payerPlaces, numberBehind, timesChosen, payersBefore, nobody, payersAt, payersAfter, slopePayersIn, turnPayersIn, ownPlace, placeBehind, turnPricePlace, SmallNumbers, Times, PaidRuns, Payers, FewPayers, EachOnce, MovedBy}
 use Rattle.shift_moves.proofs.DriversOrder.{turn-place, payers-are, no-payers}

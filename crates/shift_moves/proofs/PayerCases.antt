@@ -19,7 +19,7 @@ use Rattle.sheet.specs.Kind.{mostTurns}
 use Rattle.model.specs.Choice.{has, chosen}
 use Rattle.choice_map.specs.Choice.{chosenIn, choiceIn, Clean}
 use Rattle.choice_map.proofs.Clean.{choice-has, clean-bits}
-use Rattle.prices.specs.OrdersAndCounts.{orderPlaces, driversTurn, paidFrom, paidTo}
+use Rattle.shift_look.specs.OrdersAndCounts.{orderPlaces, driversTurn, paidFrom, paidTo}
 use Rattle.shift_moves.specs.Moves.{payerPlaces, numberBehind, timesChosen, timesBefore, payersBefore, payersPresent, SmallNumbers, TimesTo, Times, PaidRuns, Summable, Present, Payers, EachOnce}
 
 -- ---- a count is no more than what is counted

@@ -11,8 +11,8 @@ use Rattle.lists.specs.Counting.{sumBefore}
 use Rattle.model.specs.Choice.{chosen}
 use Rattle.sheet.specs.Kind.{mostTurns}
 use Rattle.choice_map.specs.Choice.{chosenIn, choiceIn}
-use Rattle.prices.specs.declared.Extent.{Extent}
-use Rattle.prices.specs.OrdersAndCounts.{turnsIn, orderPlaces, driversTurn, paidFrom, paidTo}
+use Rattle.shift_look.specs.declared.Extent.{Extent}
+use Rattle.shift_look.specs.OrdersAndCounts.{turnsIn, orderPlaces, driversTurn, paidFrom, paidTo}
 use Rattle.refine_spec.specs.Shift.{slopePayers, movedPrice}
 
 -- a place for each number from 0 to the most turns

@@ -9,7 +9,7 @@ ghost use lib.ListN.{length, getD, set, replicate};
 ghost use Rattle.turn.specs.Turn.{mostWorth};
 ghost use Rattle.sheet.specs.Kind.{mostTurns, mostSlopes};
 ghost use Rattle.choice_map.specs.Choice.{choiceIn, Clean};
-ghost use Rattle.prices.specs.OrdersAndCounts.{mostPrice, turnsIn, Ordered, Priced};
+ghost use Rattle.shift_look.specs.OrdersAndCounts.{mostPrice, turnsIn, Ordered, Priced};
 ghost use Rattle.refine_spec.specs.Shift.{highestPrice, movedPrice, turnChange, movedPrices};
 ghost use Rattle.shift_moves.specs.Moves.{payerPlaces, numberBehind, payersAt, payersAfter, slopePayersIn, turnPayersIn, ownPlace, turnPricePlace};
 ghost use Rattle.shift_moves.specs.Moves.{nobody, placeBehind, SmallNumbers, TimesTo, Times, PaidRuns, Summable, Present, Payers, FewPayers, EachOnce, MovedBy};
@@ -17,12 +17,12 @@ use instance::MOST_TURNS;
 use instance::PLACES;
 use instance::as_place;
 use instance::as_u32;
-use prices::DRIVERS;
-use prices::Extent;
-use prices::FROMS;
-use prices::ORDERS;
-use prices::TOS;
-use prices::driver_bound;
+use shift_look::DRIVERS;
+use shift_look::Extent;
+use shift_look::FROMS;
+use shift_look::ORDERS;
+use shift_look::TOS;
+use shift_look::driver_bound;
 
 // The greatest number that a price list can hold.
 const MOST_PRICE: u32 = 65535;

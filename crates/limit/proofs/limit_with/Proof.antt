@@ -1,4 +1,4 @@
-use Rattle.prices.proofs.DriverlessCases.{none-named}
+use Rattle.shift_look.proofs.DriverlessCases.{none-named}
 use borrow.Author.Needs.{needs}
 use Rattle.limit.proofs.limit_with.Statement.{statement}
 use Rattle.limit.proofs.limit_with.Tie as tie

@@ -1,0 +1,34 @@
+-- The limits worked by hand hold: each line is computed. Assumes nothing.
+use mathlib.Core.Path.{refl}
+use Rattle.refusal.specs.Cause.{firstOf}
+use Rattle.wire.specs.Mark.{opensWith}
+use Rattle.turn.specs.Turn.{outsideRange, pastShift, turnCauses}
+use Rattle.sheet.specs.Kind.{garage}
+use Rattle.sheet.specs.Record.{widthOf, field, turnFrom, badMapFor, endAt, turnAt, cursorAfter, recordCauses, firstCursor}
+use Rattle.sheet.specs.Read.{countCauses, headerCauses, recordsCauses, turnsFrom, causesFor, sheetCauses, turnsOf}
+use Rattle.lists.specs.Sorting.{insertBy, sortBy}
+use Rattle.model.specs.Turns.{overlapping, overlap, oneGroomer, oneDriver, byDriver}
+use Rattle.instance_spec.specs.Problem.{problemOf, sheetTurns}
+use Rattle.best_spec.specs.Table.{laterFirst, turnOrder, greater, inTheWay, blocked, bestTable, bestOver}
+use Rattle.best_spec.specs.Groomers.{keep, ownTurns, groomerWorth, groomersWorth}
+use Rattle.limit_spec.specs.Prices.{slopePrice, turnPrice, paysTurn, paidBy, countsFor, pricedTurns, priceSum, limitBy}
+use Rattle.limit_spec.specs.Limit.{limitCauses, sheetLimit, limitOf}
+use Rattle.limit_spec.specs.Cases.{LimitCases}
+use Rattle.refusal.specs.Outcome.{unless}
+
+pub limit-cases : LimitCases
+unfolding firstOf opensWith outsideRange pastShift turnCauses garage widthOf field turnFrom badMapFor endAt turnAt cursorAfter recordCauses firstCursor countCauses headerCauses recordsCauses turnsFrom causesFor sheetCauses turnsOf insertBy sortBy overlapping overlap oneGroomer oneDriver byDriver problemOf sheetTurns laterFirst turnOrder greater inTheWay blocked bestTable bestOver keep ownTurns groomerWorth groomersWorth slopePrice turnPrice paysTurn paidBy countsFor pricedTurns priceSum limitBy limitCauses sheetLimit limitOf unless
+limit-cases =
+    record {
+      free = refl;
+      one-slope = refl;
+      three-slopes = refl;
+      greatest = refl;
+      two-prices = refl;
+      tight = refl;
+      greatest-driven = refl;
+      no-turns = refl;
+      too-few = refl;
+      too-many = refl;
+      no-sheet = refl;
+    }

@@ -1,7 +1,0 @@
-use Rattle.prices.proofs.LookCases.{look-cases}
-use borrow.Author.Needs.{needs}
-use Rattle.prices.proofs.looking.look_at.Statement.{statement}
-use Rattle.prices.proofs.looking.look_at.Tie as tie
-
-pub look-at-spec : {M : Type 1} → statement M
-look-at-spec = tie.close (tie.spec (λ c κs. search needs) (λ c κs. (search look-cases, search needs)) (λ c. search needs) (λ c. (search needs, (search needs, search look-cases))))

@@ -1,0 +1,18 @@
+use Rattle.shift_look.proofs.CountCases.{left-counts}
+use Rattle.shift_look.proofs.SumCases.{both-cases}
+use borrow.Author.Needs.{needs}
+use Rattle.shift_look.proofs.counts.put_counts_with_drivers.Statement.{statement}
+use Rattle.shift_look.proofs.counts.put_counts_with_drivers.Tie as tie
+
+pub put-counts-with-drivers-spec : {M : Type 1} → statement M
+put-counts-with-drivers-spec =
+    tie.close
+    (tie.spec
+    (λ c κs. search needs)
+    (λ c κs. search needs)
+    (λ c κs. search needs)
+    (λ c κs. search needs)
+    (λ c. search needs)
+    (λ c. search needs)
+    (λ c. search (needs, both-cases))
+    (λ c. (search (needs, left-counts), (search both-cases, search (needs, both-cases)))))
