@@ -516,7 +516,8 @@ const TABLE: &[Rows] = &[
             ("sorted", widest_sheet, &[200, 400]),
             ("falling", widest_falling, &[400]),
             ("equal", equal_turns, &[400]),
-            ("random *", widest_shuffled, &[400]),
+            ("random", widest_shuffled, &[400]),
+            ("few *", shapes::few_kinds, &[400]),
         ],
     ),
     (&DRAW, &[("*", widest_sheet, &[200, 400])]),
@@ -613,6 +614,7 @@ fn main() {
         "improve: at most {VISITS} visits; refine, charge r and q: at most {BOARD_ROUNDS} rounds;"
     );
     println!("plan f: the reference makes no list at each pick;");
+    println!("write few: six kinds of turns, nearly equal by pairs;");
     println!("play: the reference goes by the turns; play o: minute by minute as the library does, its peer;");
     println!("charge s: small draws, charge a: and all windows overlap;");
     println!("charge l: the hall's limit, charge r: its rounds, charge q: with small draws; *: the slowest known");
