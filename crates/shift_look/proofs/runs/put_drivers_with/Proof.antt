@@ -1,4 +1,4 @@
-use Rattle.best_table.proofs.WayCases.{order-first}
+use Rattle.best_table.proofs.BlockedCases.{order-first}
 use borrow.Author.Needs.{needs}
 use Rattle.shift_look.proofs.runs.put_drivers_with.Statement.{statement}
 use Rattle.shift_look.proofs.runs.put_drivers_with.Tie as tie
