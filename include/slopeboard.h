@@ -29,11 +29,11 @@
  * - All working space is on the caller's stack: at most SLOPEBOARD_STACK_.. bytes, given for each function below. No
  *   function calls itself but the search of slopeboard_improve, one level deeper for each of at most 64 turns.
  * - Times, measured and not proved, in microseconds: one call on the slowest sheets known, the best of many rounds
- *   over 64 sheets (reference/bench), on one core of an AMD EPYC server. slopeboard_list 149, slopeboard_plan 134,
- *   slopeboard_charge 63, slopeboard_play 61, slopeboard_check 58, slopeboard_keep 12, slopeboard_limit 10,
- *   slopeboard_assign 9.7, slopeboard_draw 7.6, slopeboard_charge_limit 5.9, slopeboard_write 4.2,
- *   slopeboard_restore 4.1, slopeboard_best 2.9, slopeboard_read 2.5; slopeboard_improve 26 for 10,000 visits;
- *   slopeboard_refine 282 and slopeboard_charge_refine 462 for 50 rounds. A slower sheet may exist.
+ *   over 64 sheets (reference/bench), on one core of an AMD EPYC server. slopeboard_list 137, slopeboard_plan 117,
+ *   slopeboard_charge 60, slopeboard_check 57, slopeboard_play 46, slopeboard_write 17, slopeboard_keep 12,
+ *   slopeboard_limit 10, slopeboard_assign 9.1, slopeboard_draw 6.7, slopeboard_charge_limit 5.9,
+ *   slopeboard_restore 3.9, slopeboard_read 2.5, slopeboard_best 2.4; slopeboard_improve 26 for 10,000 visits;
+ *   slopeboard_refine 273 and slopeboard_charge_refine 445 for 50 rounds. A slower sheet may exist.
  */
 #ifndef SLOPEBOARD_H
 #define SLOPEBOARD_H
