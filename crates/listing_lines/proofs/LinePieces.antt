@@ -1,7 +1,7 @@
 -- The lines of the listing by their pieces, each premise in the form in which the code's calls leave it. Assumes nothing.
 use Prim.Native.Nat.{ℕ, _+_, _≤_, _<_}
-use mathlib.Core.Path.{_≡_}
-use mathlib.Core.List.{List, [], _∷_, _++_}
+use mathlib.Core.Path.{_≡_, _∙_, sym}
+use mathlib.Core.List.{List, [], _∷_, _++_, append-assoc}
 use native.Mathlib.Omega.{arith}
 use lib.ListN.{length}
 use Rattle.wire.specs.Number.{puts}
@@ -14,7 +14,7 @@ use Rattle.instance.specs.Columns.{rowIn, turnsBy}
 use Rattle.instance.proofs.Rows.{slope-at, start-at, end-at, worth-at}
 use Rattle.listing_spec.specs.declared.Sums.{Sums}
 use Rattle.listing_spec.specs.Text.{labelled, twoLabelled, headingOf, lineOf, sumsLine, groomerWord, slopeWord, worthWord, sumWord, tallyWord, ceilingWord, refusedWord, hyphen, lineFeed, refusedLine}
-use Rattle.listing_lines.proofs.Pieces.{first-fits, second-fits, both-place, both-put, middle-fits, third-fits, three-place, three-put}
+use Rattle.listing_lines.proofs.Pieces.{first-fits, second-fits, both-place, both-put}
 
 -- ---- a word and a number
 
@@ -41,29 +41,43 @@ pub ruleset labelled-cases = (word-fits, value-fits, labelled-place, labelled-pu
 -- ---- two of them
 
 module _ (word : List ℕ) (x : ℕ) (word′ : List ℕ) (y at : ℕ) where
-  pub left-fits : at + length (twoLabelled word x word′ y) ≤ lastPlace → at + length (labelled word x) ≤ lastPlace
-  unfolding twoLabelled
-  left-fits h = first-fits (labelled word x) (labelled word′ y ++ lineFeed) at h
+  abbrev pair : List ℕ
+  pair = labelled word x ++ labelled word′ y
+
+  pub left-fits : at + length pair ≤ lastPlace → at + length (labelled word x) ≤ lastPlace
+  left-fits h = first-fits (labelled word x) (labelled word′ y) at h
 
   module _ {next : ℕ} (e : next ≡ at + length (labelled word x)) where
-    pub right-fits : at + length (twoLabelled word x word′ y) ≤ lastPlace → next + length (labelled word′ y) ≤ lastPlace
-    unfolding twoLabelled
-    right-fits h = middle-fits (labelled word x) (labelled word′ y) lineFeed at e h
+    pub right-fits : at + length pair ≤ lastPlace → next + length (labelled word′ y) ≤ lastPlace
+    right-fits h = second-fits (labelled word x) (labelled word′ y) at e h
 
-    module _ {last : ℕ} (f : last ≡ next + length (labelled word′ y)) where
-      pub feed-fits : at + length (twoLabelled word x word′ y) ≤ lastPlace → last + 1 ≤ lastPlace
-      unfolding twoLabelled
-      feed-fits h = third-fits (labelled word x) (labelled word′ y) lineFeed at e f h
+    pub pair-place : {r : ℕ} → r ≡ next + length (labelled word′ y) → r ≡ at + length pair
+    pair-place f = both-place (labelled word x) (labelled word′ y) at e f
 
-      pub two-place : {r : ℕ} → r ≡ last + 1 → r ≡ at + length (twoLabelled word x word′ y)
-      unfolding twoLabelled
-      two-place g = three-place (labelled word x) (labelled word′ y) lineFeed at e f g
+    pub pair-put : (l : List ℕ) {l₁ l₂ : List ℕ} → l₁ ≡ puts l at (labelled word x) → l₂ ≡ puts l₁ next (labelled word′ y) → l₂ ≡ puts l at pair
+    pair-put l p q = both-put (labelled word x) (labelled word′ y) at e l p q
 
-      pub two-put : (l : List ℕ) {l₁ l₂ l₃ : List ℕ} → l₁ ≡ puts l at (labelled word x) → l₂ ≡ puts l₁ next (labelled word′ y) → l₃ ≡ puts l₂ last (10 ∷ []) → l₃ ≡ puts l at (twoLabelled word x word′ y)
-      unfolding twoLabelled
-      two-put l p q r = three-put (labelled word x) (labelled word′ y) lineFeed at e f l p q r
+  -- the end of the line behind both
+  pair-then-end : twoLabelled word x word′ y ≡ pair ++ lineFeed
+  unfolding twoLabelled
+  pair-then-end = sym (append-assoc (labelled word x) (labelled word′ y) lineFeed)
 
-pub ruleset two-cases = (left-fits, right-fits, feed-fits, two-place, two-put)
+  pub pair-fits : at + length (twoLabelled word x word′ y) ≤ lastPlace → at + length pair ≤ lastPlace
+  pair-fits h = first-fits pair lineFeed at (rw pair-then-end at h)
+
+  module _ {last : ℕ} (e : last ≡ at + length pair) where
+    pub feed-fits : at + length (twoLabelled word x word′ y) ≤ lastPlace → last + 1 ≤ lastPlace
+    feed-fits h = second-fits pair lineFeed at e (rw pair-then-end at h)
+
+    pub two-place : {r : ℕ} → r ≡ last + 1 → r ≡ at + length (twoLabelled word x word′ y)
+    two-place g = rw pair-then-end (both-place pair lineFeed at e g)
+
+    pub two-put : (l : List ℕ) {l₁ l₂ : List ℕ} → l₁ ≡ puts l at pair → l₂ ≡ puts l₁ last (10 ∷ []) → l₂ ≡ puts l at (twoLabelled word x word′ y)
+    two-put l p q = rw pair-then-end (both-put pair lineFeed at e l p q)
+
+pub ruleset pair-cases = (left-fits, right-fits, pair-place, pair-put)
+
+pub ruleset two-cases = (pair-fits, feed-fits, two-place, two-put)
 
 -- ---- a heading
 
@@ -115,28 +129,34 @@ module _ (p : Size) (cols : List ℕ) (u at : ℕ) {a : Row} (h : u < p .count) 
   abbrev T : Turns
   T = turnsBy p cols
 
-  line-is : lineOf T u ≡ decimal (a .start) ++ (labelled hyphen (a .end) ++ twoLabelled slopeWord (a .slope) worthWord (a .worth))
+  abbrev minutes : List ℕ
+  minutes = labelled [] (a .start) ++ labelled hyphen (a .end)
+
+  abbrev values : List ℕ
+  values = twoLabelled slopeWord (a .slope) worthWord (a .worth)
+
+  by-row : lineOf T u ≡ decimal (a .start) ++ (labelled hyphen (a .end) ++ values)
   unfolding lineOf
-  line-is = rw (start-at p cols u h e, end-at p cols u h e, slope-at p cols u h e, worth-at p cols u h e)
+  by-row = rw (start-at p cols u h e, end-at p cols u h e, slope-at p cols u h e, worth-at p cols u h e)
 
-  pub start-fits : at + length (lineOf T u) ≤ lastPlace → at + length (decimal (a .start)) ≤ lastPlace
-  start-fits k = first-fits (decimal (a .start)) (labelled hyphen (a .end) ++ twoLabelled slopeWord (a .slope) worthWord (a .worth)) at (rw line-is at k)
+  line-is : lineOf T u ≡ minutes ++ values
+  unfolding labelled
+  line-is = by-row ∙ sym (append-assoc (decimal (a .start)) (labelled hyphen (a .end)) values)
 
-  module _ {next : ℕ} (q : next ≡ at + length (decimal (a .start))) where
-    pub end-fits : at + length (lineOf T u) ≤ lastPlace → next + length (labelled hyphen (a .end)) ≤ lastPlace
-    end-fits k = middle-fits (decimal (a .start)) (labelled hyphen (a .end)) (twoLabelled slopeWord (a .slope) worthWord (a .worth)) at q (rw line-is at k)
+  pub minutes-fit : at + length (lineOf T u) ≤ lastPlace → at + length minutes ≤ lastPlace
+  minutes-fit k = first-fits minutes values at (rw line-is at k)
 
-    module _ {last : ℕ} (r : last ≡ next + length (labelled hyphen (a .end))) where
-      pub values-fit : at + length (lineOf T u) ≤ lastPlace → last + length (twoLabelled slopeWord (a .slope) worthWord (a .worth)) ≤ lastPlace
-      values-fit k = third-fits (decimal (a .start)) (labelled hyphen (a .end)) (twoLabelled slopeWord (a .slope) worthWord (a .worth)) at q r (rw line-is at k)
+  module _ {next : ℕ} (q : next ≡ at + length minutes) where
+    pub values-fit : at + length (lineOf T u) ≤ lastPlace → next + length values ≤ lastPlace
+    values-fit k = second-fits minutes values at q (rw line-is at k)
 
-      pub line-place : {z : ℕ} → z ≡ last + length (twoLabelled slopeWord (a .slope) worthWord (a .worth)) → z ≡ at + length (lineOf T u)
-      line-place f = rw line-is (three-place (decimal (a .start)) (labelled hyphen (a .end)) (twoLabelled slopeWord (a .slope) worthWord (a .worth)) at q r f)
+    pub line-place : {z : ℕ} → z ≡ next + length values → z ≡ at + length (lineOf T u)
+    line-place f = rw line-is (both-place minutes values at q f)
 
-      pub line-put : (l : List ℕ) {l₁ l₂ l₃ : List ℕ} → l₁ ≡ puts l at (decimal (a .start)) → l₂ ≡ puts l₁ next (labelled hyphen (a .end)) → l₃ ≡ puts l₂ last (twoLabelled slopeWord (a .slope) worthWord (a .worth)) → l₃ ≡ puts l at (lineOf T u)
-      line-put l x y z = rw line-is (three-put (decimal (a .start)) (labelled hyphen (a .end)) (twoLabelled slopeWord (a .slope) worthWord (a .worth)) at q r l x y z)
+    pub line-put : (l : List ℕ) {l₁ l₂ : List ℕ} → l₁ ≡ puts l at minutes → l₂ ≡ puts l₁ next values → l₂ ≡ puts l at (lineOf T u)
+    line-put l x y = rw line-is (both-put minutes values at q l x y)
 
-pub ruleset line-cases = (start-fits, end-fits, values-fit, line-place, line-put)
+pub ruleset line-cases = (minutes-fit, values-fit, line-place, line-put)
 
 -- ---- a refusal's line
 

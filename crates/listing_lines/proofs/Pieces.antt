@@ -23,21 +23,6 @@ module _ (a b : List ℕ) (at : ℕ) where
     pub both-put : (l : List ℕ) {l₁ l₂ : List ℕ} → l₁ ≡ puts l at a → l₂ ≡ puts l₁ next b → l₂ ≡ puts l at (a ++ b)
     both-put l p q = q ∙ rw p (puts-append a b l at next e)
 
--- three pieces
-module _ (a b c : List ℕ) (at : ℕ) {next : ℕ} (e : next ≡ at + length a) where
-  pub middle-fits : {most : ℕ} → at + length (a ++ (b ++ c)) ≤ most → next + length b ≤ most
-  middle-fits h = first-fits b c next (second-fits a (b ++ c) at e h)
-
-  module _ {last : ℕ} (f : last ≡ next + length b) where
-    pub third-fits : {most : ℕ} → at + length (a ++ (b ++ c)) ≤ most → last + length c ≤ most
-    third-fits h = second-fits b c next f (second-fits a (b ++ c) at e h)
-
-    pub three-place : {end : ℕ} → end ≡ last + length c → end ≡ at + length (a ++ (b ++ c))
-    three-place g = both-place a (b ++ c) at e (both-place b c next f g)
-
-    pub three-put : (l : List ℕ) {l₁ l₂ l₃ : List ℕ} → l₁ ≡ puts l at a → l₂ ≡ puts l₁ next b → l₃ ≡ puts l₂ last c → l₃ ≡ puts l at (a ++ (b ++ c))
-    three-put l {l₁} p q r = both-put a (b ++ c) at e l p (both-put b c next f l₁ q r)
-
 -- ---- a loop that puts piece by piece: what is left is a piece and what is left then
 
 module _ (rest piece rest′ : List ℕ) (split : rest ≡ piece ++ rest′) (to : ℕ) where

@@ -1,6 +1,7 @@
 // The lines of the listing, each put behind the one before it. Each function returns the place
 // behind what it put.
 ghost use mathlib.Core.Path.{_≡_};
+ghost use mathlib.Core.List.{_++_};
 ghost use Prim.Native.Nat.{_+_, _≤_, _<_};
 ghost use lib.ListN.{length};
 ghost use Rattle.wire.specs.Number.{puts};
@@ -39,14 +40,23 @@ fn put_labelled(out: &mut [u8], at: usize, word: &[u8], x: u32) -> usize
     text::put_number(&mut *out, next, x)
 }
 
+// Two of them. Every line goes through here, so that the loops over characters are compiled once.
+fn put_pair(out: &mut [u8], at: usize, word: &[u8], x: u32, second: &[u8], y: u32) -> usize
+    requires { ⌜ at + length (labelled (now word) x ++ labelled (now second) y) ≤ lastPlace ⌝ }
+    ensures { λ r. ⌜ (r ≡ at + length (labelled (now (word .entry)) x ++ labelled (now (second .entry)) y))
+        × (now (out .exit) ≡ puts (now (out .entry)) at (labelled (now (word .entry)) x ++ labelled (now (second .entry)) y)) ⌝ }
+{
+    let next = put_labelled(&mut *out, at, word, x);
+    put_labelled(&mut *out, next, second, y)
+}
+
 // Two of them, and the end of the line.
 fn put_two(out: &mut [u8], at: usize, word: &[u8], x: u32, second: &[u8], y: u32) -> usize
     requires { ⌜ at + length (twoLabelled (now word) x (now second) y) ≤ lastPlace ⌝ }
     ensures { λ r. ⌜ (r ≡ at + length (twoLabelled (now (word .entry)) x (now (second .entry)) y))
         × (now (out .exit) ≡ puts (now (out .entry)) at (twoLabelled (now (word .entry)) x (now (second .entry)) y)) ⌝ }
 {
-    let next = put_labelled(&mut *out, at, word, x);
-    let last = put_labelled(&mut *out, next, second, y);
+    let last = put_pair(&mut *out, at, word, x, second, y);
     text::put_byte(&mut *out, last, LINE_FEED)
 }
 
@@ -66,15 +76,22 @@ pub fn put_line(out: &mut [u8], at: usize, p: Size, cols: &[u16; PLACES], u: usi
     ensures { λ r. ⌜ (r ≡ at + length (lineOf (turnsBy p (now (cols .entry))) u))
         × (now (out .exit) ≡ puts (now (out .entry)) at (lineOf (turnsBy p (now (cols .entry))) u)) ⌝ }
 {
+    let nothing: [u8; 0] = [];
     let hyphen = HYPHEN;
     let slope = SLOPE;
     let worth = WORTH;
     let row = row_at(cols, u);
-    let next = text::put_number(&mut *out, at, row.start as u32);
-    let last = put_labelled(&mut *out, next, &hyphen, row.end as u32);
+    let next = put_pair(
+        &mut *out,
+        at,
+        &nothing,
+        row.start as u32,
+        &hyphen,
+        row.end as u32,
+    );
     put_two(
         &mut *out,
-        last,
+        next,
         &slope,
         row.slope as u32,
         &worth,

@@ -6,4 +6,4 @@ use Rattle.listing_lines.proofs.lines.put_two.Tie as tie
 pub put-two-spec : {M : Type 1} → statement M
 put-two-spec =
     tie.close
-    (tie.spec (λ c κs. search (needs, two-cases)) (λ c κs. search (needs, two-cases)) (λ c κs. search (needs, two-cases)) (λ c. search needs) (λ c. search (needs, two-cases)))
+    (tie.spec (λ c κs. search (needs, two-cases)) (λ c κs. search (needs, two-cases)) (λ c. search needs) (λ c. search (needs, two-cases)))
