@@ -3,8 +3,10 @@ pub mod Ordering
 pub mod Tables
 pub mod Groomers
 pub mod Own
+pub mod Parts
 pub mod Tight
 pub mod Optimal
+pub mod Latest
 pub mod Singles
 pub mod BestCauses
 pub mod Promised

@@ -1,6 +1,6 @@
 -- The table over a groomer's own turns gives the most that they earn, and over all groomers this adds up to the best worth. Assumes nothing.
 use mathlib.Core.Path.{_≡_, refl, sym, ap, _∙_}
-use mathlib.Core.Logic.{_≢_, inl, inr}
+use mathlib.Core.Logic.{_≢_}
 use mathlib.Core.Bool.{Bool, true, false, cond}
 use mathlib.Core.List.{List, [], _∷_, _++_}
 use Prim.Native.Nat.{ℕ, zero, suc, _+_, _≤_, _<_}
@@ -8,20 +8,18 @@ use native.Mathlib.Omega.{arith}
 use native.Mathlib.Decide.{decLt, ℕ-discrete}
 use native.Mathlib.Numerals.{add-one}
 use lib.Dec.{leb, eqb}
-use lib.ListN.{replicate, length-replicate}
 use borrow.Author.Tests.{leb-true, le-leb, eqb-true, eq-eqb, ne-eqb}
 use Rattle.lists.proofs.Keeping.{keep-every, keep-holds, keep-all, keep-none, keep-sum}
 use Rattle.lists.specs.Lists.{sum, below, All}
 use Rattle.lists.proofs.Bools.{not-both, fails}
-use Rattle.lists.proofs.Sums.{all-map, all-of}
+use Rattle.lists.proofs.Sums.{all-map}
 use Rattle.model.specs.Turns.{Turns, PositiveLengths, NoDrivers}
 use Rattle.model.specs.Choice.{has, chosen}
 use Rattle.model.specs.Feasible.{worthOf, OneTurnASlope}
 use Rattle.model.proofs.Bound.{apart-set}
-use Rattle.model.proofs.Choices.{none-chosen}
-use Rattle.best_spec.specs.Table.{turnOrder, Best, bestOver, bestWorth, marked, isAmong}
+use Rattle.best_spec.specs.Table.{turnOrder, Best, bestOver, bestWorth}
 use Rattle.best_spec.specs.Groomers.{keep, ownTurns, groomerWorth, groomersWorth, OwnSet, MostOfGroomer}
-use Rattle.best_spec.proofs.Members.{among-all, marked-from, marked-earns}
+use Rattle.best_spec.proofs.Members.{among-all, setChoice, set-from, set-earns}
 use Rattle.best_spec.proofs.Ordering.{Ordered, empty, first, order-ordered, order-range, order-sum}
 use Rattle.best_spec.proofs.Tables.{best-none, best-earns, best-every, leads-groomer, apart-among, best-feasible, taking-best}
 use Rattle.best_spec.proofs.Groomers.{groomers-add}
@@ -55,24 +53,17 @@ module _ (T : Turns) where
     unfolding ownTurns
     own-groomer = all-map (λ t e. eqb-true (T .groomer t) g e) (keep-holds (isOwn g) (turnOrder T))
 
-    -- the choice of a set
-    abbrev setChoice : List ℕ → List Bool
-    setChoice R = marked (replicate (T .count) false) R
-
-    choice-from : (R : List ℕ) (x : ℕ) → has (setChoice R) x ≡ true → isAmong R x ≡ true
-    choice-from R x e = elim (marked-from (replicate (T .count) false) R x e) [ inl h ↦ absurd (none-chosen (T .count) x h) | inr h ↦ h ]
-
     own-most : (R : List ℕ) → OwnSet T g R → worthOf T R ≤ groomerWorth T g
     unfolding groomerWorth ownTurns chosen
     own-most R o =
-        let S = setChoice R in
+        let S = setChoice (T .count) R in
         let f : ℕ → ℕ = λ t. cond (has S t) (T .worth t) 0 in
-        let most = taking-best T lengths free single (has S) (λ x y hx hy d p q. apart-among T (apart-set T lengths (o .feasible)) x y (choice-from R x p) (choice-from R y q) d) (ownTurns T g) (own-ordered, own-range) in
-        let earned = marked-earns (T .count) (T .worth) (replicate (T .count) false) (length-replicate (T .count) false) (o .feasible .numbers) (o .feasible .once) (all-of (λ t. fails (has (replicate (T .count) false) t) (none-chosen (T .count) t)) R) in
+        let most = taking-best T lengths free single (has S) (λ x y hx hy d p q. apart-among T (apart-set T lengths (o .feasible)) x y (set-from (T .count) R x p) (set-from (T .count) R y q) d) (ownTurns T g) (own-ordered, own-range) in
+        let earned = set-earns (T .count) R (T .worth) (o .feasible .numbers) (o .feasible .once) in
         omega (arith, most, earned, order-sum T f, keep-sum (isOwn g) f (λ t e. nothing t e (has S t) refl) (turnOrder T))
       where
-        nothing : (t : ℕ) → isOwn g t ≡ false → (b : Bool) → has (setChoice R) t ≡ b → cond (has (setChoice R) t) (T .worth t) 0 ≡ 0
-        nothing t e true h = absurd (not-both (eq-eqb (T .groomer t) g (among-all t (o .own) (choice-from R t h))) e)
+        nothing : (t : ℕ) → isOwn g t ≡ false → (b : Bool) → has (setChoice (T .count) R) t ≡ b → cond (has (setChoice (T .count) R) t) (T .worth t) 0 ≡ 0
+        nothing t e true h = absurd (not-both (eq-eqb (T .groomer t) g (among-all t (o .own) (set-from (T .count) R t h))) e)
         nothing t e false h = rw h
 
     -- without drivers and with one turn a slope

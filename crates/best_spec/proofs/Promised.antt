@@ -19,7 +19,8 @@ use Rattle.best_spec.specs.Table.{bestWorth, bestChoice}
 use Rattle.best_spec.specs.Best.{Earned, bestOf}
 use Rattle.best_spec.specs.Promises.{answeredMap, answeredChoice, BestOfSheet, BestPromised}
 use Rattle.best_spec.proofs.BestCauses.{best-clear, best-is-found}
-use Rattle.best_spec.proofs.Optimal.{bestTurns, best-set, best-length, best-independent, best-chosen, best-greatest, best-tally, best-planned, best-choice-planned, best-leaves-out}
+use Rattle.best_spec.proofs.Optimal.{bestTurns, best-set, best-length, best-independent, best-chosen, best-greatest, best-tally, best-planned}
+use Rattle.best_spec.proofs.Latest.{best-leaves-out, best-choice-planned}
 use Rattle.best_spec.proofs.Own.{groomer-most, groomers-sum}
 
 module _ (s : List ℕ) (z : firstOf (sheetCauses s) ≡ 0) (free : NoDrivers (sheetTurns s)) (single : OneTurnASlope (sheetTurns s)) where
@@ -36,7 +37,7 @@ module _ (s : List ℕ) (z : firstOf (sheetCauses s) ≡ 0) (free : NoDrivers (s
         tallied = planned-back s z .tallied ∙ sym (best-tally (sheetTurns s) (sheet-lengths s z) free single);
         planned-worth = planned-back s z .worth ∙ sym (best-planned (sheetTurns s) (sheet-lengths s z) free single);
         planned-map = planned-map s z ∙ ap mapOf (sym (best-choice-planned (sheetTurns s) (sheet-lengths s z) free single worths));
-        latest = best-leaves-out (sheetTurns s) (sheet-lengths s z) free single worths;
+        latest = best-leaves-out (sheetTurns s) (sheet-lengths s z) free single;
       }
 
 -- ---- of the entry itself

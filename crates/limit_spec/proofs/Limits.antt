@@ -50,15 +50,15 @@ pays-own T lengths t h d =
 -- ---- the turns at their counts
 
 module _ (T : Turns) (slopes : ℕ) (prices : List ℕ) where
-  priced-lengths : PositiveLengths T → PositiveLengths (pricedTurns T slopes prices)
+  pub priced-lengths : PositiveLengths T → PositiveLengths (pricedTurns T slopes prices)
   unfolding pricedTurns
   priced-lengths h = h
 
-  priced-driverless : NoDrivers (pricedTurns T slopes prices)
+  pub priced-driverless : NoDrivers (pricedTurns T slopes prices)
   unfolding pricedTurns
   priced-driverless t h = refl
 
-  priced-single : OneTurnASlope (pricedTurns T slopes prices)
+  pub priced-single : OneTurnASlope (pricedTurns T slopes prices)
   unfolding pricedTurns
   priced-single x y hx hy e = e
 

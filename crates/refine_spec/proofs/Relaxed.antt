@@ -1,142 +1,30 @@
--- The relaxed set is what the table over all turns gives at the same counts: the groomers' own tables, one behind another. Assumes nothing.
-use mathlib.Core.Path.{_≡_, refl, sym, ap, ap₂, _∙_}
-use mathlib.Core.Bool.{Bool, true, false, _||_}
-use mathlib.Core.List.{List, [], _∷_, _++_}
-use Prim.Native.Nat.{ℕ, _≤_, _<_}
+-- The relaxed set is what the table over all turns gives at the same counts, and the one set that its words speak of. Assumes nothing.
+use mathlib.Core.Path.{_≡_, sym, _∙_, subst}
+use mathlib.Core.Bool.{Bool, false}
+use mathlib.Core.List.{List}
+use Prim.Native.Nat.{ℕ}
 use native.Mathlib.Omega.{arith}
-use native.Mathlib.Decide.{decLt, ℕ-discrete}
-use lib.Dec.{eqb}
 use lib.Seq.{ext-getD}
-use borrow.Author.Tests.{eq-eqb, ne-eqb}
-use Rattle.lists.specs.Lists.{All, none, more}
-use Rattle.lists.proofs.Bools.{fails, same-tests}
-use Rattle.lists.proofs.Sums.{all-map, tab-length, tab-at, all-append}
-use Rattle.model.specs.Turns.{Turns}
-use Rattle.model.specs.Choice.{has}
-use Rattle.best_spec.specs.Table.{Best, bestOver, bestChoice, isAmong}
-use Rattle.best_spec.specs.Groomers.{keep, ownTurns}
-use Rattle.best_spec.proofs.Members.{among-all}
-use Rattle.best_spec.proofs.Ordering.{Ordered, empty, first, order-ordered}
-use Rattle.best_spec.proofs.Tables.{best-every, leads-groomer}
-use Rattle.best_spec.proofs.Groomers.{together, groomers-add}
-use Rattle.best_spec.proofs.Optimal.{bestTurns, choice-among, among-choice, best-length}
+use Rattle.lists.proofs.Bools.{not-both, fails, same-tests}
+use Rattle.lists.proofs.Sums.{tab-length, tab-at}
+use Rattle.model.specs.Turns.{Turns, PositiveLengths, NoDrivers}
+use Rattle.model.specs.Choice.{has, chosen, members}
+use Rattle.model.specs.Feasible.{OneTurnASlope}
+use Rattle.model.proofs.Members.{chosen-members, members-feasible}
+use Rattle.best_spec.specs.Table.{bestWorth, bestChoice, isAmong}
+use Rattle.best_spec.proofs.Parts.{own-among}
+use Rattle.best_spec.proofs.Optimal.{bestTurns, choice-among, among-choice, best-length, best-set, best-independent, best-greatest, best-chosen}
+use Rattle.best_spec.proofs.Latest.{LaterIn, best-leaves-out, best-later, latest-only}
 use Rattle.limit_spec.specs.Prices.{countsFor, pricedTurns}
 use Rattle.limit_spec.proofs.Bare.{withWorths, bare-choice}
-use Rattle.refine_spec.specs.Shift.{isRelaxed, relaxedSet}
-
--- ---- elements of two lists
-
-among-both : (xs ys : List ℕ) (t : ℕ) → isAmong (xs ++ ys) t ≡ (isAmong xs t || isAmong ys t)
-unfolding isAmong
-among-both [] ys t = refl
-among-both (x ∷ xs) ys t = rw (among-both xs ys t) (either (eqb t x) (isAmong xs t) (isAmong ys t))
-  where
-    either : (a b c : Bool) → (a || (b || c)) ≡ ((a || b) || c)
-    either true b c = refl
-    either false b c = refl
+use Rattle.limit_spec.proofs.Limits.{priced-lengths, priced-driverless, priced-single}
+use Rattle.refine_spec.specs.Shift.{isRelaxed, relaxedSet, Relaxed}
 
 module _ (T : Turns) where
-  -- ---- a list in order: the turns of groomers below g, those of g, those of groomers above
-
-  record Parts (g : ℕ) (ts : List ℕ) : Type 0 where
-    lower : List ℕ
-    own : List ℕ
-    upper : List ℕ
-    split : ts ≡ lower ++ (own ++ upper)
-    are-lower : All (λ t. T .groomer t < g) lower
-    are-own : All (λ t. T .groomer t ≡ g) own
-    are-upper : All (λ t. g < T .groomer t) upper
-    kept : keep (λ t. eqb (T .groomer t) g) ts ≡ own
-
-  -- what stands before is empty where no element can be there
-  none-before : {P Q : ℕ → Type 0} → ((t : ℕ) → P t → Q t → ⊥) → {xs : List ℕ} (ys : List ℕ) → All P xs → All Q (xs ++ ys) → xs ≡ []
-  none-before apart ys none q = refl
-  none-before apart ys (more {t = t} p ps) (more q qs) = absurd (apart t p q)
-
-  parts : (g : ℕ) {ts : List ℕ} → Ordered T ts → Parts g ts
-  unfolding keep
-  parts g empty = record { lower = []; own = []; upper = []; split = refl; are-lower = none; are-own = none; are-upper = none; kept = refl }
-  parts g (first {t = t} {ts = ts} h o) = go (decLt (T .groomer t) g) (ℕ-discrete (T .groomer t) g) (parts g o)
-    where
-      behind : All (λ u. T .groomer t ≤ T .groomer u) ts
-      behind = all-map (λ u b. leads-groomer T t u (b .leads)) h
-
-      no-lower : (p : Parts g ts) → g ≤ T .groomer t → p .lower ≡ []
-      no-lower p l = none-before (λ u a b. omega (arith, l)) (p .own ++ p .upper) (p .are-lower) (rw (p .split) at behind)
-
-      from-own : (p : Parts g ts) → g ≤ T .groomer t → ts ≡ p .own ++ p .upper
-      from-own p l = p .split ∙ ap (λ (xs : List ℕ). xs ++ (p .own ++ p .upper)) (no-lower p l)
-
-      no-own : (p : Parts g ts) → g < T .groomer t → p .own ≡ []
-      no-own p l = none-before (λ u a b. omega (arith, l)) (p .upper) (p .are-own) (rw (from-own p (omega arith)) at behind)
-
-      go : Dec (T .groomer t < g) → Dec (T .groomer t ≡ g) → Parts g ts → Parts g (t ∷ ts)
-      go (yes l) d p =
-          record {
-            lower = t ∷ p .lower;
-            own = p .own;
-            upper = p .upper;
-            split = ap (λ (xs : List ℕ). t ∷ xs) (p .split);
-            are-lower = more l (p .are-lower);
-            are-own = p .are-own;
-            are-upper = p .are-upper;
-            kept = rw (ne-eqb (T .groomer t) g (λ e. omega arith)) (p .kept);
-          }
-      go (no l) (yes e) p =
-          record {
-            lower = [];
-            own = t ∷ p .own;
-            upper = p .upper;
-            split = ap (λ (xs : List ℕ). t ∷ xs) (from-own p (omega arith));
-            are-lower = none;
-            are-own = more e (p .are-own);
-            are-upper = p .are-upper;
-            kept = rw (eq-eqb (T .groomer t) g e) (ap (λ (xs : List ℕ). t ∷ xs) (p .kept));
-          }
-      go (no l) (no e) p =
-          let above : g < T .groomer t = omega arith in
-          let none-own = no-own p above in
-          record {
-            lower = [];
-            own = [];
-            upper = t ∷ p .upper;
-            split = ap (λ (xs : List ℕ). t ∷ xs) (from-own p (omega arith) ∙ ap (λ (xs : List ℕ). xs ++ p .upper) none-own);
-            are-lower = none;
-            are-own = none;
-            are-upper = more above (p .are-upper);
-            kept = rw (ne-eqb (T .groomer t) g e) (p .kept ∙ none-own);
-          }
-
-  -- the table over all three is the three tables
-  three-tables : {g : ℕ} {ts : List ℕ} (p : Parts g ts) → bestOver T ts ≡ together (bestOver T (p .lower)) (together (bestOver T (p .own)) (bestOver T (p .upper)))
-  three-tables {g} p =
-      ap (bestOver T) (p .split)
-      ∙ groomers-add T (p .own ++ p .upper) (p .lower)
-      (all-map (λ x l. all-append (all-map (λ y e d. omega arith) (p .are-own)) (all-map (λ y k d. omega arith) (p .are-upper))) (p .are-lower))
-      ∙ ap (together (bestOver T (p .lower))) (groomers-add T (p .upper) (p .own) (all-map (λ x e. all-map (λ y k d. omega arith) (p .are-upper)) (p .are-own)))
-
-  -- a turn is in the set of all turns just if it is in its groomer's own
-  pub own-among : (t : ℕ) → isAmong (bestTurns T) t ≡ isAmong (bestOver T (ownTurns T (T .groomer t)) .turns) t
-  unfolding ownTurns
-  own-among t =
-      let p = parts (T .groomer t) (order-ordered T) in
-      let L = bestOver T (p .lower) .turns in
-      let O = bestOver T (p .own) .turns in
-      let U = bestOver T (p .upper) .turns in
-      let not-lower : isAmong L t ≡ false = fails (isAmong L t) (λ e. omega (arith, among-all t (best-every T (p .lower) (p .are-lower)) e)) in
-      let not-upper : isAmong U t ≡ false = fails (isAmong U t) (λ e. omega (arith, among-all t (best-every T (p .upper) (p .are-upper)) e)) in
-      ap (λ (b : Best). isAmong (b .turns) t) (three-tables p)
-      ∙ among-both L (O ++ U) t ∙ ap₂ _||_ not-lower (among-both O U t) ∙ ap (λ (b : Bool). isAmong O t || b) not-upper
-      ∙ last (isAmong O t) ∙ ap (λ (ts : List ℕ). isAmong (bestOver T ts .turns) t) (sym (p .kept))
-    where
-      last : (b : Bool) → (b || false) ≡ b
-      last true = refl
-      last false = refl
-
-  -- so it is chosen just if it is in that
+  -- a turn is chosen just if it is in its groomer's own set
   pub choice-own : (t : ℕ) → has (bestChoice T) t ≡ isRelaxed T t
   unfolding isRelaxed
-  choice-own t = same-tests (has (bestChoice T) t) (isAmong (bestTurns T) t) (choice-among T t) (among-choice T t) ∙ own-among t
+  choice-own t = same-tests (has (bestChoice T) t) (isAmong (bestTurns T) t) (choice-among T t) (among-choice T t) ∙ own-among T t
 
 module _ (T : Turns) (slopes : ℕ) (prices : List ℕ) where
   pub relaxed-best : relaxedSet T slopes prices ≡ bestChoice (pricedTurns T slopes prices)
@@ -150,3 +38,52 @@ module _ (T : Turns) (slopes : ℕ) (prices : List ℕ) where
   pub relaxed-counted : relaxedSet T slopes prices ≡ bestChoice (withWorths T (countsFor T slopes prices))
   unfolding pricedTurns
   relaxed-counted = relaxed-best ∙ bare-choice (withWorths T (countsFor T slopes prices))
+
+  -- ---- in words
+
+  module _ (lengths : PositiveLengths T) where
+    abbrev P : Turns
+    P = pricedTurns T slopes prices
+
+    best-relaxed : Relaxed T slopes prices (bestChoice P)
+    unfolding pricedTurns
+    best-relaxed =
+        let l = priced-lengths T slopes prices lengths in
+        let f = priced-driverless T slopes prices in
+        let s = priced-single T slopes prices in
+        let earns = best-chosen P l f s in
+        record {
+          places = best-length P;
+          apart = best-independent P l f s;
+          greatest = λ R r. omega (arith, earns, best-greatest P l f s R r);
+          latest = λ R r e. best-leaves-out P l f s R (record { feasible = r; earns = e ∙ earns });
+        }
+
+    -- the relaxed set is such a set
+    pub relaxed-is : Relaxed T slopes prices (relaxedSet T slopes prices)
+    relaxed-is = subst (Relaxed T slopes prices) (sym relaxed-best) best-relaxed
+
+    -- and the only one
+    pub relaxed-only : (S : List Bool) → Relaxed T slopes prices S → S ≡ relaxedSet T slopes prices
+    unfolding pricedTurns
+    relaxed-only S r = sym (relaxed-best ∙ latest-only P (bestChoice P) S (best-length P) (r .places) (best-later P l f s S (r .places) (r .apart) earns) later)
+      where
+        l : PositiveLengths P
+        l = priced-lengths T slopes prices lengths
+
+        f : NoDrivers P
+        f = priced-driverless T slopes prices
+
+        s : OneTurnASlope P
+        s = priced-single T slopes prices
+
+        earns : chosen (T .count) S (P .worth) ≡ bestWorth P
+        earns =
+            let b = best-set P l f s in
+            omega (arith, r .greatest (bestTurns P) (b .feasible), b .earns, chosen-members (T .count) S (P .worth), best-greatest P l f s (members (T .count) S) (members-feasible P S (r .apart)))
+
+        later : LaterIn P S (bestChoice P)
+        later x e g =
+            let b = best-set P l f s in
+            let (y, a, c, k) = r .latest (bestTurns P) (b .feasible) (b .earns ∙ sym earns) x e (fails (isAmong (bestTurns P) x) (λ h. not-both (among-choice P x h) g)) in
+            (y, among-choice P y a, c, k)

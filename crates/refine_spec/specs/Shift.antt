@@ -1,15 +1,18 @@
 -- The rule of a shift: the relaxed set at some prices, and how a round moves each price by the turns of that set that pay it (request P-2). Assumes nothing.
-use mathlib.Core.Bool.{Bool, cond}
+use mathlib.Core.Path.{_≡_}
+use mathlib.Core.Bool.{Bool, true, false, cond}
 use mathlib.Core.List.{List, _++_}
-use Prim.Native.Nat.{ℕ, _+_, _-_, _*_, _/_, max, min}
+use Prim.Native.Nat.{ℕ, _+_, _-_, _*_, _/_, _≤_, max, min}
 use lib.Dec.{eqb}
-use lib.ListN.{replicate}
-use Rattle.lists.specs.Lists.{tab, below}
+use lib.ListN.{length, replicate}
+use Rattle.lists.specs.Lists.{tab, sum, below}
 use Rattle.model.specs.Turns.{Turns}
-use Rattle.model.specs.Choice.{chosen, fits, choice}
-use Rattle.best_spec.specs.Table.{bestOver, isAmong}
+use Rattle.model.specs.Choice.{has, chosen, fits, choice}
+use Rattle.model.specs.Rules.{Independent}
+use Rattle.model.specs.Feasible.{Feasible}
+use Rattle.best_spec.specs.Table.{bestOver, isAmong, Later}
 use Rattle.best_spec.specs.Groomers.{ownTurns}
-use Rattle.limit_spec.specs.Prices.{slopePrice, turnPrice, paysTurn, pricedTurns, limitBy}
+use Rattle.limit_spec.specs.Prices.{slopePrice, turnPrice, paysTurn, countsFor, pricedTurns, limitBy}
 use Rattle.refine_spec.specs.Rounds.{RoundRule, Stage, startFrom, refined, greatestOf, firstChange}
 use Rattle.refine_spec.specs.Selection.{choiceFrom}
 
@@ -68,3 +71,13 @@ shiftStart T groomers slopes = startFrom (shiftRule T groomers slopes) (firstCha
 -- at most so many rounds from there
 unfoldable pub shiftRefined : Turns → ℕ → ℕ → ℕ → Stage
 shiftRefined T groomers slopes rounds = refined (shiftRule T groomers slopes) rounds (shiftStart T groomers slopes)
+
+-- ---- as statements
+
+-- the relaxed set in words: no two of its turns conflict by groomer, no such set counts for more at these prices, and of those that count for as much it leaves out the latest of a groomer's turns in which they differ
+pub record Relaxed (T : Turns) (slopes : ℕ) (prices : List ℕ) (S : List Bool) : Type 0 where
+  pub places : length S ≡ T .count
+  pub apart : Independent (pricedTurns T slopes prices) S
+  pub greatest : (R : List ℕ) → Feasible (pricedTurns T slopes prices) R → sum (countsFor T slopes prices) R ≤ chosen (T .count) S (countsFor T slopes prices)
+  pub latest : (R : List ℕ) → Feasible (pricedTurns T slopes prices) R → sum (countsFor T slopes prices) R ≡ chosen (T .count) S (countsFor T slopes prices) →
+      (x : ℕ) → has S x ≡ true → isAmong R x ≡ false → (y : ℕ) × (isAmong R y ≡ true) × (has S y ≡ false) × Later (pricedTurns T slopes prices) y x
