@@ -4,13 +4,11 @@ use mathlib.Core.Bool.{cond}
 use mathlib.Core.List.{List, _++_}
 use Prim.Native.Nat.{ℕ, _+_, _*_, _≤_, _<_}
 use native.Mathlib.Omega.{arith}
-use native.Mathlib.Numerals.{add-one}
 use native.Mathlib.Decide.{decLt}
 use lib.Dec.{ltb}
 use lib.ListN.{length, getD, drop, List·getD-eq-default, List·getD-append}
 use borrow.Author.Tests.{lt-ltb, le-ltb}
 use Rattle.refusal.specs.Cause.{firstOf}
-use Rattle.lists.proofs.Bools.{up-to}
 use Rattle.turn.specs.declared.Turn.{Turn}
 use Rattle.turn.specs.Turn.{rowNumbers, turnIn}
 use Rattle.model.specs.Turns.{Turns}
@@ -25,42 +23,10 @@ use Rattle.sheet.proofs.Whole.{whole-accepted-for, whole-answer-for, whole-turn
 use Rattle.instance.specs.declared.ways.Row.{Row}
 use Rattle.instance.specs.declared.columns.Size.{Size}
 use Rattle.instance.specs.Ways.{rowFor}
-use Rattle.instance.specs.Columns.{columnPlaces, rowIn, withRow, within, turnsBy, Held}
+use Rattle.instance.specs.Columns.{columnPlaces, rowIn, within, turnsBy, Held}
 use Rattle.instance_spec.specs.Problem.{noTurn, problemOf, shiftGap, sheetTurns}
 use Rattle.instance.specs.Load.{EndsFit, RowsOf, PosedFor, shiftSize, Loaded}
-use Rattle.instance.proofs.Rows.{row-length, row-new, row-other}
 use Rattle.instance_spec.proofs.SheetTurns.{few-turns-for, sheet-range-for, sheet-starts-for, sheet-ends-for, sheet-worths-for, sheet-slopes-for}
-
--- ---- one turn
-
-module _ (table : List ℕ) (t : ℕ) {a : Turn} (e : a ≡ turnIn table t) where
-  pub row-from-is : _≡_ {A = Row} (record { slope = a .slope; groomer = a .groomer; start = a .start; end = a .start + a .length; worth = a .worth; driver = a .driver }) (rowFor (turnIn table t))
-  unfolding rowFor
-  row-from-is = rw e
-
-  pub end-in-16 : (n : ℕ) → EndsFit n table → t < n → a .start + a .length < 65536
-  unfolding EndsFit
-  end-in-16 n f h = rw e (f t h)
-
-pub ruleset from-cases = (row-from-is, end-in-16)
-
--- ---- all turns of the table
-
-pub rows-none : (table cols : List ℕ) → RowsOf table cols 0
-unfolding RowsOf
-rows-none table cols = λ t h. absurd (omega arith)
-
-pub rows-more : (table cols : List ℕ) (i : ℕ) {r : Row} {cols′ : List ℕ} {n : ℕ} → i < n → n ≤ mostTurns → length cols ≡ columnPlaces → r ≡ rowFor (turnIn table i) → cols′ ≡ withRow cols i r → RowsOf table cols i → RowsOf table cols′ (i + 1)
-unfolding RowsOf
-rows-more table cols i {r} {n = n} l m w e q o = let h : i < mostTurns = omega arith in rw (add-one, q) (up-to (λ t. rowIn (withRow cols i r) t ≡ rowFor (turnIn table t)) i (λ t k. row-other cols i r t (omega arith) h (omega arith) ∙ o t k) (row-new cols i r h w ∙ e))
-
-pub put-length : (cols : List ℕ) (i : ℕ) (r : Row) {cols′ : List ℕ} → cols′ ≡ withRow cols i r → length cols ≡ columnPlaces → length cols′ ≡ columnPlaces
-put-length cols i r e w = rw e (row-length cols i r ∙ w)
-
-pub rows-done : (table cols : List ℕ) (i : ℕ) {n : ℕ} → n ≤ i → i ≤ n → RowsOf table cols i → RowsOf table cols n
-rows-done table cols i {n} h l o = let q : i ≡ n = omega arith in rw q at o
-
-pub ruleset rows-cases = (rows-none, rows-more, put-length, rows-done)
 
 -- ---- a sheet of any kind that is not refused, in columns with its rows
 
