@@ -213,7 +213,7 @@ typedef struct {
 typedef struct {
     uint8_t refusal;
     uint32_t bytes;  /* how many bytes the board has */
-    uint32_t worth;  /* of the board's turns */
+    uint32_t worth;  /* of the chosen turns */
     uint32_t limit;  /* at the written prices */
     uint32_t rounds; /* how many were made */
 } slopeboard_refine_answer;
@@ -460,9 +460,9 @@ slopeboard_limit_answer slopeboard_charge_limit(const uint8_t *sheet, size_t she
 /* Looks for a better set of windows than slopeboard_charge's and for a low limit, in at most `rounds` rounds, and
  * writes its choice map and the prices that give the limit. The set is allowed and is worth no less
  * than the plan of slopeboard_charge; that no further window could be chosen is not promised.
- * slopeboard_charge_limit gives the limit again at the written prices, so that no allowed set is worth more.
- * With more rounds the worth never falls and the limit never rises. The rounds of the answer are those allowed, or
- * fewer if worth and limit meet before.
+ * slopeboard_charge_limit gives the limit again at the written prices, so that no allowed set is worth more: if
+ * the worth is the limit, none is worth more than the written one. With more rounds the worth never falls and the
+ * limit never rises. The rounds of the answer are those allowed, or fewer if worth and limit meet before.
  *
  * It works as slopeboard_refine does, from that plan, with the limit of slopeboard_charge_limit and the windows
  * that it takes. A choice is made from these by worth, and then from all windows, of each that may go together

@@ -5,11 +5,11 @@
 //! done, works out the best worth where each slope has one turn, looks for a
 //! better choice than the planned one, draws sheets from a seed, writes sheets
 //! by column and back, plays a board with delays, plans a charging hall, works
-//! out by prices what no choice can be worth more than, makes better boards by
-//! rounds in which prices move, and does both for the hall. A second reader
-//! takes at most 96 turns. Every buffer is the caller's: on a refusal it holds
-//! what it held before, and on success so do its places past the last one
-//! written. The order in which refusals are looked for is in
+//! out by prices what no set of turns without a conflict can be worth more than,
+//! makes better boards by rounds in which prices move, and does both for the
+//! hall. A second reader takes at most 96 turns. Every buffer is the caller's: on
+//! a refusal it holds what it held before, and on success so do its places past
+//! the last one written. The order in which refusals are looked for is in
 //! `include/slopeboard.h`.
 //!
 //! To build, the environment variable `SLOPEBOARD_LIB_DIR` names the folder of
@@ -109,7 +109,7 @@ pub struct Improved {
 pub struct Refined {
     /// How many bytes the board has.
     pub bytes: usize,
-    /// What the board's turns are worth.
+    /// What the board's chosen turns are worth.
     pub worth: u32,
     /// The limit at the written prices. No set of the sheet's turns without a
     /// conflict is worth more; so, if it is the worth, no board is.
