@@ -6,7 +6,6 @@ mod keys;
 mod order;
 mod table;
 
-pub use best::best_worth;
 pub use best::choose_best;
 pub use blocked::put_places;
 pub use blocked::skip_blocked;

@@ -49,7 +49,7 @@ pub record WritePromised (counts : Counts) (table out : List ℕ) : Type 0 where
   pub shortest : {s : List ℕ} {ts : List Turn} → SheetFor garage s counts ts → InWrittenOrder (tableTurns table) ts → length (bytesWritten counts table out) ≤ length s
   -- and one of the same length is these very bytes
   pub only : {s : List ℕ} {ts : List Turn} → SheetFor garage s counts ts → InWrittenOrder (tableTurns table) ts → length s ≡ length (bytesWritten counts table out) → s ≡ bytesWritten counts table out
-  -- the counts and the table that are read of them, written again into any lent bytes that are as many, give the same bytes, and behind them what was there
+  -- the counts and the table that are read of them, written again into any lent bytes that are no fewer, give the same bytes, and behind them what was there
   pub again : (lent other : List ℕ) → length table ≤ length lent → length (bytesWritten counts table out) ≤ length other
       → writeOf (countsBack counts table out lent) (tableBack counts table out lent) other ≡ wrote (bytesWritten counts table out) other
   -- a table that has the same turns, each as often, gives the same answer and bytes

@@ -228,7 +228,7 @@ fn rounds_of_hall(folder: &Folder, hall: &str, planned: u32) {
     let ran = run(&[&words[..], &["--prices", &prices]].concat()).well();
     let [worth, limit, rounds] = [1, 3, 5].map(|place| figure(ran.text(), place));
     assert!(planned <= worth && worth <= limit && rounds <= 10);
-    let met = ran.text().contains("no choice earns more");
+    let met = ran.text().contains("no allowed set earns more");
     assert_eq!(worth == limit, met);
     let again = run(&["charge-limit", hall, &prices]).well();
     assert_eq!(figure(again.text(), 1), limit);

@@ -318,7 +318,7 @@ fn the_hall_by_prices() {
     let json = "{\"worth\":9,\"limit\":9,\"rounds\":0,\"windows\":1,\"chosen\":[0],\"prices\":[0,";
     assert!(ran.err.starts_with(json), "{}", ran.err);
     let ran = run_on(&["charge-refine", "-"], &one).well();
-    let answer = "worth 9 limit 9 rounds 0\nno choice earns more\n1 of 1 windows chosen: 0\n";
+    let answer = "worth 9 limit 9 rounds 0\nno allowed set earns more\n1 of 1 windows chosen: 0\n";
     assert_eq!(ran.err, answer);
 }
 

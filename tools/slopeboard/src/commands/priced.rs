@@ -18,7 +18,7 @@ const FREE: Opt = Opt {
 
 pub const LIMIT: Command = Command {
     name: "limit",
-    about: "work out by prices what no choice is worth more than",
+    about: "work out by prices what no feasible set is worth more than",
     files: &["SHEET", "[PRICES]"],
     options: &[FREE],
     help: "\
@@ -247,8 +247,8 @@ pub const CHARGE_REFINE: Command = Command {
 Takes a charging sheet. Starts from the plan that 'charge' makes and makes
 rounds in which prices move. Writes the choice map of the best choice found.
 Prints its worth, the lowest limit found and how many rounds were made; then, if
-the limit is the worth, that no choice earns more; then the chosen windows. No
-choice of windows that is allowed is worth more than the limit. More rounds
+the limit is the worth, that no allowed set earns more; then the chosen windows.
+No choice of windows that is allowed is worth more than the limit. More rounds
 never give less worth or a higher limit.
 
 With --prices the prices are written, too: 'charge-limit' takes them and prints
@@ -270,7 +270,7 @@ fn charge_refine(args: &Args) -> Result<Outcome, Failure> {
         chosen: board::chosen(&map, count),
         list,
     };
-    let (text, json) = found.answer(count, "windows", "no choice earns more\n");
+    let (text, json) = found.answer(count, "windows", "no allowed set earns more\n");
     Ok(Outcome {
         product: with_prices("choice map", map, file, &found.list),
         text,
