@@ -15,8 +15,7 @@ use Rattle.instance.specs.declared.ways.Row.{Row}
 use Rattle.instance.specs.declared.columns.Size.{Size}
 use Rattle.instance.specs.Ways.{turnRow}
 use Rattle.instance.specs.Columns.{columnPlaces, rowIn, withRow, within, turnsBy, Held}
-use Rattle.instance.proofs.Posed.{put-length}
-use Rattle.instance.proofs.Rows.{row-new, row-other, row-is}
+use Rattle.instance.proofs.Rows.{row-length, row-new, row-other, row-is}
 use Rattle.hall_spec.specs.Hall.{Hall, draw, wideDraw}
 use Rattle.hall_steps.specs.declared.one_kind.OneKind.{OneKind}
 use Rattle.hall_steps.specs.OneKind.{kindHall, kindDraw, ofKind, kindRow, engineTurns}
@@ -111,5 +110,8 @@ module _ (a : OneKind) (cols own : List ℕ) where
           ends = λ t l. rw one-kind-turns (held .held .ends t l);
           worths = λ t l. rw one-kind-turns (cond-most (ofKind a cols t) (held .held .worths t l));
         }
+
+pub put-length : (cols : List ℕ) (i : ℕ) (r : Row) {cols′ : List ℕ} → cols′ ≡ withRow cols i r → length cols ≡ columnPlaces → length cols′ ≡ columnPlaces
+put-length cols i r e w = rw e (row-length cols i r ∙ w)
 
 pub ruleset one-kind-cases = (one-kind-none, one-kind-more, put-length, one-kind-turns, one-kind-held)
