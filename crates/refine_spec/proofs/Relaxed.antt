@@ -26,7 +26,7 @@ use Rattle.refine_spec.specs.Shift.{isRelaxed, relaxedSet}
 
 -- ---- elements of two lists
 
-among-both : (xs ys : List ℕ) (t : ℕ) → isAmong (xs ++ ys) t ≡ (isAmong xs t || isAmong ys t)
+pub among-both : (xs ys : List ℕ) (t : ℕ) → isAmong (xs ++ ys) t ≡ (isAmong xs t || isAmong ys t)
 unfolding isAmong
 among-both [] ys t = refl
 among-both (x ∷ xs) ys t = rw (among-both xs ys t) (either (eqb t x) (isAmong xs t) (isAmong ys t))
