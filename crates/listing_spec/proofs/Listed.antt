@@ -78,7 +78,7 @@ list-refused-iff s lent = written-iff (listCauses s (length lent)) _ lent (lent-
 -- a refusal leaves the lent bytes as they were, and says that none is written
 pub list-unchanged : (s lent : List ℕ) → (listOf s lent .answer .refusal ≡ 0 → ⊥) → listOf s lent ≡ kept (listOf s lent .answer .refusal) lent
 unfolding listOf
-list-unchanged s lent = written-not (listCauses s (length lent)) (sheetListing s) lent
+list-unchanged s lent = written-not (listCauses s (length lent)) _ lent
 
 -- the listing refuses nothing just if the sheet is accepted and the lent bytes hold this very listing
 pub list-accepted-iff : {s : List ℕ} → Bytes s → (lent : List ℕ) → (listOf s lent .answer .refusal ≡ 0) ↔ (Accepted s × (length (sheetListing s) ≤ length lent))

@@ -13,7 +13,7 @@ use Rattle.sheet.specs.Accepted.{Accepted}
 use Rattle.sheet.proofs.Accepting.{lent-accepted-iff}
 use Rattle.sheet.proofs.ReadCauses.{lent-tell}
 use Rattle.board.specs.Board.{boardLength}
-use Rattle.plan_spec.specs.Plan.{plannedBoard, planCauses, planOf, FirstPlanCause}
+use Rattle.plan_spec.specs.Plan.{planCauses, planOf, FirstPlanCause}
 
 pub plan-number : (s lent : List ℕ) → planOf s lent .answer .refusal ≡ firstOf (planCauses s (length lent))
 unfolding planOf
@@ -26,7 +26,7 @@ plan-refused-iff s lent = written-iff (planCauses s (length lent)) _ lent (lent-
 -- a refusal leaves the lent bytes as they were, and says that none is written
 pub plan-unchanged : (s lent : List ℕ) → (planOf s lent .answer .refusal ≡ 0 → ⊥) → planOf s lent ≡ kept (planOf s lent .answer .refusal) lent
 unfolding planOf
-plan-unchanged s lent = written-not (planCauses s (length lent)) (plannedBoard s) lent
+plan-unchanged s lent = written-not (planCauses s (length lent)) _ lent
 
 -- the planner refuses nothing just if the sheet is accepted and the lent bytes hold a board with as many steps as turns
 pub plan-accepted-iff : {s : List ℕ} → Bytes s → (lent : List ℕ) → (planOf s lent .answer .refusal ≡ 0) ↔ (Accepted s × (boardLength (turnCount s) (turnCount s) ≤ length lent))
