@@ -15,7 +15,7 @@ use Rattle.instance_spec.specs.Problem.{sheetTurns}
 use Rattle.assign_spec.specs.Numbering.{numbersOf, usedOf}
 use Rattle.assign_spec.specs.Assign.{assignCauses, assignRefused, assignOf, FirstAssignCause}
 use Rattle.refusal.specs.Outcome.{Outcome, beside}
-use Rattle.refusal.proofs.Outcome.{number-first, unless-none, number-iff}
+use Rattle.refusal.proofs.Outcome.{number-first, unless-none, number-refused, number-iff}
 use Rattle.assign_spec.specs.declared.AssignAnswer.{AssignAnswer}
 
 module _ (s lent : List ℕ) where
@@ -34,6 +34,11 @@ module _ (s lent : List ℕ) where
   pub assign-refused-iff : (k : ℕ) → (k ≡ 0 → ⊥) → (assignOf s lent .answer .refusal ≡ k) ↔ FirstAssignCause s (length lent) k
   unfolding assignOf assignCauses
   assign-refused-iff = number-iff (assignCauses s (length lent)) _ _ (λ (o : Outcome AssignAnswer (List ℕ)). o .answer .refusal) refl (λ k. refl) (lent-tell s (turnCount s) (length lent))
+
+  -- a refusal leaves the lent places as they were, and counts no groomers
+  pub assign-unchanged : (assignOf s lent .answer .refusal ≡ 0 → ⊥) → assignOf s lent ≡ beside (assignRefused (assignOf s lent .answer .refusal)) lent
+  unfolding assignOf
+  assign-unchanged = number-refused (assignCauses s (length lent)) _ _ (λ (o : Outcome AssignAnswer (List ℕ)). o .answer .refusal) refl (λ k. refl)
 
 -- nothing is refused just if the sheet is accepted and there are at least as many lent places as turns
 pub assign-accepted-iff : {s : List ℕ} → Bytes s → (lent : List ℕ) → (assignOf s lent .answer .refusal ≡ 0) ↔ (Accepted s × (turnCount s ≤ length lent))

@@ -1,18 +1,18 @@
 -- The promises are kept on every sheet that is not refused; and the words fix the numbers. Assumes nothing.
-use mathlib.Core.Path.{_≡_, sym, _∙_}
+use mathlib.Core.Path.{_≡_, sym, _∙_, ap}
 use mathlib.Core.List.{List}
 use Prim.Native.Nat.{ℕ, zero, suc, _≤_, _<_}
 use native.Mathlib.Omega.{arith}
 use native.Mathlib.Decide.{decLt, ℕ-discrete}
-use lib.ListN.{length, take, drop}
-use lib.Seq.{ext-getD, take-at}
+use lib.ListN.{length, drop}
+use lib.Seq.{ext-getD, take-at, drop-at}
 use Rattle.model.specs.Turns.{Turns, PositiveLengths}
 use Rattle.sheet.specs.Read.{turnCount, sheetCauses}
 use Rattle.sheet.proofs.Readings.{sheet-numbered}
 use Rattle.instance_spec.specs.Problem.{sheetTurns}
 use Rattle.instance_spec.proofs.SheetTurns.{sheet-count, sheet-lengths}
 use Rattle.assign_spec.specs.Numbering.{numberIn, numbersOf, usedOf, Before, GreedyNumbers, AssignPromises}
-use Rattle.assign_spec.specs.Assign.{assignCauses, assignOf}
+use Rattle.assign_spec.specs.Assign.{assignCauses, assignOf, AssignPromised}
 use Rattle.assign_spec.proofs.Numbers.{numbers-places, numbers-greedy, numbers-assignment}
 use Rattle.assign_spec.proofs.Fewest.{together-most, together-reached, fewest, used-different}
 use Rattle.assign_spec.proofs.AssignCauses.{assign-number, answered}
@@ -33,14 +33,18 @@ numbers-promised T lengths =
 
 -- ---- for any bytes as a sheet, where nothing is refused
 
-pub assign-promised : (s lent : List ℕ) → assignOf s lent .answer .refusal ≡ 0 → AssignPromises (sheetTurns s) (take (turnCount s) (assignOf s lent .lent)) (assignOf s lent .answer .groomers)
+pub assign-promised : (s lent : List ℕ) → assignOf s lent .answer .refusal ≡ 0 → AssignPromised s lent
 unfolding assignCauses
 assign-promised s lent z =
     let T = sheetTurns s in
     let clear = sym (assign-number s lent) ∙ z in
     let sound = enough-iff (sheetCauses s) (length lent) (turnCount s) (sheet-numbered s) .0 clear .0 in
     let size : length (numbersOf T) ≡ turnCount s = numbers-places T ∙ sheet-count s sound in
-    rw (answered s lent clear, take-at (numbersOf T) (drop (length (numbersOf T)) lent) (turnCount s) size) (numbers-promised T (sheet-lengths s sound))
+    let rest = drop (length (numbersOf T)) lent in
+    record {
+      numbered = rw (answered s lent clear, take-at (numbersOf T) rest (turnCount s) size) (numbers-promised T (sheet-lengths s sound));
+      behind = rw (answered s lent clear) (drop-at (numbersOf T) rest (turnCount s) size ∙ ap (λ (k : ℕ). drop k lent) size);
+    }
 
 -- ---- the words fix the numbers: no two lists are the smallest free numbers
 

@@ -1,14 +1,15 @@
 -- Groomers for all turns: any bytes as a sheet, and lent places for the turns' numbers (request R-4). Assumes nothing.
 use Prim.Native.Nat.{ℕ}
+use mathlib.Core.Path.{_≡_}
 use mathlib.Core.List.{List}
-use lib.ListN.{length}
+use lib.ListN.{length, take, drop}
 use Rattle.refusal.specs.Cause.{Cause}
 use Rattle.sheet.specs.Read.{turnCount, sheetCauses}
 use Rattle.refusal.specs.Written.{atFront}
 use Rattle.sheet.specs.Accepted.{LentCause, FirstAmong}
 use Rattle.instance_spec.specs.Problem.{sheetTurns}
 use Rattle.assign_spec.specs.declared.AssignAnswer.{AssignAnswer}
-use Rattle.assign_spec.specs.Numbering.{numbersOf, usedOf}
+use Rattle.assign_spec.specs.Numbering.{numbersOf, usedOf, AssignPromises}
 use Rattle.refusal.specs.Outcome.{Outcome, beside, unless, thenRoom}
 
 -- after the sheet's causes: there must be at least as many lent places as turns
@@ -34,3 +35,10 @@ AssignCause s = LentCause s (turnCount s)
 -- the first of them has number k
 abbrev pub FirstAssignCause : List ℕ → ℕ → ℕ → Type 0
 FirstAssignCause s places k = FirstAmong (AssignCause s places) k
+
+-- of an answer that refuses nothing
+pub record AssignPromised (s lent : List ℕ) : Type 0 where
+  -- the first places have a number for each turn, the answer has how many groomers they use, and all is promised of both
+  pub numbered : AssignPromises (sheetTurns s) (take (turnCount s) (assignOf s lent .lent)) (assignOf s lent .answer .groomers)
+  -- the places behind them are as they were
+  pub behind : drop (turnCount s) (assignOf s lent .lent) ≡ drop (turnCount s) lent

@@ -24,10 +24,11 @@ use Rattle.sheet.proofs.ReadCauses.{more-tell, more-within}
 use Rattle.choice_map.specs.Choice.{mapBytes}
 use Rattle.instance_spec.specs.Problem.{sheetTurns}
 use Rattle.best_spec.specs.Single.{aloneBelow, singleTurn, singleTurns}
-use Rattle.best_spec.specs.Best.{bestCauses, found, bestOf, BestCause, two-turns, names-driver, FirstBestCause, singleCauses, Earned, NotSingle}
+use Rattle.best_spec.specs.Best.{bestCauses, found, bestRefused, bestOf, BestCause, two-turns, names-driver, FirstBestCause, singleCauses, Earned, NotSingle}
 use Rattle.best_spec.proofs.Singles.{single-driverless, single-slopes, single-of}
 use Rattle.refusal.proofs.Words.{Tells, room-tells}
-use Rattle.refusal.proofs.Outcome.{number-first, number-iff, number-none, enough-iff}
+use Rattle.refusal.specs.Outcome.{beside}
+use Rattle.refusal.proofs.Outcome.{number-first, number-iff, number-none, number-refused, enough-iff}
 
 -- ---- a shift that is not single, in words
 
@@ -85,7 +86,12 @@ module _ (s lent : List ℕ) where
   unfolding bestOf
   best-is-found = number-none (bestCauses s (length lent)) _ _ (λ (o : Earned). o .answer .refusal) refl (λ k. refl)
 
-  -- that is: the sheet is not refused, the shift is single, and the lent bytes hold a bit for each turn
+  -- a refusal leaves the lent bytes as they were, and gives no worth
+  pub best-unchanged : (bestOf s lent .answer .refusal ≡ 0 → ⊥) → bestOf s lent ≡ beside (bestRefused (bestOf s lent .answer .refusal)) lent
+  unfolding bestOf
+  best-unchanged = number-refused (bestCauses s (length lent)) _ _ (λ (o : Earned). o .answer .refusal) refl (λ k. refl)
+
+  -- no cause is there: the sheet is not refused, the shift is single, and the lent bytes hold a bit for each turn
   pub clear-iff : (firstOf (bestCauses s (length lent)) ≡ 0) ↔ ((firstOf (sheetCauses s) ≡ 0) × (singleTurns (sheetTurns s) ≡ true) × (mapBytes (turnCount s) ≤ length lent))
   unfolding bestCauses singleCauses
   clear-iff =

@@ -6,7 +6,8 @@ use mathlib.Core.Logic.{_↔_}
 use native.Mathlib.Omega.{arith}
 use lib.ListN.{length}
 use Rattle.refusal.specs.Cause.{firstOf}
-use Rattle.refusal.proofs.Written.{written-number, written-iff}
+use Rattle.refusal.specs.Written.{kept}
+use Rattle.refusal.proofs.Written.{written-number, written-iff, written-not}
 use Rattle.wire.specs.Number.{Bytes}
 use Rattle.lists.specs.Lists.{sum, below}
 use Rattle.model.specs.Turns.{Turns, PositiveLengths}
@@ -73,6 +74,11 @@ list-number s lent = written-number (listCauses s (length lent)) _ lent
 pub list-refused-iff : (s lent : List ℕ) (k : ℕ) → (k ≡ 0 → ⊥) → (listOf s lent .answer .refusal ≡ k) ↔ FirstListCause s (length lent) k
 unfolding listOf listCauses
 list-refused-iff s lent = written-iff (listCauses s (length lent)) _ lent (lent-tell s (length (sheetListing s)) (length lent))
+
+-- a refusal leaves the lent bytes as they were, and says that none is written
+pub list-unchanged : (s lent : List ℕ) → (listOf s lent .answer .refusal ≡ 0 → ⊥) → listOf s lent ≡ kept (listOf s lent .answer .refusal) lent
+unfolding listOf
+list-unchanged s lent = written-not (listCauses s (length lent)) _ lent
 
 -- the listing refuses nothing just if the sheet is accepted and the lent bytes hold this very listing
 pub list-accepted-iff : {s : List ℕ} → Bytes s → (lent : List ℕ) → (listOf s lent .answer .refusal ≡ 0) ↔ (Accepted s × (length (sheetListing s) ≤ length lent))

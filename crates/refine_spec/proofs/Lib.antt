@@ -2,6 +2,7 @@ pub mod Rounds
 pub mod Loop
 pub mod Relaxed
 pub mod Selection
+pub mod Asked
 pub mod Shift
 pub mod Boards
 pub mod RefineCauses

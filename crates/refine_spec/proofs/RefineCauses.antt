@@ -12,7 +12,7 @@ use Rattle.lists.proofs.Bools.{or-1, or-2, or-cases, or-false-1, or-false-2}
 use Rattle.refusal.specs.Number.{bufferTooSmall}
 use Rattle.refusal.specs.Cause.{firstOf, Cause, _when_}
 use Rattle.refusal.proofs.Order.{clear-last, numbered}
-use Rattle.refusal.proofs.Outcome.{number-first, number-iff, number-none}
+use Rattle.refusal.proofs.Outcome.{number-first, number-iff, number-none, number-refused}
 use Rattle.wire.specs.Number.{Bytes}
 use Rattle.sheet.specs.Read.{countsIn, turnCount, sheetCauses}
 use Rattle.sheet.specs.Accepted.{Accepted}
@@ -24,7 +24,7 @@ use Rattle.instance_spec.specs.Problem.{sheetTurns}
 use Rattle.limit_spec.specs.Limit.{priceCount}
 use Rattle.refine_spec.specs.Rounds.{Stage}
 use Rattle.refine_spec.specs.Shift.{shiftRefined}
-use Rattle.refine_spec.specs.Refine.{Refinement, refineCauses, refinementOf, refineOf, PlacesFail, few-bytes, few-prices, FirstRefineCause}
+use Rattle.refine_spec.specs.Refine.{Refinement, refineCauses, refinementOf, notRefined, refineOf, PlacesFail, few-bytes, few-prices, FirstRefineCause}
 
 -- what the rounds come to on a sheet
 abbrev pub sheetRefined : List ℕ → ℕ → Stage
@@ -75,6 +75,11 @@ module _ (s : List ℕ) (rounds : ℕ) (board prices : List ℕ) where
   pub refine-is : refineOf s rounds board prices .refusal ≡ 0 → refineOf s rounds board prices ≡ refinementOf (sheetTurns s) (sheetRefined s rounds) board prices
   unfolding refineOf refinementOf
   refine-is = number-none (refineCauses s (length board) (length prices)) _ _ (λ (x : Refinement). x .refusal) refl (λ k. refl)
+
+  -- a refusal leaves all that is lent as it was, and gives no figures
+  pub refine-unchanged : (refineOf s rounds board prices .refusal ≡ 0 → ⊥) → refineOf s rounds board prices ≡ notRefined (refineOf s rounds board prices .refusal) board prices
+  unfolding refineOf refinementOf
+  refine-unchanged = number-refused (refineCauses s (length board) (length prices)) _ _ (λ (x : Refinement). x .refusal) refl (λ k. refl)
 
   -- the entry refuses with k exactly where the first cause has number k
   pub refine-refused-iff : (k : ℕ) → (k ≡ 0 → ⊥) → (refineOf s rounds board prices .refusal ≡ k) ↔ FirstRefineCause s (length board) (length prices) k

@@ -2,10 +2,11 @@
 use mathlib.Core.Path.{_≡_, refl, sym, ap, _∙_}
 use mathlib.Core.Bool.{Bool, true, false, cond}
 use mathlib.Core.List.{List}
-use Prim.Native.Nat.{ℕ, _+_, _≤_, _<_}
+use Prim.Native.Nat.{ℕ, _+_, _-_, _*_, _≤_, _<_, min}
 use native.Mathlib.Omega.{arith}
-use lib.ListN.{length, getD, replicate, length-append, length-replicate, getD-replicate}
+use lib.ListN.{length, getD, replicate, length-append, length-replicate, getD-replicate, List·getD-append}
 use lib.Seq.{getD-append-add}
+use borrow.Author.Tests.{ne-eqb}
 use Rattle.lists.specs.Lists.{tab, below}
 use Rattle.lists.proofs.Sums.{sum-zero, all-of, tab-length, tab-at}
 use Rattle.model.specs.Turns.{Turns, oneDriver, byDriver}
@@ -14,9 +15,27 @@ use Rattle.model.proofs.Filled.{NoConflict, NoRoom}
 use Rattle.model.proofs.Promised.{planned-length, choice-apart, choice-full}
 use Rattle.limit_spec.specs.Prices.{slopePrice, turnPrice, paysTurn, limitBy}
 use Rattle.refine_spec.specs.Rounds.{Stage, startFrom}
-use Rattle.refine_spec.specs.Shift.{relaxedSet, slopePayers, turnPayers, movedPrice, turnChange, movedPrices, shiftRule, shiftStart, shiftRefined}
+use Rattle.refine_spec.specs.Shift.{relaxedSet, slopePayers, turnPayers, highestPrice, movedPrice, turnChange, movedPrices, shiftRule, shiftStart, shiftRefined}
 use Rattle.refine_spec.proofs.Rounds.{listed-limit, chosen-worth, choice-kept, lists-kept, worth-grows}
 use Rattle.refine_spec.proofs.Selection.{from-length, from-apart, from-full}
+
+-- ---- a price in a round
+
+module _ (change payers price : ℕ) where
+  -- where no turn pays it, it falls by the change, not below 0
+  pub moved-unpaid : payers ≡ 0 → movedPrice change payers price ≡ price - change
+  unfolding movedPrice
+  moved-unpaid e = rw e refl
+
+  -- where one does, it stays
+  pub moved-once : payers ≡ 1 → movedPrice change payers price ≡ price
+  unfolding movedPrice
+  moved-once e = rw e refl
+
+  -- where several do, it rises by the change for each of them but one, not above the highest
+  pub moved-several : 1 < payers → movedPrice change payers price ≡ min highestPrice (price + (payers - 1) * change)
+  unfolding movedPrice
+  moved-several h = rw (ne-eqb payers 0 (λ e. omega arith), ne-eqb payers 1 (λ e. omega arith)) refl
 
 -- ---- moved prices
 
@@ -38,6 +57,15 @@ module _ (T : Turns) (slopes : ℕ) (S : List Bool) (change : ℕ) (prices : Lis
         tab-length slopes (λ k. movedPrice change (slopePayers T S (k + 1)) (slopePrice prices (k + 1))),
         tab-length (T .count) (λ u. movedPrice (turnChange change) (turnPayers T S u) (turnPrice slopes prices u)),
       )
+
+  -- each is moved by the turns of the set that pay it
+  pub moved-slope : (k : ℕ) → k < slopes → slopePrice (movedPrices T slopes S change prices) (k + 1) ≡ movedPrice change (slopePayers T S (k + 1)) (slopePrice prices (k + 1))
+  unfolding movedPrices slopePrice
+  moved-slope k l =
+      let place : k + 1 - 1 ≡ k = omega arith in
+      ap (λ (i : ℕ). getD (movedPrices T slopes S change prices) i 0) place
+      ∙ List·getD-append movedSlopes movedTurns 0 k (omega (arith, tab-length slopes (λ k. movedPrice change (slopePayers T S (k + 1)) (slopePrice prices (k + 1)))))
+      ∙ tab-at slopes (λ k. movedPrice change (slopePayers T S (k + 1)) (slopePrice prices (k + 1))) 0 k l
 
   pub moved-turn : (u : ℕ) → u < T .count → turnPrice slopes (movedPrices T slopes S change prices) u ≡ movedPrice (turnChange change) (turnPayers T S u) (turnPrice slopes prices u)
   unfolding movedPrices turnPrice
@@ -61,8 +89,7 @@ module _ (T : Turns) (slopes : ℕ) (S : List Bool) (change : ℕ) (prices : Lis
 
   -- and it stays 0
   pub moved-driverless : (u : ℕ) → u < T .count → T .driver u ≡ 0 → turnPrice slopes prices u ≡ 0 → turnPrice slopes (movedPrices T slopes S change prices) u ≡ 0
-  unfolding movedPrice
-  moved-driverless u l d e = moved-turn u l ∙ rw (no-payers u d, e) (omega arith)
+  moved-driverless u l d e = omega (arith, moved-turn u l, moved-unpaid (turnChange change) (turnPayers T S u) (turnPrice slopes prices u) (no-payers u d), e)
 
 -- ---- the rounds
 

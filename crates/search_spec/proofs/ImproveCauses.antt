@@ -19,9 +19,10 @@ use Rattle.sheet.proofs.Accepting.{accepted-iff}
 use Rattle.sheet.proofs.ReadCauses.{more-tell, more-within}
 use Rattle.choice_map.specs.Choice.{mapBytes}
 use Rattle.instance_spec.specs.Problem.{sheetTurns}
-use Rattle.search_spec.specs.Improve.{mostSearched, improveCauses, improvedFor, improveOf, ImproveCause, FirstImproveCause, searchCauses, Improvement}
+use Rattle.search_spec.specs.Improve.{mostSearched, improveCauses, improvedFor, improveRefused, improveOf, ImproveCause, FirstImproveCause, searchCauses, Improvement}
 use Rattle.refusal.proofs.Words.{Tells, room-tells}
-use Rattle.refusal.proofs.Outcome.{number-first, number-iff, unless-none, enough-iff}
+use Rattle.refusal.specs.Outcome.{beside}
+use Rattle.refusal.proofs.Outcome.{number-first, number-iff, number-refused, unless-none, enough-iff}
 
 module _ (s : List ℕ) where
   search-numbered : numbered (searchCauses s) ≡ true
@@ -59,6 +60,11 @@ module _ (s lent : List ℕ) (limit : ℕ) where
   pub improve-refused-iff : (k : ℕ) → (k ≡ 0 → ⊥) → (improveOf s limit lent .answer .refusal ≡ k) ↔ FirstImproveCause s (length lent) k
   unfolding improveOf improvedFor
   improve-refused-iff = number-iff (improveCauses s (length lent)) _ _ (λ (o : Improvement). o .answer .refusal) refl (λ k. refl) (improve-tells s (length lent))
+
+  -- a refusal leaves the lent bytes as they were, and gives no figures
+  pub improve-unchanged : (improveOf s limit lent .answer .refusal ≡ 0 → ⊥) → improveOf s limit lent ≡ beside (improveRefused (improveOf s limit lent .answer .refusal)) lent
+  unfolding improveOf improvedFor
+  improve-unchanged = number-refused (improveCauses s (length lent)) _ _ (λ (o : Improvement). o .answer .refusal) refl (λ k. refl)
 
 -- the entry refuses nothing just if the sheet is accepted, has no more turns than are searched, and the lent bytes hold a bit for each turn
 pub improve-accepted-iff : {s : List ℕ} → Bytes s → (lent : List ℕ) (limit : ℕ) →

@@ -13,9 +13,9 @@ use Rattle.lists.specs.Sorting.{InOrder}
 use Rattle.lists.proofs.Sorted.{sort-all}
 use Rattle.refusal.specs.Number.{bufferTooSmall}
 use Rattle.refusal.specs.Cause.{_when_, firstOf}
-use Rattle.refusal.specs.Written.{wrote, kept, atFront}
+use Rattle.refusal.specs.Written.{wrote, atFront}
 use Rattle.refusal.proofs.Order.{first-goes}
-use Rattle.refusal.proofs.Written.{wrote-enough, written-number, written-not}
+use Rattle.refusal.proofs.Written.{wrote-enough, written-number}
 use Rattle.wire.specs.Number.{bytesOf, Bytes, none, more}
 use Rattle.wire.specs.Mark.{sheetMark}
 use Rattle.wire.proofs.Numbers.{bytes-below}
@@ -142,11 +142,6 @@ module _ (counts : Counts) (table out : List ℕ) where
   pub write-number : writeOf counts table out .answer .refusal ≡ firstOf (writeCauses counts table (length out))
   unfolding writeOf
   write-number = written-number (writeCauses counts table (length out)) _ out
-
-  -- on a refusal nothing is written
-  pub write-keeps : (writeOf counts table out .answer .refusal ≡ 0 → ⊥) → writeOf counts table out ≡ kept (writeOf counts table out .answer .refusal) out
-  unfolding writeOf
-  write-keeps = written-not (writeCauses counts table (length out)) _ out
 
   pub write-accepts : writeOf counts table out .answer .refusal ≡ 0 → (firstOf (tableCauses counts table) ≡ 0) × (length (sheetOf counts (writtenTurns table)) ≤ length out)
   unfolding writeCauses

@@ -22,7 +22,8 @@ use Rattle.write_spec.specs.WriteCause.{rowPlace, WriteCause, partial-tu
 use Rattle.write_spec.proofs.Writable.{table-numbered}
 use Rattle.write_spec.proofs.RoundTrip.{write-number}
 use Rattle.refusal.proofs.Words.{Within, Tells, tells-none, says-tells, says-within, room-tells}
-use Rattle.refusal.proofs.Written.{written-iff}
+use Rattle.refusal.specs.Written.{kept}
+use Rattle.refusal.proofs.Written.{written-iff, written-not}
 
 partial-iff : (n : ℕ) → (not (eqb n 0) ≡ true) ↔ (n ≢ 0)
 partial-iff n = (λ e. eqb-false n 0 (not-true (eqb n 0) e), λ h. rw (ne-eqb n 0 h))
@@ -146,3 +147,8 @@ pub write-accepted-iff : (counts : Counts) (table out : List ℕ) → (writeOf c
 write-accepted-iff counts table out =
     let none = tells-none (write-tells counts table (length out)) in
     (λ e. none .0 (sym (write-number counts table out) ∙ e), λ n. write-number counts table out ∙ none .1 n)
+
+-- a refusal leaves the lent bytes as they were, and says that none is written
+pub write-unchanged : (counts : Counts) (table out : List ℕ) → (writeOf counts table out .answer .refusal ≡ 0 → ⊥) → writeOf counts table out ≡ kept (writeOf counts table out .answer .refusal) out
+unfolding writeOf
+write-unchanged counts table out = written-not (writeCauses counts table (length out)) _ out
