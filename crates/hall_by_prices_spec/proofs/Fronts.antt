@@ -136,6 +136,11 @@ module _ (H : Hall) (p q : List ℕ) (same : minutePrice p ≡ minutePrice q) wh
       tab-same (windowCount H) (λ t. isAmong (vehicleBest H p (vehicle H t) .turns) t) (λ t. isAmong (vehicleBest H q (vehicle H t) .turns) t)
       (λ t l. ap (λ (b : Best). isAmong (b .turns) t) (best-same (vehicle H t)))
 
+-- prices of 0 are as none
+pub free-limit : (H : Hall) (vehicles k : ℕ) → hallLimit H vehicles (replicate k 0) ≡ hallLimit H vehicles []
+unfolding minutePrice
+free-limit H vehicles k = limit-same H (replicate k 0) [] (λ j m. zeros-behind [] k m j) vehicles
+
 -- no window charges from minute n on
 abbrev pub OverBy : Hall → ℕ → Type 0
 OverBy H n = (t : ℕ) → t < windowCount H → H .windows .end t ≤ n

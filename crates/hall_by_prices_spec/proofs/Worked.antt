@@ -29,20 +29,23 @@ use Rattle.hall_spec.specs.Plan.{turnsAmong, wideSteps, roundedUp, smallTakes, 
 use Rattle.hall_spec.specs.Cases.{hallWith, oneUnit, twelveUnits}
 use Rattle.refine_spec.specs.Rounds.{Stage, startFrom, lowerLimit, betterChoice, looked, nextChange, moving, refined, greatestOf, firstChange}
 use Rattle.refine_spec.specs.Selection.{poorerFirst, byWorth, choiceFrom}
+use Rattle.limit_spec.specs.Limit.{limitIs}
 use Rattle.hall_spec.specs.Charge.{chargingSheet, hallOf}
+use Rattle.hall_spec.specs.ChargeCases.{oneUnitSheet}
 use Rattle.hall_by_prices_spec.specs.Prices.{minutePrice, minutesCost, windowPays, windowCounts, richestOf, vehicleBest, supplyCost, hallLimit, hallRelaxed}
 use Rattle.hall_by_prices_spec.specs.Limit.{chargeLimitCauses, sheetHallLimit, chargeLimitOf}
 use Rattle.hall_by_prices_spec.specs.Hall.{movedMinute, hallRefined}
 use Rattle.hall_by_prices_spec.specs.Refine.{ChargeRefinement, chargeRefineCauses, chargeRefinement, chargeRefineOf}
 use Rattle.hall_by_prices_spec.specs.Cases.{tenUnits, fourUnits, threeUnits, threeUnitsSheet, cameTo, HallLimitCases, RelaxedCases, HallRoundCases}
+use Rattle.hall_by_prices_spec.proofs.LimitCauses.{charge-limit-is}
 use Rattle.hall_by_prices_spec.proofs.RefineCauses.{charge-refine-answers}
-use Rattle.hall_by_prices_spec.proofs.Fronts.{OverBy, lengthened, wholeList, frontRule, frontStart, front-refined}
+use Rattle.hall_by_prices_spec.proofs.Fronts.{free-limit, OverBy, lengthened, wholeList, frontRule, frontStart, front-refined}
 
 pub hall-limit-cases : HallLimitCases
 unfolding firstOf opensWith outsideRange pastShift turnCauses widthOf field turnFrom badMapFor endAt turnAt cursorAfter recordCauses firstCursor countCauses headerCauses recordsCauses turnsFrom causesFor turnsOf problemOf greater chargesAt hallWith chargingSheet hallOf minutePrice minutesCost windowPays windowCounts richestOf vehicleBest supplyCost hallLimit chargeLimitCauses sheetHallLimit chargeLimitOf tenUnits unless
 hall-limit-cases =
     record {
-      free = refl;
+      free = free-limit tenUnits 2 shiftMinutes ∙ refl;
       unused = refl;
       unused-part = refl;
       unused-parts = refl;
@@ -53,7 +56,7 @@ hall-limit-cases =
       both-over = refl;
       rounded-together = refl;
       not-below-0 = refl;
-      entry = refl;
+      entry = charge-limit-is oneUnitSheet (replicate 960 0) refl refl ∙ ap limitIs (free-limit (hallOf oneUnitSheet) (countsIn oneUnitSheet .slopes) 960 ∙ refl);
       too-few = refl;
       too-many = refl;
       no-sheet = refl;
