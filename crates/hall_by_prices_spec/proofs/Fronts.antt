@@ -1,24 +1,24 @@
--- Where no window charges from some minute on, only the prices of the minutes before it count: rounds come to the same on lists of these alone, which are short enough to compute. Assumes nothing.
+-- Where prices are 0 from some minute on, only those before it count: limits come to the same by these alone, and rounds on lists of these alone, where no window charges later. They are short enough to compute. Assumes nothing.
 use mathlib.Core.Path.{_≡_, refl, sym, ap, _∙_}
 use mathlib.Core.Bool.{Bool, true, false, cond}
 use mathlib.Core.List.{List, [], _∷_, _++_}
-use Prim.Native.Nat.{ℕ, zero, suc, _+_, _-_, _≤_, _<_}
+use Prim.Native.Nat.{ℕ, zero, suc, _+_, _-_, _*_, _/_, _≤_, _<_}
 use native.Mathlib.Omega.{arith}
 use lib.Dec.{ltb, eqb}
 use lib.ListN.{length, getD, replicate, replicate-append-replicate, length-replicate, List·getD-eq-default}
 use Rattle.lists.specs.Lists.{sum, below, tab}
 use Rattle.lists.proofs.Bools.{fails}
-use Rattle.lists.proofs.Sums.{sum-zero, sum-same, all-below, tab-length, tab-same}
+use Rattle.lists.proofs.Sums.{sum-zero, sum-same, sum-split, all-below, tab-length, tab-same}
 use Rattle.turn.specs.Turn.{shiftMinutes}
 use Rattle.model.specs.Choice.{has, chosen}
 use Rattle.best_spec.specs.Table.{Best, isAmong}
-use Rattle.hall_spec.specs.Hall.{Hall, windowCount, vehicle, chargesAt, drawAt, drawnAt, staysAllowed}
+use Rattle.hall_spec.specs.Hall.{Hall, windowCount, vehicle, draw, chargesAt, drawAt, drawnAt, staysAllowed}
 use Rattle.hall_spec.specs.Plan.{worthIn, hallChoice}
 use Rattle.hall_spec.proofs.Windows.{charges-in, drawAt-not}
 use Rattle.refine_spec.specs.Rounds.{RoundRule, Stage, startFrom, lowerLimit, betterChoice, looked, moving, refined, greatestOf, firstChange}
 use Rattle.refine_spec.specs.Selection.{choiceFrom}
 use Rattle.refine_spec.proofs.Rounds.{looked-prices}
-use Rattle.hall_by_prices_spec.specs.Prices.{minutePrice, minutesCost, windowPays, windowCounts, vehicleBest, supplyCost, hallLimit, hallRelaxed}
+use Rattle.hall_by_prices_spec.specs.Prices.{priceParts, minutePrice, minutesCost, windowPays, windowCounts, richestOf, vehicleBest, supplyCost, hallLimit, hallRelaxed}
 use Rattle.hall_by_prices_spec.specs.Hall.{movedMinute, movedMinutes, hallRule, hallStart, hallRefined}
 use Rattle.hall_by_prices_spec.proofs.HallRounds.{moved-within}
 
@@ -107,34 +107,72 @@ zeros-front n top l = let e : n + (top - n) ≡ top = omega arith in ap (λ (k :
 
 -- ---- a hall
 
--- what the definitions read of a list are its prices
-module _ (H : Hall) (p q : List ℕ) (same : minutePrice p ≡ minutePrice q) where
-  supply-same : supplyCost H p ≡ supplyCost H q
+-- what windows count for, the limit and the relaxed set by the first n prices
+module _ (H : Hall) (n : ℕ) (q : List ℕ) where
+  abbrev pub frontCounts : ℕ → ℕ
+  frontCounts t = H .windows .worth t - draw H t * sum (λ m. cond (chargesAt H m t) (minutePrice q m) 0) (below n) / priceParts
+
+  abbrev pub frontBest : ℕ → Best
+  frontBest v = richestOf H frontCounts v (windowCount H)
+
+  abbrev pub frontLimit : ℕ → ℕ
+  frontLimit vehicles = H .units * sum (minutePrice q) (below n) / priceParts + sum (λ k. frontBest (k + 1) .worth) (below vehicles)
+
+  abbrev pub frontRelaxed : List Bool
+  frontRelaxed = tab (windowCount H) (λ t. isAmong (frontBest (vehicle H t) .turns) t)
+
+-- they are those of a list that has only zeros behind these
+module _ (H : Hall) (n : ℕ) (p q : List ℕ) (short : n ≤ shiftMinutes) (fit : length q ≤ n) (same : minutePrice p ≡ minutePrice q) where
+  past-front : (m : ℕ) → n ≤ m → minutePrice q m ≡ 0
+  unfolding minutePrice
+  past-front m l = List·getD-eq-default q 0 {n = m} (omega arith)
+
+  front-sum : (f : ℕ → ℕ) → ((m : ℕ) → n ≤ m → f m ≡ 0) → sum f (below shiftMinutes) ≡ sum f (below n)
+  front-sum f h =
+      let e : n + (shiftMinutes - n) ≡ shiftMinutes = omega arith in
+      let z : sum (λ u. f (n + u)) (below (shiftMinutes - n)) ≡ 0 = sum-zero (λ u. f (n + u)) (all-below (shiftMinutes - n) (λ u l. h (n + u) (omega arith))) in
+      ap (λ (k : ℕ). sum f (below k)) (sym e) ∙ omega (arith, sum-split f n (shiftMinutes - n), z)
+
+  supply-front : supplyCost H p ≡ H .units * sum (minutePrice q) (below n) / priceParts
   unfolding supplyCost
-  supply-same = rw (ap (λ (f : ℕ → ℕ). sum f (below shiftMinutes)) same)
+  supply-front = rw (ap (λ (f : ℕ → ℕ). sum f (below shiftMinutes)) same, front-sum (minutePrice q) past-front)
 
-  cost-same : (t : ℕ) → minutesCost H p t ≡ minutesCost H q t
+  cost-front : (t : ℕ) → minutesCost H p t ≡ sum (λ m. cond (chargesAt H m t) (minutePrice q m) 0) (below n)
   unfolding minutesCost
-  cost-same t = ap (λ (f : ℕ → ℕ). sum (λ m. cond (chargesAt H m t) (f m) 0) (below shiftMinutes)) same
+  cost-front t =
+      ap (λ (f : ℕ → ℕ). sum (λ m. cond (chargesAt H m t) (f m) 0) (below shiftMinutes)) same
+      ∙ front-sum (λ m. cond (chargesAt H m t) (minutePrice q m) 0) (λ m l. rw (past-front m l) (go (chargesAt H m t)))
+    where
+      go : (b : Bool) → let z : ℕ = 0 in cond b z 0 ≡ z
+      go true = refl
+      go false = refl
 
-  counts-same : windowCounts H p ≡ windowCounts H q
+  counts-front : windowCounts H p ≡ frontCounts H n q
   unfolding windowCounts windowPays
-  counts-same j t = (let e : H .windows .worth t - windowPays H p t ≡ H .windows .worth t - windowPays H q t = rw (cost-same t) in e) j
+  counts-front j t = (let e : H .windows .worth t - windowPays H p t ≡ frontCounts H n q t = rw (cost-front t) in e) j
 
-  best-same : (v : ℕ) → vehicleBest H p v ≡ vehicleBest H q v
+  best-front : (v : ℕ) → vehicleBest H p v ≡ frontBest H n q v
   unfolding vehicleBest
-  best-same v = rw counts-same
+  best-front v = rw counts-front
 
-  limit-same : (vehicles : ℕ) → hallLimit H vehicles p ≡ hallLimit H vehicles q
+  pub limit-front : (vehicles : ℕ) → hallLimit H vehicles p ≡ frontLimit H n q vehicles
   unfolding hallLimit
-  limit-same vehicles =
-      omega (arith, supply-same, sum-same (λ k. vehicleBest H p (k + 1) .worth) (λ k. vehicleBest H q (k + 1) .worth) vehicles (λ k l. ap (λ (b : Best). b .worth) (best-same (k + 1))))
+  limit-front vehicles =
+      omega (arith, supply-front, sum-same (λ k. vehicleBest H p (k + 1) .worth) (λ k. frontBest H n q (k + 1) .worth) vehicles (λ k l. ap (λ (b : Best). b .worth) (best-front (k + 1))))
 
-  relaxed-same : hallRelaxed H p ≡ hallRelaxed H q
+  relaxed-front : hallRelaxed H p ≡ frontRelaxed H n q
   unfolding hallRelaxed
-  relaxed-same =
-      tab-same (windowCount H) (λ t. isAmong (vehicleBest H p (vehicle H t) .turns) t) (λ t. isAmong (vehicleBest H q (vehicle H t) .turns) t)
-      (λ t l. ap (λ (b : Best). isAmong (b .turns) t) (best-same (vehicle H t)))
+  relaxed-front =
+      tab-same (windowCount H) (λ t. isAmong (vehicleBest H p (vehicle H t) .turns) t) (λ t. isAmong (frontBest H n q (vehicle H t) .turns) t)
+      (λ t l. ap (λ (b : Best). isAmong (b .turns) t) (best-front (vehicle H t)))
+
+-- the limit at a list that may be shorter than the shift, and at prices of 0
+pub limit-short : (H : Hall) (vehicles : ℕ) (p : List ℕ) → length p ≤ shiftMinutes → hallLimit H vehicles p ≡ frontLimit H (length p) p vehicles
+limit-short H vehicles p l = limit-front H (length p) p p l (omega arith) refl vehicles
+
+pub free-limit : (H : Hall) (vehicles k : ℕ) → hallLimit H vehicles (replicate k 0) ≡ frontLimit H 0 [] vehicles
+unfolding minutePrice
+free-limit H vehicles k = limit-front H 0 (replicate k 0) [] (omega arith) (omega arith) (λ j m. zeros-behind [] k m j) vehicles
 
 -- no window charges from minute n on
 abbrev pub OverBy : Hall → ℕ → Type 0
@@ -149,10 +187,10 @@ module _ (H : Hall) (vehicles n : ℕ) where
   abbrev pub frontRule : RoundRule
   frontRule =
       record {
-        limit = hallLimit H vehicles;
-        choice = λ p. choiceFrom (staysAllowed H) (H .windows) (hallRelaxed H p);
+        limit = λ p. frontLimit H n p vehicles;
+        choice = λ p. choiceFrom (staysAllowed H) (H .windows) (frontRelaxed H n p);
         worth = worthIn H;
-        moved = λ change p. tab n (λ m. movedMinute change (H .units) (drawnAt H (hallRelaxed H p) m) (minutePrice p m));
+        moved = λ change p. tab n (λ m. movedMinute change (H .units) (drawnAt H (frontRelaxed H n p) m) (minutePrice p m));
       }
 
   abbrev pub frontStart : Stage
@@ -183,6 +221,9 @@ module _ (H : Hall) (vehicles n : ℕ) where
       unfolding minutePrice
       past m l = List·getD-eq-default p 0 {n = m} (omega arith)
 
+      relaxed-whole : hallRelaxed H (wholeList p) ≡ frontRelaxed H n p
+      relaxed-whole = relaxed-front H n (wholeList p) p short (omega arith) same
+
       moved-whole : (S : List Bool) (change : ℕ) → movedMinutes H S change (wholeList p) ≡ wholeList (tab n (λ m. movedMinute change (H .units) (drawnAt H S m) (minutePrice p m)))
       unfolding movedMinutes
       moved-whole S change =
@@ -193,11 +234,11 @@ module _ (H : Hall) (vehicles n : ℕ) where
     unfolding hallRule
     agree =
         record {
-          limits = λ p f. limit-same H (wholeList p) p (same p f) vehicles;
-          choices = λ p f. ap (choiceFrom (staysAllowed H) (H .windows)) (relaxed-same H (wholeList p) p (same p f));
+          limits = λ p f. limit-front H n (wholeList p) p short (omega arith) (same p f) vehicles;
+          choices = λ p f. ap (choiceFrom (staysAllowed H) (H .windows)) (relaxed-whole p f);
           worths = λ S. refl;
-          moves = λ change p f. ap (λ (S : List Bool). movedMinutes H S change (wholeList p)) (relaxed-same H (wholeList p) p (same p f)) ∙ moved-whole p f (hallRelaxed H p) change;
-          fit-kept = λ change p f. tab-length n (λ m. movedMinute change (H .units) (drawnAt H (hallRelaxed H p) m) (minutePrice p m));
+          moves = λ change p f. ap (λ (S : List Bool). movedMinutes H S change (wholeList p)) (relaxed-whole p f) ∙ moved-whole p f (frontRelaxed H n p) change;
+          fit-kept = λ change p f. tab-length n (λ m. movedMinute change (H .units) (drawnAt H (frontRelaxed H n p) m) (minutePrice p m));
         }
 
     start-fit : length (frontStart .prices) ≡ n

@@ -1,7 +1,7 @@
--- The limits, sets and rounds worked by hand hold: each line is computed, rounds on the prices of the minutes that have windows. Assumes nothing.
+-- The limits, sets and rounds worked by hand hold: each line is computed, limits and rounds on the prices of the first minutes alone. Assumes nothing.
 use mathlib.Core.Path.{_≡_, refl, ap, _∙_}
 use mathlib.Core.Bool.{true}
-use mathlib.Core.List.{List, [], _∷_}
+use mathlib.Core.List.{List, [], _∷_, _++_}
 use Prim.Native.Nat.{ℕ, _≤_}
 use native.Mathlib.Omega.{arith}
 use lib.Dec.{leb}
@@ -29,31 +29,38 @@ use Rattle.hall_spec.specs.Plan.{turnsAmong, wideSteps, roundedUp, smallTakes, 
 use Rattle.hall_spec.specs.Cases.{hallWith, oneUnit, twelveUnits}
 use Rattle.refine_spec.specs.Rounds.{Stage, startFrom, lowerLimit, betterChoice, looked, nextChange, moving, refined, greatestOf, firstChange}
 use Rattle.refine_spec.specs.Selection.{poorerFirst, byWorth, choiceFrom}
+use Rattle.limit_spec.specs.Limit.{limitIs}
 use Rattle.hall_spec.specs.Charge.{chargingSheet, hallOf}
+use Rattle.hall_spec.specs.ChargeCases.{oneUnitSheet}
 use Rattle.hall_by_prices_spec.specs.Prices.{minutePrice, minutesCost, windowPays, windowCounts, richestOf, vehicleBest, supplyCost, hallLimit, hallRelaxed}
 use Rattle.hall_by_prices_spec.specs.Limit.{chargeLimitCauses, sheetHallLimit, chargeLimitOf}
 use Rattle.hall_by_prices_spec.specs.Hall.{movedMinute, hallRefined}
 use Rattle.hall_by_prices_spec.specs.Refine.{ChargeRefinement, chargeRefineCauses, chargeRefinement, chargeRefineOf}
-use Rattle.hall_by_prices_spec.specs.Cases.{tenUnits, fourUnits, threeUnits, threeUnitsSheet, cameTo, HallLimitCases, RelaxedCases, HallRoundCases}
+use Rattle.hall_by_prices_spec.specs.Cases.{tenUnits, fourUnits, threeUnits, threeUnitsSheet, priceAt, cameTo, HallLimitCases, RelaxedCases, HallRoundCases}
+use Rattle.hall_by_prices_spec.proofs.LimitCauses.{charge-limit-is}
 use Rattle.hall_by_prices_spec.proofs.RefineCauses.{charge-refine-answers}
-use Rattle.hall_by_prices_spec.proofs.Fronts.{OverBy, lengthened, wholeList, frontRule, frontStart, front-refined}
+use Rattle.hall_by_prices_spec.proofs.Fronts.{frontLimit, limit-short, free-limit, OverBy, lengthened, wholeList, frontRule, frontStart, front-refined}
+
+-- on the prices of a list that ends before the shift does
+by-front : (prices : List ℕ) {limit : ℕ} → leb (length prices) shiftMinutes ≡ true → frontLimit tenUnits (length prices) prices 2 ≡ limit → hallLimit tenUnits 2 prices ≡ limit
+by-front prices l e = limit-short tenUnits 2 prices (leb-true (length prices) shiftMinutes l) ∙ e
 
 pub hall-limit-cases : HallLimitCases
 unfolding firstOf opensWith outsideRange pastShift turnCauses widthOf field turnFrom badMapFor endAt turnAt cursorAfter recordCauses firstCursor countCauses headerCauses recordsCauses turnsFrom causesFor turnsOf problemOf greater chargesAt hallWith chargingSheet hallOf minutePrice minutesCost windowPays windowCounts richestOf vehicleBest supplyCost hallLimit chargeLimitCauses sheetHallLimit chargeLimitOf tenUnits unless
 hall-limit-cases =
     record {
-      free = refl;
-      unused = refl;
-      unused-part = refl;
-      unused-parts = refl;
-      both-pay = refl;
-      last-minute = refl;
-      end-minute = refl;
-      before-start = refl;
-      both-over = refl;
-      rounded-together = refl;
-      not-below-0 = refl;
-      entry = refl;
+      free = free-limit tenUnits 2 shiftMinutes ∙ refl;
+      unused = by-front (priceAt 40 16) refl refl;
+      unused-part = by-front (priceAt 40 1) refl refl;
+      unused-parts = by-front (replicate 40 0 ++ 1 ∷ 1 ∷ []) refl refl;
+      both-pay = by-front (priceAt 5 40) refl refl;
+      last-minute = by-front (priceAt 9 40) refl refl;
+      end-minute = by-front (priceAt 10 40) refl refl;
+      before-start = by-front (priceAt 4 40) refl refl;
+      both-over = by-front (priceAt 15 40) refl refl;
+      rounded-together = by-front (1 ∷ 1 ∷ 1 ∷ []) refl refl;
+      not-below-0 = by-front (replicate 5 0 ++ 65535 ∷ replicate 19 0 ++ 65535 ∷ []) refl refl;
+      entry = charge-limit-is oneUnitSheet (replicate 960 0) refl refl ∙ ap limitIs (free-limit (hallOf oneUnitSheet) (countsIn oneUnitSheet .slopes) 960 ∙ refl);
       too-few = refl;
       too-many = refl;
       no-sheet = refl;

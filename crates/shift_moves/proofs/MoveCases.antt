@@ -52,6 +52,27 @@ most-high payers h = rw (le-ltb payers 2 h)
 
 pub ruleset most-cases = (most-low, most-high)
 
+-- without a payer a price falls, with one it stays, with more it rises; each by few facts, since omega is dear with many
+module _ (change payers price : ℕ) {a b : ℕ} (e : a ≡ price) {l m r : ℕ} (g : l ≡ a + b * change - change) (k : r ≡ min l m) where
+  fallen : b ≡ 0 → a < 65536 → m ≡ mostPrice → r ≡ price - change
+  fallen z n h =
+      let none : b * change ≡ 0 * change = ap (λ (x : ℕ). x * change) z in
+      let low : l ≤ m = omega (arith, e, none, n, g, h) in
+      omega (arith, e, none, g, low, k)
+
+  kept : b ≡ 1 → a < 65536 → m ≡ mostPrice → r ≡ price
+  kept d n h =
+      let one : b * change ≡ 1 * change = ap (λ (x : ℕ). x * change) d in
+      let same : l ≡ price = omega (arith, e, one, g) in
+      omega (arith, e, n, same, h, k)
+
+  risen : b ≡ payers → payers ≢ 0 → m ≡ highestPrice → r ≡ min highestPrice (price + (payers - 1) * change)
+  risen f z h =
+      let more : b ≡ suc (payers - 1) = omega (arith, f, z) in
+      let several : b * change ≡ (payers - 1) * change + change = ap (λ (x : ℕ). x * change) more ∙ suc-mul (payers - 1) change in
+      let same : l ≡ price + (payers - 1) * change = omega (arith, e, several, g) in
+      omega (arith, same, h, k)
+
 module _ (change payers price : ℕ) {a b : ℕ} (e : a ≡ price) (f : b ≡ payers) where
   rise-most : change ≤ mostWorth → payers ≤ mostTurns → b * change ≤ 24000000
   rise-most l m = mul-le-mul {n₁ = b} {m₁ = change} {n₂ = mostTurns} {m₂ = mostWorth} (omega arith) l
@@ -67,19 +88,9 @@ module _ (change payers price : ℕ) {a b : ℕ} (e : a ≡ price) (f : b ≡ pa
   moved-is {l} {m} {r} n g h k = go (ℕ-discrete payers 0) (ℕ-discrete payers 1)
     where
       go : Dec (payers ≡ 0) → Dec (payers ≡ 1) → r ≡ cond (eqb payers 0) (price - change) (cond (eqb payers 1) price (min highestPrice (price + (payers - 1) * change)))
-      go (yes z) d =
-          let none : b * change ≡ 0 * change = ap (λ (x : ℕ). x * change) (f ∙ z) in
-          let top = rw (lt-ltb payers 2 (omega arith)) at h in
-          rw (eq-eqb payers 0 z) (omega arith)
-      go (no z) (yes d) =
-          let one : b * change ≡ 1 * change = ap (λ (x : ℕ). x * change) (f ∙ d) in
-          let top = rw (lt-ltb payers 2 (omega arith)) at h in
-          rw (ne-eqb payers 0 z, eq-eqb payers 1 d) (omega arith)
-      go (no z) (no d) =
-          let more : b ≡ suc (payers - 1) = omega arith in
-          let several : b * change ≡ (payers - 1) * change + change = ap (λ (x : ℕ). x * change) more ∙ suc-mul (payers - 1) change in
-          let top = rw (le-ltb payers 2 (omega arith)) at h in
-          rw (ne-eqb payers 0 z, ne-eqb payers 1 d) (omega arith)
+      go (yes z) d = rw (eq-eqb payers 0 z) (fallen change payers price e g k (f ∙ z) n (rw (lt-ltb payers 2 (omega (arith, z))) at h))
+      go (no z) (yes d) = rw (ne-eqb payers 0 z, eq-eqb payers 1 d) (kept change payers price e g k (f ∙ d) n (rw (lt-ltb payers 2 (omega (arith, d))) at h))
+      go (no z) (no d) = rw (ne-eqb payers 0 z, ne-eqb payers 1 d) (risen change payers price e g k f z (rw (le-ltb payers 2 (omega (arith, z, d))) at h))
 
 pub ruleset moved-cases = (rise-fits, raised-fits, moved-is)
 
