@@ -640,7 +640,8 @@ fn main() {
         "improve: at most {VISITS} visits; refine, charge r and q: at most {BOARD_ROUNDS} rounds;"
     );
     println!("plan f: the reference makes no list at each pick;");
-    println!("write few: six kinds of turns, nearly equal by pairs; worths: six kinds but for the worths; small: small values;");
+    println!("write few: six kinds of turns, nearly equal by pairs; worths: six kinds but for the worths;");
+    println!("write small: small values, slower than all tables known that are not made to be slow to sort;");
     println!("play: the reference goes by the turns; play o: minute by minute as the library does, its peer;");
     println!("charge s: small draws, charge a: and all windows overlap;");
     println!("charge l: the hall's limit, charge r: its rounds, charge q: with small draws; *: the slowest known");
