@@ -30,10 +30,11 @@
  *   function calls itself but the search of slopeboard_improve, one level deeper for each of at most 64 turns.
  * - Times, measured and not proved, in microseconds: one call on the slowest sheets known, the best of many rounds
  *   over 64 sheets (reference/bench), on one core of an AMD EPYC server. slopeboard_list 137, slopeboard_plan 117,
- *   slopeboard_charge 60, slopeboard_check 57, slopeboard_play 46, slopeboard_write 17, slopeboard_keep 12,
- *   slopeboard_limit 10, slopeboard_assign 9.1, slopeboard_draw 6.7, slopeboard_charge_limit 5.9,
- *   slopeboard_restore 3.9, slopeboard_read 2.5, slopeboard_best 2.4; slopeboard_improve 26 for 10,000 visits;
- *   slopeboard_refine 273 and slopeboard_charge_refine 445 for 50 rounds. A slower sheet may exist.
+ *   slopeboard_charge 60, slopeboard_check 57, slopeboard_play 46, slopeboard_keep 12, slopeboard_limit 10,
+ *   slopeboard_assign 9.1, slopeboard_draw 8.7, slopeboard_write 6.7 (13 on a table made to be slow to sort),
+ *   slopeboard_charge_limit 5.9, slopeboard_restore 3.9, slopeboard_read 2.5, slopeboard_best 2.4; slopeboard_improve
+ *   26 for 10,000 visits; slopeboard_refine 273 and slopeboard_charge_refine 445 for 50 rounds. A slower sheet may
+ *   exist.
  */
 #ifndef SLOPEBOARD_H
 #define SLOPEBOARD_H
@@ -121,7 +122,7 @@ enum {
 #define SLOPEBOARD_STACK_CHARGE_REFINE 28376
 #define SLOPEBOARD_STACK_CHECK 13344
 #define SLOPEBOARD_STACK_COUNT 8
-#define SLOPEBOARD_STACK_DRAW 6916
+#define SLOPEBOARD_STACK_DRAW 3668
 #define SLOPEBOARD_STACK_IMPROVE 14928
 #define SLOPEBOARD_STACK_IS_CHOSEN 8
 #define SLOPEBOARD_STACK_KEEP 5392
@@ -135,7 +136,7 @@ enum {
 #define SLOPEBOARD_STACK_REFINE 28384
 #define SLOPEBOARD_STACK_RESTORE 4888
 #define SLOPEBOARD_STACK_STEPS 16
-#define SLOPEBOARD_STACK_WRITE 6916
+#define SLOPEBOARD_STACK_WRITE 3668
 
 typedef struct {
     uint8_t refusal;

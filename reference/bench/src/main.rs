@@ -428,6 +428,30 @@ fn random_maps(rng: &mut Rng, turns: usize) -> Shift {
     shapes::half_repeated(rng, &shift)
 }
 
+/// Six turns that come again and again with other worths.
+fn other_worths(rng: &mut Rng, turns: usize) -> Shift {
+    let kinds = widest_shuffled(rng, 6);
+    let turn = |_| {
+        let mut turn = rng.pick(&kinds.turns);
+        turn[4] = rng.between(1, MOST_WORTH.into()) as u16;
+        turn
+    };
+    Shift {
+        turns: (0..turns).map(turn).collect(),
+        ..kinds
+    }
+}
+
+/// Turns of small values in any order, so that any value may be that of the
+/// next turn too.
+fn small_values(rng: &mut Rng, turns: usize) -> Shift {
+    let mut shift = shapes::drawn(rng, turns, [3, 8], [40, 1, 8], 3);
+    for turn in &mut shift.turns {
+        turn[5] = rng.below(4) as u16;
+    }
+    shift
+}
+
 /// Sheets with one turn a slope, of many groomers or few.
 fn single_of_16(rng: &mut Rng, turns: usize) -> Shift {
     one_turn_a_slope(rng, turns, 16, 90)
@@ -517,7 +541,9 @@ const TABLE: &[Rows] = &[
             ("falling", widest_falling, &[400]),
             ("equal", equal_turns, &[400]),
             ("random", widest_shuffled, &[400]),
-            ("few *", shapes::few_kinds, &[400]),
+            ("few", shapes::few_kinds, &[400]),
+            ("worths", other_worths, &[400]),
+            ("small *", small_values, &[400]),
         ],
     ),
     (&DRAW, &[("*", widest_sheet, &[200, 400])]),
@@ -614,7 +640,8 @@ fn main() {
         "improve: at most {VISITS} visits; refine, charge r and q: at most {BOARD_ROUNDS} rounds;"
     );
     println!("plan f: the reference makes no list at each pick;");
-    println!("write few: six kinds of turns, nearly equal by pairs;");
+    println!("write few: six kinds of turns, nearly equal by pairs; worths: six kinds but for the worths;");
+    println!("write small: small values, slower than all tables known that are not made to be slow to sort;");
     println!("play: the reference goes by the turns; play o: minute by minute as the library does, its peer;");
     println!("charge s: small draws, charge a: and all windows overlap;");
     println!("charge l: the hall's limit, charge r: its rounds, charge q: with small draws; *: the slowest known");
