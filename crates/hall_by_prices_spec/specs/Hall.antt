@@ -1,4 +1,4 @@
--- The rule of a hall: how a round moves the price of each minute by what the relaxed set draws then (request P-3). Assumes nothing.
+-- The rule of a hall: how a round moves the price of each minute by what the relaxed set draws then, and which windows are chosen (request P-3). Assumes nothing.
 use mathlib.Core.Path.{_≡_}
 use mathlib.Core.Logic.{_↔_}
 use mathlib.Core.Bool.{Bool, true, cond}
