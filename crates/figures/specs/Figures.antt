@@ -182,6 +182,9 @@ pub record Figures : Type 0 where
   pub next-change : (change : ℕ) → nextChange change ≡ max 1 (15 * change / 16)
   -- a turn's price changes by half of it, and at least by 1
   pub turn-change : (change : ℕ) → turnChange change ≡ max 1 (change / 2)
+  -- a price that no turn pays falls by the change, and a difference of numbers is not below 0; one that a single turn pays stays
+  pub unpaid-price : (change price : ℕ) → movedPrice change 0 price ≡ price - change
+  pub lone-price : (change price : ℕ) → movedPrice change 1 price ≡ price
   -- a price that k turns pay, k above 1, rises to 60,000 at most; one of a minute in which more than the units is drawn, to 65,535
   pub highest-price : (change k price : ℕ) → 2 ≤ k → movedPrice change k price ≡ min 60000 (price + (k - 1) * change)
   pub highest-minute : (change units drawn price : ℕ) → units < drawn → movedMinute change units drawn price ≡ min 65535 (price + (change * (drawn - units) + (units - 1)) / units)

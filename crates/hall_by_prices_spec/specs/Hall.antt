@@ -1,15 +1,18 @@
--- The rule of a hall: how a round moves the price of each minute by what the relaxed set draws then (request P-3). Assumes nothing.
-use mathlib.Core.Bool.{Bool, cond}
+-- The rule of a hall: how a round moves the price of each minute by what the relaxed set draws then, and which windows are chosen (request P-3). Assumes nothing.
+use mathlib.Core.Path.{_≡_}
+use mathlib.Core.Logic.{_↔_}
+use mathlib.Core.Bool.{Bool, true, cond}
 use mathlib.Core.List.{List}
-use Prim.Native.Nat.{ℕ, _+_, _-_, _*_, _/_, min}
+use Prim.Native.Nat.{ℕ, _+_, _-_, _*_, _/_, _<_, min}
 use lib.Dec.{ltb}
-use lib.ListN.{replicate}
+use lib.ListN.{length, set, replicate}
 use Rattle.lists.specs.Lists.{tab, below}
 use Rattle.turn.specs.Turn.{shiftMinutes}
-use Rattle.hall_spec.specs.Hall.{Hall, windowCount, drawnAt, staysAllowed}
+use Rattle.model.specs.Choice.{has}
+use Rattle.hall_spec.specs.Hall.{Hall, windowCount, drawnAt, staysAllowed, AllowedChoice}
 use Rattle.hall_spec.specs.Plan.{roundedUp, worthIn, hallChoice}
 use Rattle.refine_spec.specs.Rounds.{RoundRule, Stage, startFrom, refined, greatestOf, firstChange}
-use Rattle.refine_spec.specs.Selection.{choiceFrom}
+use Rattle.refine_spec.specs.Selection.{choiceFrom, ChosenBefore}
 use Rattle.hall_by_prices_spec.specs.Prices.{minutePrice, hallLimit, hallRelaxed}
 
 -- no round moves a minute's price above this
@@ -42,3 +45,11 @@ hallStart H vehicles = startFrom (hallRule H vehicles) (firstChange 8 (greatestO
 -- at most so many rounds from there
 unfoldable pub hallRefined : Hall → ℕ → ℕ → Stage
 hallRefined H vehicles rounds = refined (hallRule H vehicles) rounds (hallStart H vehicles)
+
+-- ---- as statements
+
+-- S is chosen so: each window that is allowed together with the chosen windows that are asked before it, and no other. E has those windows; with t set it has t too
+pub record WindowsFrom (H : Hall) (relaxed S : List Bool) : Type 0 where
+  pub places : length S ≡ windowCount H
+  pub exactly : (t : ℕ) → t < windowCount H →
+      (has S t ≡ true) ↔ ((E : List Bool) → ChosenBefore (H .windows) relaxed S t E → AllowedChoice H (set E t true))

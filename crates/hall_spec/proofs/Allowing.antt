@@ -100,12 +100,19 @@ module _ (H : Hall) where
       go (same-vehicle t l h v) e f = free-vehicle S j e t l h (vehicle-is H t j v)
       go (out-of-supply minute c m) e f = omega (arith, supply-at S j f minute c, m)
 
+  -- fewer windows draw no more
+  drawn-fewer : (E S : List Bool) → ((u : ℕ) → u < windowCount H → has E u ≡ true → has S u ≡ true) → (minute : ℕ) → drawnAt H E minute ≤ drawnAt H S minute
+  unfolding drawnAt
+  drawn-fewer E S h minute = chosen-mono (windowCount H) E S (drawAt H minute) (drawAt H minute) (λ u l e. (h u l e, omega arith))
+
   -- a window that is short of something is so beside more windows
   short-more : (S : List Bool) (j t : ℕ) → Short S t → Short (set S j true) t
-  unfolding drawnAt
   short-more S j t (same-vehicle u l h v) = same-vehicle u l (put-keeps S j u h) v
-  short-more S j t (out-of-supply minute c m) =
-      out-of-supply minute c (omega (arith, m, chosen-mono (windowCount H) S (set S j true) (drawAt H minute) (drawAt H minute) (λ u l h. (put-keeps S j u h, omega arith))))
+  short-more S j t (out-of-supply minute c m) = out-of-supply minute c (omega (arith, m, drawn-fewer S (set S j true) (λ u l h. put-keeps S j u h) minute))
+
+  -- what does not stay allowed never does later
+  pub refused-more : (S : List Bool) (j t : ℕ) → staysAllowed H S t ≡ false → staysAllowed H (set S j true) t ≡ false
+  refused-more S j t e = short-not (set S j true) t (short-more S j t (short-by S t e))
 
   -- with such a window the chosen ones are no allowed set
   short-out : (S : List Bool) (t : ℕ) → Short S t → Allowed H (t ∷ members (windowCount H) S) → ⊥
@@ -115,6 +122,12 @@ module _ (H : Hall) where
           → All (λ x. All (λ u. x ≢ u → vehicle H x ≢ vehicle H u) (t ∷ members (windowCount H) S)) (t ∷ members (windowCount H) S) → ⊥
       go (same-vehicle u l h v) n (Distinct.other d ds) (more (more w ws) vs) = members-each (windowCount H) S ws u l h (members-each (windowCount H) S d u l h) (sym (vehicle-is H u t v))
       go (out-of-supply minute c m) n d v = omega (arith, a .supply minute, drawn-members S minute, drawAt-charging H minute t c, m)
+
+  -- some windows of an allowed choice are allowed
+  pub fewer-allowed : (E S : List Bool) → ((u : ℕ) → u < windowCount H → has E u ≡ true → has S u ≡ true) → AllowedChoice H S → AllowedChoice H E
+  fewer-allowed E S h a =
+      let k = allowed-admissible S a in
+      admissible-allowed E (record { vehicles = λ x y hx hy d p q. k .vehicles x y hx hy d (h x hx p) (h y hy q); supply = λ minute. omega (arith, k .supply minute, drawn-fewer E S h minute) })
 
   -- ---- one window more
 
@@ -191,7 +204,7 @@ module _ (H : Hall) where
     unfit-more S j t e = go (kind t) refl e
       where
         go : (b : Bool) → kind t ≡ b → (b && staysAllowed H S t) ≡ false → (b && staysAllowed H (set S j true) t) ≡ false
-        go true k f = short-not (set S j true) t (short-more S j t (short-by S t f))
+        go true k f = refused-more S j t f
         go false k f = refl
 
     -- going back over steps, then filling with the windows below i

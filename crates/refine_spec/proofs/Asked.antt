@@ -1,5 +1,5 @@
 -- Which turns the choice from a relaxed set has, whatever that set is: each that fits beside the chosen turns asked before it, and no other. Assumes nothing.
-use mathlib.Core.Path.{_≡_, refl, sym, ap, _∙_}
+use mathlib.Core.Path.{_≡_, refl, sym, ap, _∙_, subst}
 use mathlib.Core.Logic.{_↔_, _≢_, _⊎_, inl, inr}
 use mathlib.Core.Bool.{Bool, true, false, not, cond, _&&_, _||_}
 use mathlib.Core.List.{List, [], _∷_, _++_}
@@ -24,7 +24,7 @@ use Rattle.model.proofs.Filled.{fits-apart, apart-fits, stays-unfit}
 use Rattle.best_spec.specs.Table.{isAmong}
 use Rattle.best_spec.specs.Groomers.{keep}
 use Rattle.best_spec.proofs.Members.{among-all, among-both, among-cons}
-use Rattle.refine_spec.specs.Selection.{poorerFirst, byWorth, choiceFrom, AskedBefore, relaxed-first, worth-more, lower-number, ChosenFrom}
+use Rattle.refine_spec.specs.Selection.{poorerFirst, byWorth, choiceFrom, AskedBefore, relaxed-first, worth-more, lower-number, ChosenBefore, ChosenFrom}
 use Rattle.refine_spec.proofs.Selection.{each-length, each-full, Poorer, by-worth, by-number, first-poorer, poorer-first, worth-order, worth-range, worth-among, from-length}
 
 -- ---- a list gone through from its end, for any test of what fits and any order in which its turns are asked
@@ -123,9 +123,9 @@ module _ (test : List Bool → ℕ → Bool) where
     abbrev Settles : List Bool → Type 0
     Settles S = (t : ℕ) → t < n → has S t ≡ test (earlier S t) t
 
-    -- they leave one choice, where the list has with a turn all that are asked before it
+    -- they leave one choice, where the list has with a turn all that are asked before it. Of the other choice they need to hold only where both are alike so far
     each-alike : {js : List ℕ} → Falling js → ((t u : ℕ) → isAmong js t ≡ true → u < n → before u t ≡ true → isAmong js u ≡ true) →
-        (P Q : List Bool) → Settles P → Settles Q → (t : ℕ) → isAmong js t ≡ true → has P t ≡ has Q t
+        (P Q : List Bool) → Settles P → ((t : ℕ) → t < n → earlier Q t ≡ earlier P t → has Q t ≡ test (earlier Q t) t) → (t : ℕ) → isAmong js t ≡ true → has Q t ≡ has P t
     unfolding isAmong
     each-alike empty whole P Q p q t m = absurd (not-both m refl)
     each-alike (first {j = j} {js = js} l h f) whole P Q p q t m = go (each-alike f smaller P Q p q) (among-cons t j js m)
@@ -138,19 +138,19 @@ module _ (test : List Bool → ℕ → Bool) where
             at (inl e) = absurd (not-both b (ap (λ (v : ℕ). before v t) e ∙ among-all t h k .1))
             at (inr r) = r
 
-        earlier-same : ((u : ℕ) → isAmong js u ≡ true → has P u ≡ has Q u) → earlier P j ≡ earlier Q j
+        earlier-same : ((u : ℕ) → isAmong js u ≡ true → has Q u ≡ has P u) → earlier Q j ≡ earlier P j
         earlier-same ih = tab-same n _ _ (λ u c. at u c (before u j) refl)
           where
             member : (u : ℕ) → before u j ≡ true → (u ≡ j) ⊎ (isAmong js u ≡ true) → isAmong js u ≡ true
             member u b (inl e) = absurd (not-both b (ap (λ (v : ℕ). before v j) e ∙ self j))
             member u b (inr r) = r
 
-            at : (u : ℕ) → u < n → (b : Bool) → before u j ≡ b → (has P u && b) ≡ (has Q u && b)
+            at : (u : ℕ) → u < n → (b : Bool) → before u j ≡ b → (has Q u && b) ≡ (has P u && b)
             at u c true b = ap (λ (x : Bool). x && true) (ih u (member u b (among-cons u j js (whole j u (or-1 (eqb j j) (isAmong js j) (eq-eqb j j refl)) c b))))
-            at u c false b = and-false (has P u) ∙ sym (and-false (has Q u))
+            at u c false b = and-false (has Q u) ∙ sym (and-false (has P u))
 
-        go : ((u : ℕ) → isAmong js u ≡ true → has P u ≡ has Q u) → (t ≡ j) ⊎ (isAmong js t ≡ true) → has P t ≡ has Q t
-        go ih (inl e) = rw e (p j l ∙ ap (λ (U : List Bool). test U j) (earlier-same ih) ∙ sym (q j l))
+        go : ((u : ℕ) → isAmong js u ≡ true → has Q u ≡ has P u) → (t ≡ j) ⊎ (isAmong js t ≡ true) → has Q t ≡ has P t
+        go ih (inl e) = rw e (q j l (earlier-same ih) ∙ ap (λ (U : List Bool). test U j) (earlier-same ih) ∙ sym (p j l))
         go ih (inr k) = ih t k
 
   -- ---- turns that are settled may be left out of the list
@@ -274,6 +274,32 @@ module _ (T : Turns) where
     words-asked u t (worth-more s h) = asked-alike u t s ∙ and-of (poorerFirst T t u) (not (eqb t u)) (poorer-first T t u (by-worth h)) (refuted (eqb t u) (λ e. omega (arith, h, ap (T .worth) (eqb-true t u e))))
     words-asked u t (lower-number s w l) = asked-alike u t s ∙ and-of (poorerFirst T t u) (not (eqb t u)) (poorer-first T t u (by-number (sym w) (omega arith))) (refuted (eqb t u) (λ e. omega (arith, l, eqb-true t u e)))
 
+    -- ---- the turns of a choice that are asked before a turn
+
+    pub not-before-itself : (t : ℕ) → AskedBefore T relaxed t t → ⊥
+    not-before-itself t a = not-both (words-asked t t a) (asked-self t)
+
+    abbrev askedEarlier : List Bool → ℕ → List Bool
+    askedEarlier S t = tab (T .count) (λ u. has S u && asked u t)
+
+    earlier-words : (S : List Bool) (t : ℕ) → ChosenBefore T relaxed S t (askedEarlier S t)
+    earlier-words S t = record { places = tab-length (T .count) _; exactly = λ u k. (λ e. apart u (sym (at u k) ∙ e), λ (h, a). at u k ∙ and-of (has S u) (asked u t) h (words-asked u t a)) }
+      where
+        at : (u : ℕ) → u < T .count → has (askedEarlier S t) u ≡ (has S u && asked u t)
+        at u k = tab-at (T .count) (λ u. has S u && asked u t) false u k
+
+        apart : (u : ℕ) → (has S u && asked u t) ≡ true → (has S u ≡ true) × AskedBefore T relaxed u t
+        apart u e = (and-1 (has S u) (asked u t) e, asked-words u t (and-2 (has S u) (asked u t) e))
+
+    -- there is one such set, and no other
+    pub chosen-before : (S : List Bool) (t : ℕ) → (E : List Bool) × ChosenBefore T relaxed S t E
+    chosen-before S t = (askedEarlier S t, earlier-words S t)
+
+    pub before-same : (S : List Bool) (t : ℕ) (D E : List Bool) → ChosenBefore T relaxed S t D → ChosenBefore T relaxed S t E → D ≡ E
+    before-same S t D E d e =
+        ext-getD false D E (d .places ∙ sym (e .places))
+        (λ u m. let k : u < T .count = omega (arith, d .places) in same-tests (has D u) (has E u) (λ h. e .exactly u k .1 (d .exactly u k .0 h)) (λ h. d .exactly u k .1 (e .exactly u k .0 h)))
+
 -- ---- the choice, for any test by which what does not fit never fits later
 
 module _ (test : List Bool → ℕ → Bool) (shut : (S : List Bool) (j t : ℕ) → test S t ≡ false → test (set S j true) t ≡ false) (T : Turns) (relaxed : List Bool) where
@@ -298,10 +324,6 @@ module _ (test : List Bool → ℕ → Bool) (shut : (S : List Bool) (j t : ℕ)
       go : (b : Bool) → has relaxed t ≡ b → (isAmong others t || isAmong relaxedOnes t) ≡ true
       go true e = or-2 (isAmong others t) (isAmong relaxedOnes t) (among-keep (has relaxed) (byWorth T) t e (worth-among T t l))
       go false e = or-1 (isAmong others t) (isAmong relaxedOnes t) (among-keep (λ t. not (has relaxed t)) (byWorth T) t (rw e refl) (worth-among T t l))
-
-  -- the turns of a choice that are asked before t
-  abbrev askedEarlier : List Bool → ℕ → List Bool
-  askedEarlier = earlier test (T .count) (asked T relaxed) (asked-self T relaxed)
 
   abbrev Asked : List ℕ → Type 0
   Asked = Falling test (T .count) (asked T relaxed) (asked-self T relaxed)
@@ -339,42 +361,53 @@ module _ (test : List Bool → ℕ → Bool) (shut : (S : List Bool) (j t : ℕ)
       (all-map (λ t e. not-true (has relaxed t) e) (keep-holds (λ t. not (has relaxed t)) (byWorth T)))
       (keep-holds (has relaxed) (byWorth T))
 
-  -- a turn is chosen just if it passes the test beside the chosen turns that are asked before it
-  from-at : (t : ℕ) → t < T .count → has (choiceFrom test T relaxed) t ≡ test (askedEarlier (choiceFrom test T relaxed) t) t
-  from-at t l = rw from-list (each-at test (T .count) (asked T relaxed) (asked-self T relaxed) list-asked t (listed t l))
+  made-at : (t : ℕ) → t < T .count → has (choiceFrom test T relaxed) t ≡ test (askedEarlier T relaxed (choiceFrom test T relaxed) t) t
+  made-at t l = rw from-list (each-at test (T .count) (asked T relaxed) (asked-self T relaxed) list-asked t (listed t l))
 
-  -- and no other choice is such
-  from-alone : (S : List Bool) → length S ≡ T .count → ((t : ℕ) → t < T .count → has S t ≡ test (askedEarlier S t) t) → S ≡ choiceFrom test T relaxed
+  -- a turn is chosen just if it passes the test beside the chosen turns that are asked before it
+  pub from-at : (t : ℕ) → t < T .count → (E : List Bool) → ChosenBefore T relaxed (choiceFrom test T relaxed) t E → has (choiceFrom test T relaxed) t ≡ test E t
+  from-at t l E b =
+      let C = choiceFrom test T relaxed in
+      made-at t l ∙ ap (λ (U : List Bool). test U t) (before-same T relaxed C t (askedEarlier T relaxed C t) E (earlier-words T relaxed C t) b)
+
+  -- and no other choice is such, even if this is known of it only where the same turns are chosen before
+  pub from-alone : (S : List Bool) → length S ≡ T .count →
+      ((t : ℕ) → t < T .count → (E : List Bool) → ChosenBefore T relaxed (choiceFrom test T relaxed) t E → ChosenBefore T relaxed S t E → has S t ≡ test E t) → S ≡ choiceFrom test T relaxed
   from-alone S size s =
       ext-getD false S (choiceFrom test T relaxed) (size ∙ sym (from-length test T relaxed))
-      (λ t l. each-alike test (T .count) (asked T relaxed) (asked-self T relaxed) list-asked (λ t u k c b. listed u c) S (choiceFrom test T relaxed) s from-at t (listed t (omega arith)))
+      (λ t l. each-alike test (T .count) (asked T relaxed) (asked-self T relaxed) list-asked (λ t u k c b. listed u c) (choiceFrom test T relaxed) S made-at known t (listed t (omega arith)))
+    where
+      known : (t : ℕ) → t < T .count → askedEarlier T relaxed S t ≡ askedEarlier T relaxed (choiceFrom test T relaxed) t → has S t ≡ test (askedEarlier T relaxed S t) t
+      known t l q =
+          let C = choiceFrom test T relaxed in
+          s t l (askedEarlier T relaxed S t) (subst (ChosenBefore T relaxed C t) (sym q) (earlier-words T relaxed C t)) (earlier-words T relaxed S t)
 
 -- ---- the shift
 
 module _ (T : Turns) (lengths : PositiveLengths T) (relaxed : List Bool) where
-  abbrev theirs : List Bool → ℕ → List Bool
-  theirs = askedEarlier (fits T) (stays-unfit T) T relaxed
-
-  -- a turn fits beside them just if it conflicts with none of them
-  fits-words : (S : List Bool) (t : ℕ) → t < T .count →
-      (fits T (theirs S t) t ≡ true) ↔ ((u : ℕ) → u < T .count → has S u ≡ true → AskedBefore T relaxed u t → Conflict T u t → ⊥)
-  fits-words S t l = (
-    λ e u k h a c. not-both (conflict-is T lengths u t k l .1 c) (fits-apart T (theirs S t) t e u k (at u k ∙ and-of (has S u) (asked T relaxed u t) h (words-asked T relaxed u t a))),
-    λ w. apart-fits T (theirs S t) t (λ u k h. let b = sym (at u k) ∙ h in no-conflict-is T lengths u t k l .1 (w u k (and-1 (has S u) (asked T relaxed u t) b) (asked-words T relaxed u t (and-2 (has S u) (asked T relaxed u t) b)))),
+  -- a turn fits beside the chosen turns that are asked before it just if it conflicts with none of them
+  fits-words : (S : List Bool) (t : ℕ) → t < T .count → (E : List Bool) → ChosenBefore T relaxed S t E →
+      (fits T E t ≡ true) ↔ ((u : ℕ) → u < T .count → has S u ≡ true → AskedBefore T relaxed u t → Conflict T u t → ⊥)
+  fits-words S t l E b = (
+    λ e u k h a c. not-both (conflict-is T lengths u t k l .1 c) (fits-apart T E t e u k (b .exactly u k .1 (h, a))),
+    λ w. apart-fits T E t (λ u k e. let (h, a) = b .exactly u k .0 e in no-conflict-is T lengths u t k l .1 (w u k h a)),
   )
-    where
-      at : (u : ℕ) → u < T .count → has (theirs S t) u ≡ (has S u && asked T relaxed u t)
-      at u k = tab-at (T .count) (λ u. has S u && asked T relaxed u t) false u k
 
   -- the choice is what the words say
   pub from-is : ChosenFrom T relaxed (choiceFrom (fits T) T relaxed)
   from-is =
       let C = choiceFrom (fits T) T relaxed in
-      let at = from-at (fits T) (stays-unfit T) T relaxed in
-      record { places = from-length (fits T) T relaxed; exactly = λ t l. (λ e. fits-words C t l .0 (sym (at t l) ∙ e), λ w. at t l ∙ fits-words C t l .1 w) }
+      record {
+        places = from-length (fits T) T relaxed;
+        exactly =
+            λ t l.
+            let (E, b) = chosen-before T relaxed C t in
+            let q = from-at (fits T) (stays-unfit T) T relaxed t l E b in
+            (λ e. fits-words C t l E b .0 (sym q ∙ e), λ w. q ∙ fits-words C t l E b .1 w);
+      }
 
   -- and they leave no other
   pub from-only : (S : List Bool) → ChosenFrom T relaxed S → S ≡ choiceFrom (fits T) T relaxed
   from-only S c =
       from-alone (fits T) (stays-unfit T) T relaxed S (c .places)
-      (λ t l. same-tests (has S t) (fits T (theirs S t) t) (λ e. fits-words S t l .1 (c .exactly t l .0 e)) (λ e. c .exactly t l .1 (fits-words S t l .0 e)))
+      (λ t l E a b. same-tests (has S t) (fits T E t) (λ e. fits-words S t l E b .1 (c .exactly t l .0 e)) (λ e. c .exactly t l .1 (fits-words S t l E b .0 e)))
