@@ -33,7 +33,7 @@
  *   slopeboard_charge 60, slopeboard_check 57, slopeboard_play 46, slopeboard_write 17, slopeboard_keep 12,
  *   slopeboard_limit 10, slopeboard_assign 9.1, slopeboard_draw 6.7, slopeboard_charge_limit 5.9,
  *   slopeboard_restore 3.9, slopeboard_read 2.5, slopeboard_best 2.4; slopeboard_improve 26 for 10,000 visits;
- *   slopeboard_refine 273 and slopeboard_charge_refine 445 for 50 rounds. A slower sheet may exist.
+ *   slopeboard_refine 248 and slopeboard_charge_refine 445 for 50 rounds. A slower sheet may exist.
  */
 #ifndef SLOPEBOARD_H
 #define SLOPEBOARD_H
