@@ -33,7 +33,7 @@
  *   slopeboard_charge 60, slopeboard_check 57, slopeboard_play 46, slopeboard_keep 12, slopeboard_limit 10,
  *   slopeboard_assign 9.1, slopeboard_draw 8.7, slopeboard_write 6.7 (13 on a table made to be slow to sort),
  *   slopeboard_charge_limit 5.9, slopeboard_restore 3.9, slopeboard_read 2.5, slopeboard_best 2.4; slopeboard_improve
- *   26 for 10,000 visits; slopeboard_refine 273 and slopeboard_charge_refine 445 for 50 rounds. A slower sheet may
+ *   26 for 10,000 visits; slopeboard_refine 248 and slopeboard_charge_refine 445 for 50 rounds. A slower sheet may
  *   exist.
  */
 #ifndef SLOPEBOARD_H
@@ -119,7 +119,7 @@ enum {
 #define SLOPEBOARD_STACK_BEST 14016
 #define SLOPEBOARD_STACK_CHARGE 24848
 #define SLOPEBOARD_STACK_CHARGE_LIMIT 13744
-#define SLOPEBOARD_STACK_CHARGE_REFINE 28376
+#define SLOPEBOARD_STACK_CHARGE_REFINE 29752
 #define SLOPEBOARD_STACK_CHECK 13344
 #define SLOPEBOARD_STACK_COUNT 8
 #define SLOPEBOARD_STACK_DRAW 3668
@@ -133,7 +133,7 @@ enum {
 #define SLOPEBOARD_STACK_PLAY 24240
 #define SLOPEBOARD_STACK_READ 4992
 #define SLOPEBOARD_STACK_READ_SHORT 4992
-#define SLOPEBOARD_STACK_REFINE 28384
+#define SLOPEBOARD_STACK_REFINE 29760
 #define SLOPEBOARD_STACK_RESTORE 4888
 #define SLOPEBOARD_STACK_STEPS 16
 #define SLOPEBOARD_STACK_WRITE 3668

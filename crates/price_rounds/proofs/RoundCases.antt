@@ -11,7 +11,9 @@ use Rattle.lists.proofs.Sums.{tab-length}
 use Rattle.turn.specs.Turn.{shiftMinutes, mostWorth}
 use Rattle.wire.specs.Number.{puts}
 use Rattle.sheet.specs.Kind.{mostTurns}
+use Rattle.model.specs.Choice.{chosen, chooseEach}
 use Rattle.choice_map.specs.Choice.{mapBytes, choiceIn, Clean}
+use Rattle.selection.specs.Asked.{NumbersOf}
 use Rattle.instance.specs.declared.columns.Size.{Size}
 use Rattle.instance.specs.Columns.{turnsBy, Held}
 use Rattle.instance.proofs.Rows.{count-is}
@@ -20,28 +22,40 @@ use Rattle.refine_spec.specs.Rounds.{RoundRule, Stage, lowerLimit, betterChoice
 use Rattle.refine_spec.specs.Selection.{byWorth}
 use Rattle.refine_spec.proofs.Loop.{loop-stops, loop-left, loop-goes, first-same}
 use Rattle.refine_spec.proofs.Shift.{moved-length}
-use Rattle.round_parts.proofs.RankCases.{all-copied, keys-room, keys-given}
+use Rattle.round_parts.specs.Ranks.{withChosen}
+use Rattle.round_parts.proofs.RankCases.{all-copied, keys-room, keys-given, list-numbers}
 use Rattle.hall_by_prices_spec.specs.Hall.{movedMinutes}
 use Rattle.price_rule.specs.declared.RuleFor.{RuleFor}
 use Rattle.price_rule.specs.declared.RuleFor.the-variants.{Shift, Hall}
-use Rattle.price_rule.specs.Rules.{sizeOf, pricesOf, changeOf, ruleLimit, relaxedOf, movedOf, choiceOf, ruleWorth, roundRule, RulePosed}
-use Rattle.price_rule.proofs.RuleCases.{rule-held}
+use Rattle.price_rule.specs.Rules.{sizeOf, pricesOf, changeOf, ruleLimit, relaxedOf, fitsOf, movedOf, choiceOf, ruleWorth, roundRule, RulePosed}
+use Rattle.price_rule.proofs.RuleCases.{rule-held, choice-made, choice-worth}
 use Rattle.price_rounds.specs.declared.Task.{Task}
 use Rattle.price_rounds.specs.declared.Reached.{Reached}
-use Rattle.price_rounds.specs.Rounds.{roundsFrom, stageOf, BetterKept, Reaches, RoundsStart, BetweenLooks}
+use Rattle.price_rounds.specs.Rounds.{roundsFrom, chosenFrom, stageOf, BetterKept, Reaches, RoundsStart, BetweenLooks}
 use Rattle.price_rounds.proofs.FirstLook.{first-limit}
 
 -- ---- the better of two choices
 
-module _ (r : RuleFor) (cols : List ℕ) (relaxed : List Bool) (best map : List ℕ) (worth : ℕ) {found : ℕ} (m : choiceIn (sizeOf r .count) map ≡ choiceOf r cols relaxed) (f : found ≡ ruleWorth r cols (choiceOf r cols relaxed)) where
-  pub better-none : found ≤ worth → BetterKept r cols relaxed (choiceIn (sizeOf r .count) best) worth (choiceIn (sizeOf r .count) best) worth
-  better-none h = let n : ltb worth (ruleWorth r cols (choiceOf r cols relaxed)) ≡ false = le-ltb worth (ruleWorth r cols (choiceOf r cols relaxed)) (omega (arith, f)) in record { choice-is = rw n; worth-is = rw n }
+module _ (r : RuleFor) (cols list best map : List ℕ) (worth : ℕ) {found : ℕ} (m : choiceIn (sizeOf r .count) map ≡ chooseEach (fitsOf r cols) list (replicate (sizeOf r .count) false))
+    (f : found ≡ chosen (sizeOf r .count) (choiceIn (sizeOf r .count) map) (turnsBy (sizeOf r) cols .worth)) where
+  abbrev made : List Bool
+  made = chosenFrom r cols list
+
+  made-is : choiceIn (sizeOf r .count) map ≡ made
+  unfolding chosenFrom
+  made-is = m
+
+  found-is : found ≡ ruleWorth r cols made
+  found-is = choice-worth r cols map made-is f
+
+  pub better-none : found ≤ worth → BetterKept r cols (chosenFrom r cols list) (choiceIn (sizeOf r .count) best) worth (choiceIn (sizeOf r .count) best) worth
+  better-none h = let n : ltb worth (ruleWorth r cols made) ≡ false = le-ltb worth (ruleWorth r cols made) (omega (arith, found-is)) in record { choice-is = rw n; worth-is = rw n }
 
   pub better-put : {best′ : List ℕ} → Clean (sizeOf r .count) best → Clean (sizeOf r .count) map → best′ ≡ puts best 0 map → worth < found
-      → BetterKept r cols relaxed (choiceIn (sizeOf r .count) best) worth (choiceIn (sizeOf r .count) best′) found
+      → BetterKept r cols (chosenFrom r cols list) (choiceIn (sizeOf r .count) best) worth (choiceIn (sizeOf r .count) best′) found
   better-put c d e h =
-      let n : ltb worth (ruleWorth r cols (choiceOf r cols relaxed)) ≡ true = lt-ltb worth (ruleWorth r cols (choiceOf r cols relaxed)) (omega (arith, f)) in
-      record { choice-is = rw n (ap (choiceIn (sizeOf r .count)) (all-copied best map (d .size ∙ sym (c .size)) e) ∙ m); worth-is = rw n f }
+      let n : ltb worth (ruleWorth r cols made) ≡ true = lt-ltb worth (ruleWorth r cols made) (omega (arith, found-is)) in
+      record { choice-is = rw n (ap (choiceIn (sizeOf r .count)) (all-copied best map (d .size ∙ sym (c .size)) e) ∙ made-is); worth-is = rw n found-is }
 
 pub better-clean : {n : ℕ} {best map best′ : List ℕ} → Clean n best → Clean n map → best′ ≡ puts best 0 map → Clean n best′
 better-clean {n} {best} {map} c d e = rw (all-copied best map (d .size ∙ sym (c .size)) e) d
@@ -77,11 +91,11 @@ prices-most (Shift e) cols w = omega (arith, w .few-slopes, w .held .few)
 prices-most (Hall h) cols w = omega arith
 
 module _ (r : RuleFor) (cols list : List ℕ) (w : RulePosed r cols) (l : length list ≡ pricesOf r) where
-  list-fits : length list ≤ mostPrices
-  list-fits = omega (arith, prices-most r cols w)
+  prices-fit : length list ≤ mostPrices
+  prices-fit = omega (arith, prices-most r cols w)
 
   zeros : take (length list) (replicate {A = ℕ} mostPrices 0) ≡ replicate {A = ℕ} (pricesOf r) 0
-  zeros = take-zeros (length list) mostPrices list-fits ∙ ap (λ (n : ℕ). replicate n 0) l
+  zeros = take-zeros (length list) mostPrices prices-fit ∙ ap (λ (n : ℕ). replicate n 0) l
 
   zeros-size : length (take (length list) (replicate {A = ℕ} mostPrices 0)) ≡ pricesOf r
   zeros-size = rw zeros (length-replicate {A = ℕ} (pricesOf r) 0)
@@ -94,7 +108,7 @@ module _ (t : Task) (cols list map room : List ℕ) (h : RoundsStart t cols list
   start-few e = start-held e .few
 
   pub start-fits : length list ≤ mostPrices
-  start-fits = list-fits (t .rule) cols list (h .posed) (h .prices)
+  start-fits = prices-fit (t .rule) cols list (h .posed) (h .prices)
 
   pub start-size : length list ≡ length (take (length list) (replicate {A = ℕ} mostPrices 0))
   start-size = h .prices ∙ sym (zeros-size (t .rule) cols list (h .posed) (h .prices))
@@ -120,6 +134,16 @@ start-ranks r cols e q = rw e at q
 
 pub ruleset start-cases = (start-held, start-few, start-fits, start-size, start-under, start-ranks, keys-room, keys-given)
 
+-- ---- the list that a choice is made from
+
+module _ (r : RuleFor) (cols ranks relaxed : List ℕ) (e : ranks ≡ byWorth (turnsBy (sizeOf r) cols)) {list : List ℕ} (q : list ≡ withChosen (choiceIn (length ranks) relaxed) ranks) where
+  pub listed-numbers : NumbersOf (sizeOf r .count) list
+  listed-numbers = list-numbers (sizeOf r) cols ranks e relaxed list q
+
+  pub better-made : {S S′ : List Bool} {worth worth′ : ℕ} → BetterKept r cols (chosenFrom r cols list) S worth S′ worth′ → BetterKept r cols (choiceOf r cols (choiceIn (sizeOf r .count) relaxed)) S worth S′ worth′
+  unfolding chosenFrom
+  better-made b = let c : chooseEach (fitsOf r cols) list (replicate (sizeOf r .count) false) ≡ choiceOf r cols (choiceIn (sizeOf r .count) relaxed) = choice-made r cols ranks relaxed list e q refl in rw c at b
+
 -- ---- a look, and what comes after it
 
 moved-size : (r : RuleFor) (cols : List ℕ) (relaxed : List Bool) (change : ℕ) (prices : List ℕ) → length (movedOf r cols relaxed change prices) ≡ pricesOf r
@@ -130,7 +154,7 @@ moved-size (Hall h) cols relaxed change prices = tab-length shiftMinutes _
 module _ (r : RuleFor) (cols first : List ℕ) (rounds : ℕ) (prices : List ℕ) (change made limit : ℕ) (list best : List ℕ) (worth : ℕ) (u : BetweenLooks r cols first rounds prices change made limit list best worth)
     (relaxed best′ : List ℕ) {seen limit′ worth′ : ℕ} {list′ : List ℕ} (s : seen ≡ ruleLimit r cols prices) (q : choiceIn (sizeOf r .count) relaxed ≡ relaxedOf r cols prices)
     (l : limit′ ≡ cond (ltb seen limit) seen limit) (k : list′ ≡ cond (ltb seen limit) prices list)
-    (b : BetterKept r cols (choiceIn (sizeOf r .count) relaxed) (choiceIn (sizeOf r .count) best) worth (choiceIn (sizeOf r .count) best′) worth′) where
+    (b : BetterKept r cols (choiceOf r cols (choiceIn (sizeOf r .count) relaxed)) (choiceIn (sizeOf r .count) best) worth (choiceIn (sizeOf r .count) best′) worth′) where
   abbrev R : RoundRule
   R = roundRule r cols
 

@@ -1,11 +1,12 @@
 -- How the functions hold a stage of the rounds; for inner functions only (requests P-2 and P-3). Assumes nothing.
 use mathlib.Core.Path.{_≡_}
-use mathlib.Core.Bool.{Bool, cond}
+use mathlib.Core.Bool.{Bool, false, cond}
 use mathlib.Core.List.{List}
 use Prim.Native.Nat.{ℕ, _-_, _≤_}
 use lib.Dec.{ltb}
 use lib.ListN.{length, replicate}
 use Rattle.turn.specs.Turn.{mostWorth}
+use Rattle.model.specs.Choice.{chooseEach}
 use Rattle.choice_map.specs.Choice.{choiceIn, Clean}
 use Rattle.instance.specs.Columns.{columnPlaces, turnsBy}
 use Rattle.refine_spec.specs.Rounds.{Stage, startFrom, refined}
@@ -14,7 +15,7 @@ use Rattle.shift_look.specs.declared.Extent.{Extent}
 use Rattle.hall_look.specs.declared.HallSize.{HallSize}
 use Rattle.price_rule.specs.declared.RuleFor.{RuleFor}
 use Rattle.price_rule.specs.declared.RuleFor.the-variants.{Shift, Hall}
-use Rattle.price_rule.specs.Rules.{sizeOf, pricesOf, changeOf, choiceOf, ruleWorth, roundRule, RulePosed, OrderedFor, RunsFor}
+use Rattle.price_rule.specs.Rules.{sizeOf, pricesOf, changeOf, fitsOf, ruleWorth, roundRule, RulePosed, OrderedFor, RunsFor}
 use Rattle.price_rounds.specs.declared.Start.{Start}
 use Rattle.price_rounds.specs.declared.Task.{Task}
 use Rattle.price_rounds.specs.declared.Reached.{Reached}
@@ -30,6 +31,10 @@ hallTask h s = record { rule = Hall h; rounds = s .rounds; worth = s .worth }
 unfoldable pub roundsFrom : RuleFor → List ℕ → ℕ → List Bool → Stage
 roundsFrom r cols rounds S = refined (roundRule r cols) rounds (startFrom (roundRule r cols) (changeOf r cols) (replicate (pricesOf r) 0) S)
 
+-- the choice made from a list
+unfoldable pub chosenFrom : RuleFor → List ℕ → List ℕ → List Bool
+chosenFrom r cols list = chooseEach (fitsOf r cols) list (replicate (sizeOf r .count) false)
+
 -- a stage of which the choice stands in a map of n turns
 abbrev pub stageOf : ℕ → List ℕ → ℕ → ℕ → ℕ → List ℕ → List ℕ → ℕ → Stage
 stageOf n prices change made limit list map worth =
@@ -37,10 +42,10 @@ stageOf n prices change made limit list map worth =
 
 -- ---- as statements
 
--- the choice made from a relaxed set stands in the place of another just if it is worth more, and the worth is that of the one that stands
-pub record BetterKept (r : RuleFor) (cols : List ℕ) (relaxed S : List Bool) (worth : ℕ) (S′ : List Bool) (worth′ : ℕ) : Type 0 where
-  pub choice-is : S′ ≡ cond (ltb worth (ruleWorth r cols (choiceOf r cols relaxed))) (choiceOf r cols relaxed) S
-  pub worth-is : worth′ ≡ cond (ltb worth (ruleWorth r cols (choiceOf r cols relaxed))) (ruleWorth r cols (choiceOf r cols relaxed)) worth
+-- a choice stands in the place of another just if it is worth more, and the worth is that of the one that stands
+pub record BetterKept (r : RuleFor) (cols : List ℕ) (made S : List Bool) (worth : ℕ) (S′ : List Bool) (worth′ : ℕ) : Type 0 where
+  pub choice-is : S′ ≡ cond (ltb worth (ruleWorth r cols made)) made S
+  pub worth-is : worth′ ≡ cond (ltb worth (ruleWorth r cols made)) (ruleWorth r cols made) worth
 
 -- what the rounds came to: limit, worth and rounds as numbers, the price list, and the choice in a map of n turns
 pub record Reaches (n : ℕ) (x : Stage) (r : Reached) (list map : List ℕ) : Type 0 where

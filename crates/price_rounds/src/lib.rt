@@ -2,17 +2,16 @@
 // the best worth or no round is left.
 ghost use mathlib.Core.Path.{_≡_};
 ghost use Rattle.choice_map.specs.Choice.{choiceIn, Clean};
-ghost use Rattle.instance.specs.Columns.{turnsBy};
-ghost use Rattle.refine_spec.specs.Selection.{byWorth};
+ghost use Rattle.selection.specs.Asked.{NumbersOf};
 ghost use Rattle.price_rule.specs.Rules.{sizeOf, RulePosed, RunsFor};
-ghost use Rattle.price_rounds.specs.Rounds.{shiftTask, hallTask, BetterKept, RoundsStart, ReachedFrom};
+ghost use Rattle.price_rounds.specs.Rounds.{shiftTask, hallTask, chosenFrom, BetterKept, RoundsStart, ReachedFrom};
 use hall_look::HallSize;
 use hall_look::MINUTES;
 use instance::MAP_BYTES;
 use instance::MOST_TURNS;
 use instance::PLACES;
 use price_rule::RuleFor;
-use price_rule::choose_from;
+use price_rule::choose_listed;
 use price_rule::first_change;
 use price_rule::look_at;
 use price_rule::move_prices;
@@ -21,7 +20,9 @@ use price_rule::size_of;
 use round_parts::is_over;
 use round_parts::keep_lower;
 use round_parts::next_change;
+use round_parts::put_list;
 use round_parts::put_ranks;
+use selection::ASKED;
 use shift_look::Extent;
 use shift_look::ORDERS;
 
@@ -58,26 +59,25 @@ pub struct BestSoFar {
     pub worth: u32,
 }
 
-// The choice made from a relaxed set takes the place of the best so far only if it is worth more; returns the
-// worth of the one that stays.
+// The choice made from a list takes the place of the best so far only if it is worth more; returns the worth of
+// the one that stays.
 fn keep_better(
     b: BestSoFar,
     cols: &[u16; PLACES],
-    ranks: &[u16],
-    relaxed: &[u8],
+    list: &[u16],
     best: &mut [u8],
     room: &mut [u16; PLACES],
 ) -> u32
-    requires { ⌜ RulePosed (b .rule) (now cols) × (now ranks ≡ byWorth (turnsBy (sizeOf (b .rule)) (now cols))) × RunsFor (b .rule) (now cols) (now room) ⌝ }
-    requires { ⌜ Clean (sizeOf (b .rule) .count) (now relaxed) × Clean (sizeOf (b .rule) .count) (now best) ⌝ }
-    ensures { λ w. ⌜ BetterKept (b .rule) (now (cols .entry)) (choiceIn (sizeOf (b .rule) .count) (now (relaxed .entry)))
+    requires { ⌜ RulePosed (b .rule) (now cols) × NumbersOf (sizeOf (b .rule) .count) (now list) × RunsFor (b .rule) (now cols) (now room) ⌝ }
+    requires { ⌜ Clean (sizeOf (b .rule) .count) (now best) ⌝ }
+    ensures { λ w. ⌜ BetterKept (b .rule) (now (cols .entry)) (chosenFrom (b .rule) (now (cols .entry)) (now (list .entry)))
         (choiceIn (sizeOf (b .rule) .count) (now (best .entry))) (b .worth) (choiceIn (sizeOf (b .rule) .count) (now (best .exit))) w ⌝ }
     ensures { λ _. ⌜ Clean (sizeOf (b .rule) .count) (now (best .exit)) × RunsFor (b .rule) (now (cols .entry)) (now (room .exit)) ⌝ }
 {
     let rule = b.rule;
     let mut space = [0u8; MAP_BYTES];
     let map = &mut space[..best.len()];
-    let found = choose_from(rule, cols, &*room, ranks, relaxed, &mut *map);
+    let found = choose_listed(rule, cols, &*room, list, &mut *map);
     let worth = b.worth;
     if found <= worth {
         return worth;
@@ -126,15 +126,18 @@ fn make_rounds(
         let relaxed = &mut map[..best.len()];
         let seen = look_at(rule, cols, &orders, &*prices, &mut *relaxed);
         limit = keep_lower(seen, limit, &*prices, &mut *lowest);
+        let mut numbers = [0u16; ASKED];
+        let count = put_list(&*ranks, &*relaxed, &mut numbers);
+        let list = &numbers[..count];
         let rated = BestSoFar {
             rule: rule,
             worth: worth,
         };
-        worth = keep_better(rated, cols, &*ranks, &*relaxed, &mut *best, &mut *room);
+        worth = keep_better(rated, cols, list, &mut *best, &mut *room);
         if is_over(limit, worth, made, t.rounds) {
             return reached_with(limit, worth, made);
         }
-        move_prices(rule, cols, &orders, &*relaxed, change, &mut *prices);
+        move_prices(rule, cols, &orders, &*relaxed, list, change, &mut *prices);
         change = next_change(change);
         made += 1;
     }

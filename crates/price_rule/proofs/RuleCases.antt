@@ -1,12 +1,16 @@
 -- The rule by its cases, each premise in the form in which the code's match and calls leave it. Assumes nothing.
-use Prim.Native.Nat.{ℕ, _+_, _/_, _≤_}
+use Prim.Native.Nat.{ℕ, _+_, _-_, _*_, _/_, _≤_}
 use mathlib.Core.Path.{_≡_, sym, ap, _∙_}
 use mathlib.Core.Bool.{Bool, false}
-use mathlib.Core.List.{List}
+use mathlib.Core.List.{List, _++_}
 use native.Mathlib.Omega.{arith}
-use lib.ListN.{length, take, replicate}
+use mir.Syntax.{w64}
+use mir.Val.{Fits}
+use lib.ListN.{length, take, drop, replicate, length-append}
+use lib.Seq.{take-length, drop-at}
+use Rattle.best_spec.specs.Groomers.{keep}
 use Rattle.turn.specs.Turn.{shiftMinutes, mostWorth}
-use Rattle.model.specs.Choice.{chosen, fits, chooseEach}
+use Rattle.model.specs.Choice.{has, chosen, fits, chooseEach}
 use Rattle.choice_map.specs.Choice.{choiceIn, Clean}
 use Rattle.best_spec.specs.Table.{bestWorth, bestChoice}
 use Rattle.instance.specs.declared.columns.Size.{Size}
@@ -20,9 +24,12 @@ use Rattle.shift_look.specs.OrdersAndCounts.{countedTurns, turnsIn, orderPlaces
 use Rattle.selection_by_runs.specs.Runs.{RunsOf}
 use Rattle.refine_spec.specs.Rounds.{firstChange}
 use Rattle.refine_spec.specs.Selection.{byWorth}
-use Rattle.refine_spec.specs.Shift.{greatestWorth, movedPrices}
+use Rattle.refine_spec.specs.Shift.{greatestWorth}
+use Rattle.refine_spec.proofs.Selection.{worth-length}
+use Rattle.shift_moves.specs.Moves.{Taken, TurnsOf, MovedFor}
+use Rattle.shift_moves.proofs.TakenTurns.{worth-taken, worth-turns}
 use Rattle.round_parts.specs.Ranks.{withChosen}
-use Rattle.round_parts.proofs.RankCases.{ranks-numbers, ranks-bits, ranks-fit, list-fits, list-numbers, list-made, list-size}
+use Rattle.round_parts.proofs.RankCases.{ranks-length, list-made}
 use Rattle.hall_spec.specs.Hall.{staysAllowed}
 use Rattle.hall_by_prices_spec.specs.Prices.{hallLimit, hallRelaxed}
 use Rattle.hall_by_prices_spec.specs.Hall.{movedMinutes}
@@ -30,7 +37,7 @@ use Rattle.hall_look.specs.declared.HallSize.{HallSize}
 use Rattle.hall_look.specs.Look.{hallFor, HallPosed}
 use Rattle.price_rule.specs.declared.RuleFor.{RuleFor}
 use Rattle.price_rule.specs.declared.RuleFor.the-variants.{Shift, Hall}
-use Rattle.price_rule.specs.Rules.{sizeOf, pricesOf, changeOf, ruleLimit, relaxedOf, fitsOf, movedOf, choiceOf, ruleWorth, ShiftPosed, RulePosed, OrderedFor, RunsFor}
+use Rattle.price_rule.specs.Rules.{sizeOf, pricesOf, changeOf, ruleLimit, relaxedOf, fitsOf, movedOf, choiceOf, listOf, ruleWorth, ShiftPosed, RulePosed, OrderedFor, RunsFor}
 
 -- ---- for a shift
 
@@ -50,6 +57,9 @@ module _ (r : RuleFor) (e : Extent) (g : r ≡ Shift e) where
 
       pub shift-held : Held (e .size) cols
       shift-held = shift-posed .held
+
+      pub shift-scaled : Fits w64 (e .size .count * 2)
+      shift-scaled = omega (arith, shift-posed .held .few)
 
       pub shift-ranged : Ranged (e .size) cols
       shift-ranged = shift-posed .ranged
@@ -107,10 +117,41 @@ module _ (r : RuleFor) (e : Extent) (g : r ≡ Shift e) where
     unfolding fitsOf sizeOf
     shift-chosen list map q = rw g q
 
-    pub shift-moved : (prices map : List ℕ) (change : ℕ) {prices′ : List ℕ} → prices′ ≡ movedPrices (turnsIn e cols) (e .slopes) (choiceIn (e .size .count) map) change prices
-        → prices′ ≡ movedOf r cols (choiceIn (sizeOf r .count) map) change prices
-    unfolding movedOf sizeOf
-    shift-moved prices map change q = rw g q
+    module _ (map list : List ℕ) (q : list ≡ listOf r cols map) where
+      abbrev S : List Bool
+      S = choiceIn (e .size .count) map
+
+      list-is : list ≡ byWorth (turnsIn e cols) ++ keep (has S) (byWorth (turnsIn e cols))
+      unfolding listOf withChosen sizeOf
+      list-is = rw g at q
+
+      all-long : length (byWorth (turnsIn e cols)) ≡ e .size .count
+      all-long = worth-length (turnsIn e cols) ∙ count-is (e .size) cols
+
+      abbrev kept : List ℕ
+      kept = keep (has S) (byWorth (turnsIn e cols))
+
+      long : length list ≡ e .size .count + length kept
+      long = ap (λ (l : List ℕ). length l) list-is ∙ length-append (byWorth (turnsIn e cols)) kept ∙ ap (λ (k : ℕ). k + length kept) all-long
+
+      behind : take (length list - e .size .count) (drop (e .size .count) list) ≡ kept
+      behind =
+          let d : drop (e .size .count) list ≡ kept = rw list-is (drop-at (byWorth (turnsIn e cols)) kept (e .size .count) all-long) in
+          let k : length list - e .size .count ≡ length kept = omega (arith, long) in
+          rw (d, k) (take-length kept)
+
+      pub shift-behind : e .size .count ≤ length list
+      shift-behind = omega (arith, long)
+
+      pub shift-taken : Taken (e .size .count) (take (length list - e .size .count) (drop (e .size .count) list))
+      unfolding turnsBy
+      shift-taken = let t : Taken (e .size .count) kept = rw (count-is (e .size) cols) at (worth-taken (turnsIn e cols) S) in rw behind t
+
+      pub shift-moved : (prices : List ℕ) (change : ℕ) {prices′ : List ℕ} → MovedFor e cols (take (length list - e .size .count) (drop (e .size .count) list)) change prices prices′ → prices′ ≡ movedOf r cols (choiceIn (sizeOf r .count) map) change prices
+      unfolding movedOf sizeOf turnsBy
+      shift-moved prices change m =
+          let t : TurnsOf (e .size .count) S kept = rw (count-is (e .size) cols) at (worth-turns (turnsIn e cols) S) in
+          rw g (m .is S (rw behind t))
 
   pub shift-clean : (map : List ℕ) → Clean (sizeOf r .count) map → Clean (e .size .count) map
   shift-clean map c = rw shift-count at c
@@ -209,7 +250,7 @@ pub ruleset look-cases = (shift-priced, shift-ordered, shift-clean, shift-none, 
 
 pub ruleset chosen-cases = (shift-held, shift-by-runs, shift-numbers, shift-clean, shift-none, shift-clean-too, shift-chosen, shift-worth, hall-posed, hall-numbers, hall-clean, hall-none, hall-clean-too, hall-chosen, hall-worth)
 
-pub ruleset move-cases = (shift-priced, shift-ordered, shift-clean, shift-moved, hall-posed, hall-prices, hall-clean, hall-moved)
+pub ruleset move-cases = (shift-priced, shift-ordered, shift-scaled, shift-behind, shift-taken, shift-moved, hall-posed, hall-prices, hall-clean, hall-moved)
 
 -- ---- the choice made from a relaxed set, whatever the rule
 
@@ -223,14 +264,16 @@ module _ (r : RuleFor) (cols : List ℕ) where
       go (Shift e) w = w .held
       go (Hall h) w = w .held .held
 
-  module _ (ranks relaxed list : List ℕ) (count : ℕ) (e : ranks ≡ byWorth (turnsBy (sizeOf r) cols)) (q : take count list ≡ withChosen (choiceIn (length ranks) relaxed) ranks) where
-    pub choice-made : {S : List Bool} → S ≡ chooseEach (fitsOf r cols) (take count list) (replicate (sizeOf r .count) false) → S ≡ choiceOf r cols (choiceIn (sizeOf r .count) relaxed)
+  module _ (ranks relaxed list : List ℕ) (e : ranks ≡ byWorth (turnsBy (sizeOf r) cols)) (q : list ≡ withChosen (choiceIn (length ranks) relaxed) ranks) where
+    pub choice-made : {S : List Bool} → S ≡ chooseEach (fitsOf r cols) list (replicate (sizeOf r .count) false) → S ≡ choiceOf r cols (choiceIn (sizeOf r .count) relaxed)
     unfolding choiceOf
-    choice-made f = list-made (sizeOf r) cols ranks e relaxed list count q (fitsOf r cols) f
+    choice-made f = list-made (sizeOf r) cols ranks e relaxed list q (fitsOf r cols) f
 
-    pub choice-worth : (map : List ℕ) {x : ℕ} → choiceIn (sizeOf r .count) map ≡ chooseEach (fitsOf r cols) (take count list) (replicate (sizeOf r .count) false)
-        → x ≡ chosen (sizeOf r .count) (choiceIn (sizeOf r .count) map) (turnsBy (sizeOf r) cols .worth) → x ≡ ruleWorth r cols (choiceOf r cols (choiceIn (sizeOf r .count) relaxed))
-    unfolding chosen ruleWorth
-    choice-worth map f h = h ∙ rw (choice-made f, count-is (sizeOf r) cols)
+    pub list-made-of : list ≡ listOf r cols relaxed
+    unfolding listOf
+    list-made-of = let n : length ranks ≡ sizeOf r .count = ranks-length (sizeOf r) cols ranks e in q ∙ rw (n, e)
 
-pub ruleset from-cases = (rule-held, ranks-numbers, ranks-bits, ranks-fit, list-fits, list-numbers, list-size, choice-made, choice-worth)
+  -- what a choice in a map is worth
+  pub choice-worth : (map : List ℕ) {x : ℕ} {S : List Bool} → choiceIn (sizeOf r .count) map ≡ S → x ≡ chosen (sizeOf r .count) (choiceIn (sizeOf r .count) map) (turnsBy (sizeOf r) cols .worth) → x ≡ ruleWorth r cols S
+  unfolding chosen ruleWorth
+  choice-worth map f h = h ∙ rw (f, count-is (sizeOf r) cols)

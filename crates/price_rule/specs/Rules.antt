@@ -6,6 +6,7 @@ use Prim.Native.Nat.{ℕ, _+_, _≤_, _<_}
 use lib.ListN.{length}
 use Rattle.turn.specs.Turn.{shiftMinutes, mostDriver}
 use Rattle.model.specs.Choice.{chosen, fits}
+use Rattle.choice_map.specs.Choice.{choiceIn}
 use Rattle.sheet.specs.Kind.{mostSlopes}
 use Rattle.best_spec.specs.Table.{bestWorth, bestChoice}
 use Rattle.instance.specs.declared.columns.Size.{Size}
@@ -16,8 +17,9 @@ use Rattle.shift_look.specs.declared.Extent.{Extent}
 use Rattle.shift_look.specs.OrdersAndCounts.{countedTurns, turnsIn, orderPlaces, Ordered}
 use Rattle.selection_by_runs.specs.Runs.{RunsOf}
 use Rattle.refine_spec.specs.Rounds.{RoundRule, firstChange}
-use Rattle.refine_spec.specs.Selection.{choiceFrom}
+use Rattle.refine_spec.specs.Selection.{byWorth, choiceFrom}
 use Rattle.refine_spec.specs.Shift.{greatestWorth, movedPrices}
+use Rattle.round_parts.specs.Ranks.{withChosen}
 use Rattle.hall_spec.specs.Hall.{staysAllowed}
 use Rattle.hall_by_prices_spec.specs.Prices.{hallLimit, hallRelaxed}
 use Rattle.hall_by_prices_spec.specs.Hall.{movedMinutes}
@@ -63,6 +65,10 @@ movedOf (Hall h) cols relaxed change prices = movedMinutes (hallFor h cols) rela
 -- the choice made from a relaxed set
 unfoldable pub choiceOf : RuleFor → List ℕ → List Bool → List Bool
 choiceOf r cols relaxed = choiceFrom (fitsOf r cols) (turnsBy (sizeOf r) cols) relaxed
+
+-- the list that it is made from: all turns or windows by worth, and behind them those that a map has chosen
+unfoldable pub listOf : RuleFor → List ℕ → List ℕ → List ℕ
+listOf r cols map = withChosen (choiceIn (sizeOf r .count) map) (byWorth (turnsBy (sizeOf r) cols))
 
 -- what a choice is worth
 unfoldable pub ruleWorth : RuleFor → List ℕ → List Bool → ℕ

@@ -12,14 +12,12 @@ ghost use Rattle.selection.specs.Asked.{NumbersOf};
 ghost use Rattle.hall_spec.specs.Hall.{staysAllowed};
 ghost use Rattle.hall_look.specs.Look.{hallFor, HallPosed};
 ghost use Rattle.shift_look.specs.OrdersAndCounts.{orderPlaces};
-ghost use Rattle.refine_spec.specs.Selection.{byWorth};
-ghost use Rattle.price_rule.specs.Rules.{sizeOf, pricesOf, changeOf, ruleLimit, relaxedOf, fitsOf, choiceOf, ruleWorth, movedOf, RulePosed, OrderedFor, RunsFor};
+ghost use Rattle.price_rule.specs.Rules.{sizeOf, pricesOf, changeOf, ruleLimit, relaxedOf, fitsOf, listOf, movedOf, RulePosed, OrderedFor, RunsFor};
 use hall_look::HallSize;
 use hall_steps::OneKind;
 use instance::PLACES;
 use instance::Size;
 use round_parts::greatest_worth;
-use selection::ASKED;
 use shift_look::Extent;
 use shift_look::ORDERS;
 
@@ -108,8 +106,8 @@ fn choose_in_hall(h: HallSize, cols: &[u16; PLACES], list: &[u16], map: &mut [u8
 }
 
 // Goes through a list from its last number to its first and chooses each turn or window that fits; a shift's
-// turns are tested by the runs of its orders.
-fn choose_listed(
+// turns are tested by the runs of its orders. Returns what the choice is worth.
+pub fn choose_listed(
     r: RuleFor,
     cols: &[u16; PLACES],
     runs: &[u16; PLACES],
@@ -129,44 +127,26 @@ fn choose_listed(
     }
 }
 
-// The choice made from a relaxed set, into a map that has none chosen; returns what it is worth.
-pub fn choose_from(
-    r: RuleFor,
-    cols: &[u16; PLACES],
-    runs: &[u16; PLACES],
-    ranks: &[u16],
-    relaxed: &[u8],
-    map: &mut [u8],
-) -> u32
-    requires { ⌜ RulePosed r (now cols) × (now ranks ≡ byWorth (turnsBy (sizeOf r) (now cols))) × Clean (sizeOf r .count) (now relaxed) ⌝ }
-    requires { ⌜ Clean (sizeOf r .count) (now map) × (choiceIn (sizeOf r .count) (now map) ≡ replicate (sizeOf r .count) false) ⌝ }
-    requires { ⌜ RunsFor r (now cols) (now runs) ⌝ }
-    ensures { λ x. ⌜ x ≡ ruleWorth r (now (cols .entry)) (choiceOf r (now (cols .entry)) (choiceIn (sizeOf r .count) (now (relaxed .entry)))) ⌝ }
-    ensures { λ _. ⌜ choiceIn (sizeOf r .count) (now (map .exit)) ≡ choiceOf r (now (cols .entry)) (choiceIn (sizeOf r .count) (now (relaxed .entry))) ⌝ }
-    ensures { λ _. ⌜ Clean (sizeOf r .count) (now (map .exit)) ⌝ }
-{
-    let mut numbers = [0u16; ASKED];
-    let count = round_parts::put_list(ranks, relaxed, &mut numbers);
-    choose_listed(r, cols, runs, &numbers[..count], &mut *map)
-}
-
-// Moves the prices by a relaxed set.
+// Moves the prices by a relaxed set, which is there as a map and, by worth, at the end of a list.
 pub fn move_prices(
     r: RuleFor,
     cols: &[u16; PLACES],
     orders: &[u16; ORDERS],
     relaxed: &[u8],
+    list: &[u16],
     change: u32,
     prices: &mut [u16],
 )
     requires { ⌜ RulePosed r (now cols) × OrderedFor r (now cols) (now orders) × (length (now prices) ≡ pricesOf r) ⌝ }
-    requires { ⌜ Clean (sizeOf r .count) (now relaxed) × (change ≤ mostWorth) ⌝ }
+    requires { ⌜ Clean (sizeOf r .count) (now relaxed) × (now list ≡ listOf r (now cols) (now relaxed)) × (change ≤ mostWorth) ⌝ }
     ensures { λ _. ⌜ now (prices .exit)
         ≡ movedOf r (now (cols .entry)) (choiceIn (sizeOf r .count) (now (relaxed .entry))) change (now (prices .entry)) ⌝ }
 {
     match r {
         RuleFor::Shift(e) => {
-            shift_moves::move_prices(e, cols, orders, relaxed, change, &mut *prices);
+            let n = e.size.count;
+            let taken = &list[n..];
+            shift_moves::move_prices(e, cols, orders, taken, change, &mut *prices);
         }
         RuleFor::Hall(h) => hall_moves::move_minutes(h, cols, relaxed, change, &mut *prices),
     }

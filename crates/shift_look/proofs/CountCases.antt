@@ -24,7 +24,7 @@ use Rattle.instance.proofs.Rows.{count-is, slope-at, worth-at}
 use Rattle.best_spec.specs.Table.{turnOrder}
 use Rattle.limit_spec.specs.Prices.{slopePrice, turnPrice, paysTurn, paidBy, countsFor}
 use Rattle.shift_look.specs.declared.Extent.{Extent}
-use Rattle.shift_look.specs.OrdersAndCounts.{byDrivers, turnsIn, placePrice, placesSum, paidFrom, paidTo, mostPrice, leftAfter, SumsTo, NumbersTo, PaymentsTo, CountsTo, PaidRun, Ordered, Priced}
+use Rattle.shift_look.specs.OrdersAndCounts.{byDrivers, turnsIn, placeDriver, placePrice, placesSum, paidFrom, paidTo, mostPrice, leftAfter, SumsTo, NumbersTo, PaymentsTo, CountsTo, PaidRun, Ordered, Priced}
 use Rattle.shift_look.proofs.SumCases.{drivers-sum}
 
 -- ---- a run's sum
@@ -60,7 +60,7 @@ module _ (T : Turns) (slopes : ℕ) (prices : List ℕ) (t from to : ℕ) (r : P
   paid-named u e = let d = Conflicts.driver-is T u t (and-1 (byDriver T u t) (leb (T .end u) (T .end t)) e) .0 in lt-ltb 0 (T .driver u) (omega (arith, d .named))
 
   paid-in : (j : ℕ) → from ≤ j → j < to → paidAt j ≡ placePrice T slopes prices j
-  unfolding placePrice
+  unfolding placePrice placeDriver
   paid-in j a b = let e = r .pays j (omega (arith, r .within)) .1 (a, b) in rw (e, paid-named (getD (turnOrder (byDrivers T)) j 0) e)
 
   paid-out : (j : ℕ) → j < T .count → ((from ≤ j) × (j < to) → ⊥) → paidAt j ≡ 0

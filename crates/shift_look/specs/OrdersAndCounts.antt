@@ -59,9 +59,13 @@ paidFrom orders t = getD orders (3 * mostTurns + t) 0
 abbrev pub paidTo : List ℕ → ℕ → ℕ
 paidTo orders t = getD orders (4 * mostTurns + t) 0
 
+-- the driver of the turn at place j of the drivers' order
+unfoldable pub placeDriver : Turns → ℕ → ℕ
+placeDriver T j = T .driver (getD (turnOrder (byDrivers T)) j 0)
+
 -- what is paid at place j of the drivers' order: the price of the turn there, if it names a driver
 unfoldable pub placePrice : Turns → ℕ → List ℕ → ℕ → ℕ
-placePrice T slopes prices j = cond (ltb 0 (T .driver (getD (turnOrder (byDrivers T)) j 0))) (turnPrice slopes prices (getD (turnOrder (byDrivers T)) j 0)) 0
+placePrice T slopes prices j = cond (ltb 0 (placeDriver T j)) (turnPrice slopes prices (getD (turnOrder (byDrivers T)) j 0)) 0
 
 -- what is paid at the first n places
 unfoldable pub placesSum : Turns → ℕ → List ℕ → ℕ → ℕ
@@ -137,6 +141,12 @@ pub record SumsTo (T : Turns) (slopes : ℕ) (prices sums : List ℕ) (i : ℕ) 
   pub places : length sums ≡ entryPlaces
   pub values : (k : ℕ) → k ≤ i → getD sums k 0 ≡ placesSum T slopes prices k
   pub most : (k : ℕ) → k ≤ i → getD sums k 0 ≤ k * mostPrice
+
+-- of n places of the drivers' order those before place r have turns that name no driver, the others do
+pub record NamedFrom (T : Turns) (n r : ℕ) : Type 0 where
+  pub within : r ≤ n
+  pub none : (j : ℕ) → j < r → placeDriver T j ≡ 0
+  pub named : (j : ℕ) → r ≤ j → j < n → 0 < placeDriver T j
 
 -- the first k of n prices are summed up
 pub record SummedTo (want : ℕ → ℕ) (n k sum : ℕ) : Type 0 where

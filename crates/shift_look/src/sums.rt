@@ -1,11 +1,10 @@
 // Sums of prices: of all slopes, and from the front of the drivers' order.
 ghost use mathlib.Core.Path.{_≡_};
-ghost use mathlib.Core.Bool.{cond};
 ghost use Prim.Native.Nat.{_*_, _≤_, _<_};
-ghost use lib.ListN.{length, getD};
-ghost use Rattle.sheet.specs.Kind.{mostSlopes};
+ghost use lib.ListN.{length, getD, replicate};
+ghost use Rattle.sheet.specs.Kind.{mostTurns, mostSlopes};
 ghost use Rattle.best_table.specs.OrderAndTable.{entryPlaces};
-ghost use Rattle.shift_look.specs.OrdersAndCounts.{turnsIn, placePrice, slopesSum, mostPrice, Priced, Ordered, SumsTo};
+ghost use Rattle.shift_look.specs.OrdersAndCounts.{turnsIn, placeDriver, slopesSum, mostPrice, Priced, Ordered, NamedFrom, SumsTo};
 use super::Extent;
 use super::ORDERS;
 use super::runs::DRIVERS;
@@ -22,13 +21,6 @@ pub fn price_at(prices: &[u16], i: usize) -> u32
     as_u32(prices[i])
 }
 
-// A price where it is due, else nothing.
-fn price_if(due: bool, price: u32) -> u32
-    ensures { λ r. ⌜ (r ≡ cond due price 0) × (r ≤ price) ⌝ }
-{
-    if due { price } else { 0 }
-}
-
 // The prices of all slopes, which come first.
 pub fn slope_prices(prices: &[u16], slopes: usize) -> u32
     requires { ⌜ (slopes ≤ mostSlopes) × (slopes ≤ length (now prices)) ⌝ }
@@ -43,23 +35,35 @@ pub fn slope_prices(prices: &[u16], slopes: usize) -> u32
     sum
 }
 
-// What is paid at place j of the drivers' order: the price of the turn there, if it names a driver.
-fn place_price(
-    e: Extent,
-    cols: &[u16; PLACES],
-    orders: &[u16; ORDERS],
-    prices: &[u16],
-    j: usize,
-) -> u32
-    requires { ⌜ (j < e .size .count) × Priced e (now cols) (now prices) × Ordered (turnsIn e (now cols)) (now orders) ⌝ }
-    ensures { λ r. ⌜ (r ≡ placePrice (turnsIn e (now (cols .entry))) (e .slopes) (now (prices .entry)) j) × (r ≤ mostPrice) ⌝ }
+// The driver of the turn at place j of the drivers' order.
+fn driver_at(e: Extent, cols: &[u16; PLACES], orders: &[u16; ORDERS], j: usize) -> u16
+    requires { ⌜ (j < e .size .count) × (e .size .count ≤ mostTurns) × Ordered (turnsIn e (now cols)) (now orders) ⌝ }
+    ensures { λ r. ⌜ r ≡ placeDriver (turnsIn e (now (cols .entry))) j ⌝ }
 {
     let u = orders[DRIVERS + j] as usize;
     let row = row_at(cols, u);
-    price_if(0 < row.driver, price_at(prices, e.slopes + u))
+    row.driver
 }
 
-// The sums of what is paid at the first places, from none of them to all.
+// The first place of the drivers' order whose turn names a driver, behind all others; as many places as there are
+// turns if none does.
+fn first_named(e: Extent, cols: &[u16; PLACES], orders: &[u16; ORDERS]) -> usize
+    requires { ⌜ (e .size .count ≤ mostTurns) × Ordered (turnsIn e (now cols)) (now orders) ⌝ }
+    ensures { λ r. ⌜ NamedFrom (turnsIn e (now (cols .entry))) (e .size .count) r ⌝ }
+{
+    let n = e.size.count;
+    let mut j = 0;
+    while j < n {
+        if 0 < driver_at(e, cols, orders, j) {
+            return j;
+        }
+        j += 1;
+    }
+    j
+}
+
+// The sums of what is paid at the first places, from none of them to all: nothing for turns that name no driver,
+// which come first.
 pub fn put_sums(
     e: Extent,
     cols: &[u16; PLACES],
@@ -67,14 +71,14 @@ pub fn put_sums(
     prices: &[u16],
     sums: &mut [u32; ENTRIES],
 )
-    requires { ⌜ Priced e (now cols) (now prices) × Ordered (turnsIn e (now cols)) (now orders) × (length (now sums) ≡ entryPlaces) ⌝ }
+    requires { ⌜ Priced e (now cols) (now prices) × Ordered (turnsIn e (now cols)) (now orders) × (now sums ≡ replicate entryPlaces 0) ⌝ }
     ensures { λ _. ⌜ SumsTo (turnsIn e (now (cols .entry))) (e .slopes) (now (prices .entry)) (now (sums .exit)) (e .size .count) ⌝ }
 {
     let n = e.size.count;
-    sums[0] = 0;
-    let mut j = 0;
+    let mut j = first_named(e, cols, orders);
     while j < n {
-        sums[j + 1] = sums[j] + place_price(e, cols, orders, prices, j);
+        let u = orders[DRIVERS + j] as usize;
+        sums[j + 1] = sums[j] + price_at(prices, e.slopes + u);
         j += 1;
     }
 }

@@ -23,8 +23,7 @@ use Rattle.limit_spec.specs.Prices.{paysTurn}
 use Rattle.shift_look.specs.declared.Extent.{Extent}
 use Rattle.shift_look.specs.OrdersAndCounts.{byDrivers, turnsIn, driversTurn, paidFrom, paidTo, Ordered, Priced}
 use Rattle.refine_spec.specs.Shift.{turnPayers}
-use Rattle.shift_moves.specs.Moves.{payersBefore, PaidRuns, EachOnce}
-use Rattle.shift_moves.proofs.PayerCases.{no-zero}
+use Rattle.shift_moves.specs.Moves.{payersBefore, TurnsOf, PaidRuns, EachOnce}
 
 -- ---- an order of all turns
 
@@ -93,12 +92,17 @@ module _ (T : Turns) (orders : List ℕ) (o : Ordered T orders) where
         omega (arith, leb-true (j + 1) (paidTo orders t) (and-2 (ltb (paidFrom orders t) (j + 1)) (leb (j + 1) (paidTo orders t)) q)),
       )) e)
 
-  pub payers-are : (S : List Bool) (j : ℕ) → j < T .count → payersBefore (T .count) S orders (j + 1) ≡ turnPayers T S (driversTurn orders j)
-  unfolding payersBefore turnPayers chosen
-  payers-are S j h = sum-same (λ t. cond (has S t) (cond (ltb (paidFrom orders t) (j + 1) && leb (j + 1) (paidTo orders t)) 1 0) 0) (λ t. cond (has S t) (cond (paysTurn T (driversTurn orders j) t) 1 0) 0) (T .count)
+  pub payers-are : (S : List Bool) (taken : List ℕ) → TurnsOf (T .count) S taken → (j : ℕ) → j < T .count → payersBefore taken orders (j + 1) ≡ turnPayers T S (driversTurn orders j)
+  unfolding payersBefore turnPayers chosen TurnsOf
+  payers-are S taken w j h = w (λ t. cond (ltb (paidFrom orders t) (j + 1) && leb (j + 1) (paidTo orders t)) 1 0)
+      ∙ sum-same (λ t. cond (has S t) (cond (ltb (paidFrom orders t) (j + 1) && leb (j + 1) (paidTo orders t)) 1 0) 0) (λ t. cond (has S t) (cond (paysTurn T (driversTurn orders j) t) 1 0) 0) (T .count)
       (λ t l. ap (λ (b : Bool). cond (has S t) (cond b 1 0) 0) (in-run j t h l))
 
 -- ---- without drivers
+
+no-zero : (s : Bool) → _≡_ {A = ℕ} (cond s 0 0) 0
+no-zero true = refl
+no-zero false = refl
 
 -- no turn pays the price of one that names no driver
 pub no-payers : (T : Turns) (S : List Bool) (u : ℕ) → T .driver u ≡ 0 → turnPayers T S u ≡ 0

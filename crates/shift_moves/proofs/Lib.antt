@@ -1,3 +1,4 @@
 pub mod PayerCases
 pub mod DriversOrder
 pub mod MoveCases
+pub mod TakenTurns

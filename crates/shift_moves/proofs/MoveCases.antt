@@ -14,12 +14,10 @@ use lib.ListN.{length, getD, set, length-set, length-append, List·getD-append}
 use lib.Seq.{getD-set-same, getD-set-other, getD-append-add, ext-getD}
 use borrow.Author.Tests.{lt-ltb, le-ltb, eq-eqb, ne-eqb}
 use Rattle.lists.specs.Lists.{tab}
-use Rattle.lists.proofs.Sums.{sum-same, tab-length, tab-at}
+use Rattle.lists.proofs.Sums.{all-map, all-at, tab-length, tab-at}
 use Rattle.turn.specs.Turn.{mostWorth}
 use Rattle.sheet.specs.Kind.{mostTurns, mostSlopes}
 use Rattle.model.specs.Turns.{Turns, NoDrivers}
-use Rattle.model.specs.Choice.{has, chosen}
-use Rattle.choice_map.specs.Choice.{choiceIn}
 use Rattle.instance.specs.Columns.{rowIn, turnsBy}
 use Rattle.instance.proofs.Rows.{slope-at}
 use Rattle.limit_spec.specs.Prices.{slopePrice, turnPrice}
@@ -27,9 +25,9 @@ use Rattle.shift_look.specs.declared.Extent.{Extent}
 use Rattle.shift_look.specs.OrdersAndCounts.{mostPrice, turnsIn, driversTurn, DriversUpTo, Ordered, Priced}
 use Rattle.shift_look.proofs.DriverlessCases.{none-named}
 use Rattle.refine_spec.specs.Shift.{highestPrice, slopePayers, turnPayers, movedPrice, turnChange, movedPrices}
-use Rattle.shift_moves.specs.Moves.{payerPlaces, numberBehind, timesChosen, payersBefore, nobody, payersAt, payersAfter, slopePayersIn, turnPayersIn, ownPlace, placeBehind, turnPricePlace, SmallNumbers, Times, PaidRuns, Payers, FewPayers, EachOnce, MovedBy}
+use Rattle.shift_moves.specs.Moves.{payerPlaces, numberBehind, timesTaken, payersBefore, nobody, payersAt, payersAfter, slopePayersIn, turnPayersIn, ownPlace, placeBehind, turnPricePlace, Taken, TurnsOf, SmallNumbers, Times, PaidRuns, Payers, FewPayers, EachOnce, MovedBy, MovedFor}
 use Rattle.shift_moves.proofs.DriversOrder.{turn-place, payers-are, no-payers}
-use Rattle.shift_moves.proofs.PayerCases.{times-most, payers-most}
+use Rattle.shift_moves.proofs.PayerCases.{sum-equal, times-most, payers-most}
 
 -- ---- the change
 
@@ -157,28 +155,35 @@ module _ (change slopes : ℕ) (payers old : List ℕ) where
 
 pub ruleset slopes-moved-cases = (slopes-start, slopes-long, slopes-inside, slopes-place, slopes-few, slopes-more, slopes-done)
 
-module _ (e : Extent) (cols relaxed prices : List ℕ) (w : Priced e cols prices) where
+module _ (e : Extent) (cols taken prices : List ℕ) (w : Priced e cols prices) where
   slope-number : (t : ℕ) → t < e .size .count → numberBehind cols 0 t ≡ turnsIn e cols .slope t
   unfolding rowIn
   slope-number t h = let z : 0 + t ≡ t = omega arith in rw z (slope-at (e .size) cols t h refl)
 
-  pub slope-numbers : SmallNumbers (e .size .count) cols 0
-  slope-numbers = record { few = w .few; within = omega (arith, w .places, w .few); small = λ t h. omega (arith, slope-number t h, w .numbers t h, w .few-slopes) }
+  module _ (l : Taken (e .size .count) taken) where
+    pub slope-numbers : SmallNumbers taken cols 0
+    slope-numbers =
+        record {
+          few = omega (arith, l .few, w .few);
+          early = omega arith;
+          turns = λ i h. omega (arith, all-at (l .inside) i h, w .few);
+          within = λ i h. omega (arith, all-at (l .inside) i h, w .places, w .few);
+          small = λ i h. let m : getD taken i 0 < e .size .count = all-at (l .inside) i h in omega (arith, slope-number (getD taken i 0) m, w .numbers (getD taken i 0) m, w .few-slopes);
+        }
 
-  module _ (times : List ℕ) (ts : Times (e .size .count) (choiceIn (e .size .count) relaxed) (numberBehind cols 0) times) where
-    slope-payers : (k : ℕ) → k < e .slopes → payersAfter times k ≡ slopePayersIn e cols relaxed k
-    unfolding slopePayers timesChosen chosen turnsBy
-    slope-payers k h =
-        ts .values (k + 1) (omega (arith, w .few-slopes))
-        ∙ sum-same (λ t. cond (has (choiceIn (e .size .count) relaxed) t) (cond (eqb (numberBehind cols 0 t) (k + 1)) 1 0) 0) (λ t. cond (has (choiceIn (e .size .count) relaxed) t) (cond (eqb (turnsIn e cols .slope t) (k + 1)) 1 0) 0) (e .size .count)
-        (λ t l. ap (λ (x : ℕ). cond (has (choiceIn (e .size .count) relaxed) t) (cond (eqb x (k + 1)) 1 0) 0) (slope-number t l))
+    module _ (times : List ℕ) (ts : Times taken (numberBehind cols 0) times) where
+      slope-payers : (k : ℕ) → k < e .slopes → payersAfter times k ≡ slopePayersIn e cols taken k
+      unfolding timesTaken
+      slope-payers k h =
+          ts .values (k + 1) (omega (arith, w .few-slopes))
+          ∙ sum-equal (λ t. cond (eqb (numberBehind cols 0 t) (k + 1)) 1 0) (λ t. cond (eqb (turnsIn e cols .slope t) (k + 1)) 1 0) (all-map (λ t m. ap (λ (x : ℕ). cond (eqb x (k + 1)) 1 0) (slope-number t m)) (l .inside))
 
-    pub slope-few : FewPayers (e .slopes + 1) times
-    unfolding FewPayers
-    slope-few k h = omega (arith, ts .values k (omega (arith, w .few-slopes)), times-most (e .size .count) (choiceIn (e .size .count) relaxed) (numberBehind cols 0) k, w .few)
+      pub slope-few : FewPayers (e .slopes + 1) times
+      unfolding FewPayers
+      slope-few k h = omega (arith, ts .values k (omega (arith, w .few-slopes)), times-most taken (numberBehind cols 0) k, l .few, w .few)
 
-    pub slope-moved : (change : ℕ) (new : List ℕ) → MovedBy change (payersAfter times) ownPlace (e .slopes) prices new → MovedBy change (slopePayersIn e cols relaxed) ownPlace (e .slopes) prices new
-    slope-moved change new s = moved-same change (payersAfter times) ownPlace prices (slopePayersIn e cols relaxed) (e .slopes) new slope-payers s
+      pub slope-moved : (change : ℕ) (new : List ℕ) → MovedBy change (payersAfter times) ownPlace (e .slopes) prices new → MovedBy change (slopePayersIn e cols taken) ownPlace (e .slopes) prices new
+      slope-moved change new s = moved-same change (payersAfter times) ownPlace prices (slopePayersIn e cols taken) (e .slopes) new slope-payers s
 
   pub slope-within : e .slopes ≤ length prices
   slope-within = omega (arith, w .list)
@@ -233,17 +238,17 @@ lowered-more change e old new s h l g = turns-more change e nobody old new s h l
 
 pub ruleset lowered-cases = (turns-start, turns-long, turns-done, turns-fits, turns-inside, lowered-more)
 
-module _ (e : Extent) (orders relaxed payers : List ℕ) (ps : Payers (e .size .count) (choiceIn (e .size .count) relaxed) orders payers) (o : EachOnce (e .size .count) orders) where
-  pub turn-few : PaidRuns (e .size .count) orders → FewPayers (e .size .count) payers
+module _ (e : Extent) (orders taken payers : List ℕ) (ps : Payers (e .size .count) taken orders payers) (o : EachOnce (e .size .count) orders) where
+  pub turn-few : PaidRuns (e .size .count) orders → Taken (e .size .count) taken → FewPayers (e .size .count) payers
   unfolding FewPayers
-  turn-few r u h =
+  turn-few r w u h =
       let (j, l, q) = o .all u h in
-      let p : getD payers u 0 ≡ payersBefore (e .size .count) (choiceIn (e .size .count) relaxed) orders (j + 1) = ap (λ (x : ℕ). getD payers x 0) (sym q) ∙ ps .values j l in
-      omega (arith, p, payers-most (e .size .count) (choiceIn (e .size .count) relaxed) orders (j + 1), r .few)
+      let p : getD payers u 0 ≡ payersBefore taken orders (j + 1) = ap (λ (x : ℕ). getD payers x 0) (sym q) ∙ ps .values j l in
+      omega (arith, p, payers-most taken orders (j + 1), w .few, r .few)
 
   -- turn by turn is place by place of the drivers' order
   pub turn-moved : (change : ℕ) (old new : List ℕ) {c : ℕ} → c ≡ turnChange change → MovedBy c (payersAt payers) (placeBehind (e .slopes)) (e .size .count) old new
-      → MovedBy (turnChange change) (turnPayersIn e orders relaxed) (turnPricePlace (e .slopes) orders) (e .size .count) old new
+      → MovedBy (turnChange change) (turnPayersIn orders taken) (turnPricePlace (e .slopes) orders) (e .size .count) old new
   turn-moved change old new q s =
       let m : MovedBy (turnChange change) (payersAt payers) (placeBehind (e .slopes)) (e .size .count) old new = rw q at s in
       record {
@@ -301,30 +306,36 @@ module _ (T : Turns) (slopes : ℕ) (S : List Bool) (change : ℕ) (prices : Lis
             ∙ sym (moved-turn u k)
             ∙ ap (λ (x : ℕ). getD (movedPrices T slopes S change prices) x 0) (sym q)
 
-    all-driven : (orders : List ℕ) → Ordered T orders → MovedBy (turnChange change) (λ j. payersBefore (T .count) S orders (j + 1)) (turnPricePlace slopes orders) (T .count) mid new → new ≡ movedPrices T slopes S change prices
-    all-driven orders o b =
-        all-moved (b .size) (λ k h. b .others k (λ j m e. omega arith)) (λ u h. let (j, m, q) = turn-place T orders o u h in rw (payers-are T orders o S j m, q) at (b .done j m))
+    all-driven : (orders taken : List ℕ) → Ordered T orders → TurnsOf (T .count) S taken → MovedBy (turnChange change) (turnPayersIn orders taken) (turnPricePlace slopes orders) (T .count) mid new
+        → new ≡ movedPrices T slopes S change prices
+    all-driven orders taken o w b =
+        all-moved (b .size) (λ k h. b .others k (λ j m e. omega arith)) (λ u h. let (j, m, q) = turn-place T orders o u h in rw (payers-are T orders o S taken w j m, q) at (b .done j m))
 
     all-lowered : NoDrivers T → MovedBy (turnChange change) nobody (placeBehind slopes) (T .count) mid new → new ≡ movedPrices T slopes S change prices
     all-lowered none b =
         all-moved (b .size) (λ k h. b .others k (λ j m e. omega arith))
         (λ u h. b .done u h ∙ ap (λ (k : ℕ). movedPrice (turnChange change) k (getD mid (slopes + u) 0)) (sym (no-payers T S u (none u h))))
 
-module _ (e : Extent) (cols orders relaxed : List ℕ) (change : ℕ) (prices : List ℕ) (w : Priced e cols prices) (mid : List ℕ) where
-  module _ (a : MovedBy change (slopePayersIn e cols relaxed) ownPlace (e .slopes) prices mid) where
+module _ (e : Extent) (cols orders taken : List ℕ) (change : ℕ) (prices : List ℕ) (w : Priced e cols prices) (mid : List ℕ) where
+  module _ (a : MovedBy change (slopePayersIn e cols taken) ownPlace (e .slopes) prices mid) where
     pub mid-list : length mid ≡ e .slopes + e .size .count
     mid-list = a .size ∙ w .list
 
-    pub prices-moved : (new : List ℕ) → Ordered (turnsIn e cols) orders → MovedBy (turnChange change) (turnPayersIn e orders relaxed) (turnPricePlace (e .slopes) orders) (e .size .count) mid new
-        → new ≡ movedPrices (turnsIn e cols) (e .slopes) (choiceIn (e .size .count) relaxed) change prices
+    -- by the payers of a set
+    of-set : (S : List Bool) → TurnsOf (e .size .count) S taken → MovedBy change (λ k. slopePayers (turnsIn e cols) S (k + 1)) ownPlace (e .slopes) prices mid
+    unfolding slopePayers timesTaken TurnsOf turnsBy
+    of-set S t = moved-same change (slopePayersIn e cols taken) ownPlace prices (λ k. slopePayers (turnsIn e cols) S (k + 1)) (e .slopes) mid (λ k h. t (λ u. cond (eqb (turnsIn e cols .slope u) (k + 1)) 1 0)) a
+
+    pub prices-moved : (new : List ℕ) → Ordered (turnsIn e cols) orders → MovedBy (turnChange change) (turnPayersIn orders taken) (turnPricePlace (e .slopes) orders) (e .size .count) mid new
+        → MovedFor e cols taken change prices new
     unfolding turnsBy
-    prices-moved new o b = all-driven (turnsBy (e .size) cols) (e .slopes) (choiceIn (e .size .count) relaxed) change prices mid new (w .list) a orders o b
+    prices-moved new o b = record { is = λ S t. all-driven (turnsBy (e .size) cols) (e .slopes) S change prices mid new (w .list) (of-set S t) orders taken o t b }
 
     pub prices-lowered : (new : List ℕ) {r c d : ℕ} → r ≤ 0 → DriversUpTo (turnsBy (e .size) cols) (e .size .count) r → c ≡ turnChange change → d ≡ c → MovedBy d nobody (placeBehind (e .slopes)) (e .size .count) mid new
-        → new ≡ movedPrices (turnsIn e cols) (e .slopes) (choiceIn (e .size .count) relaxed) change prices
+        → MovedFor e cols taken change prices new
     unfolding turnsBy
     prices-lowered new z u q p b =
-        all-lowered (turnsBy (e .size) cols) (e .slopes) (choiceIn (e .size .count) relaxed) change prices mid new (w .list) a (none-named e cols z u) (rw (p ∙ q) at b)
+        record { is = λ S t. all-lowered (turnsBy (e .size) cols) (e .slopes) S change prices mid new (w .list) (of-set S t) (none-named e cols z u) (rw (p ∙ q) at b) }
 
 pub few-slopes : (e : Extent) (cols prices : List ℕ) → Priced e cols prices → e .slopes ≤ mostSlopes
 few-slopes e cols prices w = w .few-slopes

@@ -1,144 +1,108 @@
 -- Who pays, counted and summed up, by cases in the form in which the code's loops leave them. Assumes nothing.
-use Prim.Native.Nat.{ℕ, zero, suc, _+_, _-_, _*_, _/_, _≤_, _<_}
+use Prim.Native.Nat.{ℕ, zero, suc, _+_, _-_, _*_, _≤_, _<_}
 use mathlib.Core.Path.{_≡_, refl, sym, ap, _∙_}
 use mathlib.Core.Bool.{Bool, true, false, cond, _&&_}
-use mathlib.Core.List.{List}
+use mathlib.Core.List.{List, [], _∷_}
 use native.Mathlib.Omega.{arith}
 use native.Mathlib.Numerals.{add-one}
 use native.Mathlib.Decide.{decLt, ℕ-discrete}
 use mir.Syntax.{w64}
 use mir.Val.{Fits}
 use lib.Dec.{ltb, leb, eqb}
-use lib.ListN.{length, getD, set, replicate, length-set, length-replicate, getD-replicate}
-use lib.Seq.{getD-set-same, getD-set-other}
+use lib.ListN.{length, getD, set, drop, replicate, length-set, length-replicate, getD-replicate}
+use lib.Seq.{drop-cons, drop-length, getD-set-same, getD-set-other}
 use borrow.Author.Tests.{lt-ltb, le-ltb, le-leb, lt-leb, eq-eqb, ne-eqb}
-use Rattle.lists.specs.Lists.{sum, below}
-use Rattle.lists.proofs.Sums.{sum-add, sum-mono, sum-zero, sum-same, sum-ones, all-of}
+use Rattle.lists.specs.Lists.{sum, All, none, more}
+use Rattle.lists.proofs.Sums.{sum-add, sum-zero, all-of, all-map, all-at}
 use Rattle.lists.specs.Counting.{sumBefore}
 use Rattle.sheet.specs.Kind.{mostTurns}
-use Rattle.model.specs.Choice.{has, chosen}
-use Rattle.choice_map.specs.Choice.{chosenIn, choiceIn, Clean}
-use Rattle.choice_map.proofs.Clean.{choice-has, clean-bits}
 use Rattle.shift_look.specs.OrdersAndCounts.{orderPlaces, driversTurn, paidFrom, paidTo}
-use Rattle.shift_moves.specs.Moves.{payerPlaces, numberBehind, timesChosen, timesBefore, payersBefore, payersPresent, SmallNumbers, TimesTo, Times, PaidRuns, Summable, Present, Payers, EachOnce}
+use Rattle.shift_moves.specs.Moves.{payerPlaces, numberBehind, timesTaken, payersBefore, payersPresent, Taken, SmallNumbers, Times, PaidRuns, Summable, Present, Payers, EachOnce}
 
 -- ---- a count is no more than what is counted
 
-one-most : (a b : Bool) → cond a (cond b 1 0) 0 ≤ 1
-one-most true true = omega arith
-one-most true false = omega arith
-one-most false b = omega arith
+one-most : (b : Bool) → cond b 1 0 ≤ 1
+one-most true = omega arith
+one-most false = omega arith
 
-sum-most : (p q : ℕ → Bool) (n : ℕ) → sum (λ t. cond (p t) (cond (q t) 1 0) 0) (below n) ≤ n
-sum-most p q n = omega (arith, sum-mono (λ t. cond (p t) (cond (q t) 1 0) 0) (λ t. 1) (all-of (λ t. one-most (p t) (q t)) (below n)), sum-ones n)
+sum-most : (q : ℕ → Bool) (ts : List ℕ) → sum (λ t. cond (q t) 1 0) ts ≤ length ts
+sum-most q [] = omega arith
+sum-most q (t ∷ ts) = omega (arith, one-most (q t), sum-most q ts)
 
-before-most : (map : List ℕ) (f : ℕ → ℕ) (m k : ℕ) → timesBefore map f m k ≤ m
-unfolding timesBefore
-before-most map f m k = sum-most (chosenIn map) (λ t. eqb (f t) k) m
+pub times-most : (taken : List ℕ) (f : ℕ → ℕ) (k : ℕ) → timesTaken taken f k ≤ length taken
+unfolding timesTaken
+times-most taken f k = sum-most (λ t. eqb (f t) k) taken
 
-pub times-most : (n : ℕ) (S : List Bool) (f : ℕ → ℕ) (k : ℕ) → timesChosen n S f k ≤ n
-unfolding timesChosen chosen
-times-most n S f k = sum-most (has S) (λ t. eqb (f t) k) n
+pub payers-most : (taken orders : List ℕ) (m : ℕ) → payersBefore taken orders m ≤ length taken
+unfolding payersBefore
+payers-most taken orders m = sum-most (λ t. ltb (paidFrom orders t) m && leb m (paidTo orders t)) taken
 
-pub payers-most : (n : ℕ) (S : List Bool) (orders : List ℕ) (m : ℕ) → payersBefore n S orders m ≤ n
-unfolding payersBefore chosen
-payers-most n S orders m = sum-most (has S) (λ t. ltb (paidFrom orders t) m && leb m (paidTo orders t)) n
+-- ---- counting the turns of a list by their numbers
 
--- ---- counting the turns of a map by their numbers
+-- how many of the turns from place i on have number k
+abbrev timesFrom : List ℕ → (ℕ → ℕ) → ℕ → ℕ → ℕ
+timesFrom taken f i k = timesTaken (drop i taken) f k
 
--- the turns of the map before t are counted, and these are no more than n
-pub record CountedTo (n : ℕ) (map numbers : List ℕ) (at : ℕ) (times : List ℕ) (t : ℕ) : Type 0 where
-  pub within : t ≤ n
-  pub counted : TimesTo map numbers at times t
+-- the turns of the list before place i are counted
+pub record CountedTo (taken : List ℕ) (f : ℕ → ℕ) (times : List ℕ) (i : ℕ) : Type 0 where
+  pub within : i ≤ length taken
+  pub places : length times ≡ payerPlaces
+  pub values : (k : ℕ) → k ≤ mostTurns → getD times k 0 + timesFrom taken f i k ≡ timesTaken taken f k
 
--- those of the first q bytes are
-pub record BytesTo (n : ℕ) (map numbers : List ℕ) (at : ℕ) (times : List ℕ) (q : ℕ) : Type 0 where
-  pub within : q ≤ n / 8
-  pub counted : TimesTo map numbers at times (8 * q)
+times-step : (taken : List ℕ) (f : ℕ → ℕ) (i k : ℕ) → i < length taken → timesFrom taken f i k ≡ cond (eqb (f (getD taken i 0)) k) 1 0 + timesFrom taken f (i + 1) k
+unfolding timesTaken
+times-step taken f i k h = rw (add-one, drop-cons taken i 0 h)
 
-pub no-zero : (s : Bool) → _≡_ {A = ℕ} (cond s 0 0) 0
-no-zero true = refl
-no-zero false = refl
+times-over : (taken : List ℕ) (f : ℕ → ℕ) (k : ℕ) → timesFrom taken f (length taken) k ≡ 0
+unfolding timesTaken
+times-over taken f k = rw (drop-length taken)
 
-times-step : (map : List ℕ) (f : ℕ → ℕ) (t k : ℕ) → timesBefore map f (t + 1) k ≡ cond (chosenIn map t) (cond (eqb (f t) k) 1 0) 0 + timesBefore map f t k
-unfolding timesBefore
-times-step map f t k = rw (add-one t)
-
-module _ (n : ℕ) (relaxed numbers : List ℕ) (at : ℕ) where
+module _ (taken numbers : List ℕ) (at : ℕ) where
   abbrev f : ℕ → ℕ
   f = numberBehind numbers at
 
-  pub times-start : (times : List ℕ) {t : ℕ} → t ≤ n → TimesTo relaxed numbers at times t → CountedTo n relaxed numbers at times t
-  times-start times l s = record { within = l; counted = s }
+  pub times-start : {times : List ℕ} → times ≡ replicate payerPlaces 0 → CountedTo taken (numberBehind numbers at) times 0
+  times-start q =
+      record { within = omega arith; places = rw q (length-replicate {A = ℕ} payerPlaces 0); values = λ k m. rw (q, getD-replicate {A = ℕ} payerPlaces k 0 0 (omega arith)) (omega arith) }
 
-  module _ (w : SmallNumbers n numbers at) {t : ℕ} (h : t < n) where
-    pub times-read : at + t < length numbers
-    times-read = omega (arith, w .within)
+  module _ (w : SmallNumbers taken numbers at) {i : ℕ} (h : i < length taken) {x : ℕ} (p : x ≡ getD taken i 0) where
+    pub times-read : at + x < length numbers
+    times-read = omega (arith, p, w .within i h)
 
-    module _ {k : ℕ} (g : k ≡ getD numbers (at + t) 0) where
+    pub times-fits : Fits w64 (at + x)
+    times-fits = omega (arith, p, w .early, w .turns i h)
+
+    module _ {k : ℕ} (g : k ≡ getD numbers (at + x) 0) where
+      is-number : k ≡ f (getD taken i 0)
+      is-number = g ∙ ap (λ (y : ℕ). getD numbers (at + y) 0) p
+
       pub times-inside : k ≤ mostTurns
-      times-inside = omega (arith, g, w .small t h)
+      times-inside = omega (arith, is-number, w .small i h)
 
-      module _ (times : List ℕ) (s : CountedTo n relaxed numbers at times t) where
+      module _ (times : List ℕ) (s : CountedTo taken (numberBehind numbers at) times i) where
+        here : timesFrom taken f i k ≡ 1 + timesFrom taken f (i + 1) k
+        here = times-step taken f i k h ∙ rw (eq-eqb (f (getD taken i 0)) k (sym is-number))
+
         pub times-room : getD times k 0 < mostTurns
-        times-room = omega (arith, s .counted .values k times-inside, before-most relaxed f t k, w .few)
+        times-room = omega (arith, s .values k times-inside, here, times-most taken f k, w .few)
 
-        pub times-more : {b : Bool} {x : ℕ} {times′ : List ℕ} → b ≡ chosenIn relaxed t → x ≡ cond b 1 0 → times′ ≡ set times k (getD times k 0 + x) → CountedTo n relaxed numbers at times′ (t + 1)
-        times-more {b} {x} e d q =
-            rw q (record { within = omega arith; counted = record { places = length-set times k (getD times k 0 + x) ∙ s .counted .places; values = λ m l. one m l (ℕ-discrete m k) ∙ sym (times-step relaxed f t m) } })
+        pub times-more : {times′ : List ℕ} → times′ ≡ set times k (getD times k 0 + 1) → CountedTo taken (numberBehind numbers at) times′ (i + 1)
+        times-more q =
+            rw q (record { within = omega arith; places = length-set times k (getD times k 0 + 1) ∙ s .places; values = λ m l. one m l (ℕ-discrete m k) })
           where
-            adds : x ≡ cond (chosenIn relaxed t) 1 0
-            adds = d ∙ ap (λ (c : Bool). cond c 1 0) e
-
-            one : (m : ℕ) → m ≤ mostTurns → Dec (m ≡ k) → getD (set times k (getD times k 0 + x)) m 0 ≡ cond (chosenIn relaxed t) (cond (eqb (f t) m) 1 0) 0 + timesBefore relaxed f t m
-            one m l (yes z) =
-                rw (z, getD-set-same times k (getD times k 0 + x) 0 (omega (arith, s .counted .places, times-inside)), eq-eqb (getD numbers (at + t) 0) k (sym g)) (omega (arith, s .counted .values k times-inside, adds))
+            one : (m : ℕ) → m ≤ mostTurns → Dec (m ≡ k) → getD (set times k (getD times k 0 + 1)) m 0 + timesFrom taken f (i + 1) m ≡ timesTaken taken f m
+            one m l (yes z) = rw (z, getD-set-same times k (getD times k 0 + 1) 0 (omega (arith, s .places, times-inside))) (omega (arith, s .values k times-inside, here))
             one m l (no z) =
-                rw (getD-set-other times k m (getD times k 0 + x) 0 z, ne-eqb (getD numbers (at + t) 0) m (λ y. z (sym y ∙ sym g))) (omega (arith, s .counted .values m l, no-zero (chosenIn relaxed t)))
+                let same : timesFrom taken f i m ≡ timesFrom taken f (i + 1) m = times-step taken f i m h ∙ rw (ne-eqb (f (getD taken i 0)) m (λ y. z (sym y ∙ sym is-number))) (omega arith) in
+                rw (getD-set-other times k m (getD times k 0 + 1) 0 z) (omega (arith, s .values m l, same))
 
-  pub times-done : (times : List ℕ) {t : ℕ} → n ≤ t → CountedTo n relaxed numbers at times t → TimesTo relaxed numbers at times n
-  times-done times {t} h s = let e : t ≡ n = omega (arith, s .within) in rw e at (s .counted)
+  pub times-done : (times : List ℕ) {i : ℕ} → length taken ≤ i → CountedTo taken (numberBehind numbers at) times i → Times taken (numberBehind numbers at) times
+  times-done times {i} h s =
+      let e : i ≡ length taken = omega (arith, s .within) in
+      let t : CountedTo taken f times (length taken) = rw e at s in
+      record { places = s .places; values = λ k m. omega (arith, t .values k m, times-over taken f k) }
 
-pub ruleset times-cases = (times-start, times-read, times-inside, times-room, times-more, times-done)
-
--- ---- byte by byte of the map
-
-module _ (n : ℕ) (relaxed numbers : List ℕ) (at : ℕ) where
-  pub bytes-start : {times : List ℕ} → times ≡ replicate payerPlaces 0 → BytesTo n relaxed numbers at times 0
-  unfolding timesBefore
-  bytes-start q =
-      record { within = omega arith; counted = record { places = rw q (length-replicate {A = ℕ} payerPlaces 0); values = λ k m. rw q (getD-replicate {A = ℕ} payerPlaces k 0 0 (omega arith)) } }
-
-  module _ {q : ℕ} (h : q < n / 8) where
-    pub bytes-numbers : SmallNumbers n numbers at → SmallNumbers (8 * q + 8) numbers at
-    bytes-numbers w = record { few = omega (arith, w .few); within = omega (arith, w .within); small = λ t l. w .small t (omega arith) }
-
-    pub bytes-bits : Clean n relaxed → 8 * q + 8 ≤ 8 * length relaxed
-    bytes-bits c = omega (arith, clean-bits c)
-
-    pub bytes-more : (times : List ℕ) → TimesTo relaxed numbers at times (8 * q + 8) → BytesTo n relaxed numbers at times (q + 1)
-    bytes-more times s = let e : 8 * q + 8 ≡ 8 * (q + 1) = omega arith in record { within = omega arith; counted = rw e at s }
-
-  pub bytes-counted : (times : List ℕ) {q : ℕ} → BytesTo n relaxed numbers at times q → TimesTo relaxed numbers at times (8 * q)
-  bytes-counted times s = s .counted
-
-  pub bytes-done : (times : List ℕ) {q : ℕ} → n / 8 ≤ q → BytesTo n relaxed numbers at times q → TimesTo relaxed numbers at times (8 * (n / 8))
-  bytes-done times {q} h s = let e : q ≡ n / 8 = omega (arith, s .within) in rw e at (s .counted)
-
-  pub bytes-end : Clean n relaxed → n ≤ 8 * length relaxed
-  bytes-end c = clean-bits c
-
-  pub bytes-all : (times : List ℕ) → TimesTo relaxed numbers at times n → Times n (choiceIn n relaxed) (numberBehind numbers at) times
-  unfolding timesChosen timesBefore chosen
-  bytes-all times s =
-      let f : ℕ → ℕ = numberBehind numbers at in
-      record {
-        places = s .places;
-        values = λ k m. s .values k m
-            ∙ sum-same (λ u. cond (chosenIn relaxed u) (cond (eqb (f u) k) 1 0) 0) (λ u. cond (has (choiceIn n relaxed) u) (cond (eqb (f u) k) 1 0) 0) n (λ u l. ap (λ (b : Bool). cond b (cond (eqb (f u) k) 1 0) 0) (sym (choice-has n relaxed u l)));
-      }
-
-pub ruleset bytes-cases = (bytes-start, bytes-numbers, bytes-bits, bytes-more, bytes-counted, bytes-done, bytes-end, bytes-all)
+pub ruleset times-cases = (times-start, times-read, times-fits, times-inside, times-room, times-more, times-done)
 
 -- ---- along the drivers' order
 
@@ -155,32 +119,29 @@ run-step a b m l = go (decLt a m) (ℕ-discrete a m) (decLt b m) (ℕ-discrete b
     go (no x) (yes e) (no y) (no d) = rw (lt-ltb a (suc m) (omega arith), le-leb (suc m) b (omega arith), ne-eqb b m d, le-ltb a m (omega arith), eq-eqb a m e)
     go (no x) (no e) (no y) d = rw (le-ltb a (suc m) (omega arith), ne-eqb b m (omega arith), le-ltb a m (omega arith), ne-eqb a m e)
 
-if-chosen : (s : Bool) (a b c d : ℕ) → a + b ≡ c + d → cond s a 0 + cond s b 0 ≡ cond s c 0 + cond s d 0
-if-chosen true a b c d e = e
-if-chosen false a b c d e = refl
+-- a sum over turns that are equal one by one
+pub sum-equal : (g h : ℕ → ℕ) {ts : List ℕ} → All (λ t. g t ≡ h t) ts → sum g ts ≡ sum h ts
+sum-equal g h none = refl
+sum-equal g h (more e es) = omega (arith, e, sum-equal g h es)
 
-module _ (n : ℕ) (S : List Bool) (orders : List ℕ) (r : PaidRuns n orders) where
-  payers-none : payersBefore n S orders 0 ≡ 0
-  unfolding payersBefore chosen
-  payers-none = sum-zero (λ t. cond (has S t) (cond (ltb (paidFrom orders t) 0 && leb 0 (paidTo orders t)) 1 0) 0)
-      (all-of (λ t. rw (le-ltb (paidFrom orders t) 0 (omega arith)) (no-zero (has S t))) (below n))
+module _ (n : ℕ) (taken orders : List ℕ) (w : Taken n taken) (r : PaidRuns n orders) where
+  payers-none : payersBefore taken orders 0 ≡ 0
+  unfolding payersBefore
+  payers-none = sum-zero (λ t. cond (ltb (paidFrom orders t) 0 && leb 0 (paidTo orders t)) 1 0) (all-of (λ t. rw (le-ltb (paidFrom orders t) 0 (omega arith))) taken)
 
-  payers-step : (m : ℕ) → payersBefore n S orders (suc m) + timesChosen n S (paidTo orders) m ≡ payersBefore n S orders m + timesChosen n S (paidFrom orders) m
-  unfolding payersBefore timesChosen chosen
+  payers-step : (m : ℕ) → payersBefore taken orders (suc m) + timesTaken taken (paidTo orders) m ≡ payersBefore taken orders m + timesTaken taken (paidFrom orders) m
+  unfolding payersBefore timesTaken
   payers-step m =
-      let after : ℕ → ℕ = λ t. cond (has S t) (cond (ltb (paidFrom orders t) (suc m) && leb (suc m) (paidTo orders t)) 1 0) 0 in
-      let left : ℕ → ℕ = λ t. cond (has S t) (cond (eqb (paidTo orders t) m) 1 0) 0 in
-      let before : ℕ → ℕ = λ t. cond (has S t) (cond (ltb (paidFrom orders t) m && leb m (paidTo orders t)) 1 0) 0 in
-      let joins : ℕ → ℕ = λ t. cond (has S t) (cond (eqb (paidFrom orders t) m) 1 0) 0 in
-      sym (sum-add after left (below n))
-      ∙ sum-same (λ t. after t + left t) (λ t. before t + joins t) n (λ t l. if-chosen (has S t)
-      (cond (ltb (paidFrom orders t) (suc m) && leb (suc m) (paidTo orders t)) 1 0) (cond (eqb (paidTo orders t) m) 1 0)
-      (cond (ltb (paidFrom orders t) m && leb m (paidTo orders t)) 1 0) (cond (eqb (paidFrom orders t) m) 1 0)
-      (run-step (paidFrom orders t) (paidTo orders t) m (r .rising t l)))
-      ∙ sum-add before joins (below n)
+      let after : ℕ → ℕ = λ t. cond (ltb (paidFrom orders t) (suc m) && leb (suc m) (paidTo orders t)) 1 0 in
+      let left : ℕ → ℕ = λ t. cond (eqb (paidTo orders t) m) 1 0 in
+      let before : ℕ → ℕ = λ t. cond (ltb (paidFrom orders t) m && leb m (paidTo orders t)) 1 0 in
+      let joins : ℕ → ℕ = λ t. cond (eqb (paidFrom orders t) m) 1 0 in
+      sym (sum-add after left taken)
+      ∙ sum-equal (λ t. after t + left t) (λ t. before t + joins t) (all-map (λ t l. run-step (paidFrom orders t) (paidTo orders t) m (r .rising t l)) (w .inside))
+      ∙ sum-add before joins taken
 
-  module _ (joining leaving : List ℕ) (js : Times n S (paidFrom orders) joining) (ls : Times n S (paidTo orders) leaving) where
-    sums-are : (m : ℕ) → m ≤ n → sumBefore joining m ≡ payersBefore n S orders m + sumBefore leaving m
+  module _ (joining leaving : List ℕ) (js : Times taken (paidFrom orders) joining) (ls : Times taken (paidTo orders) leaving) where
+    sums-are : (m : ℕ) → m ≤ n → sumBefore joining m ≡ payersBefore taken orders m + sumBefore leaving m
     sums-are zero l = omega (arith, payers-none)
     sums-are (suc m) l = omega (arith, sums-are m (omega arith), payers-step m, js .values m (omega (arith, r .few)), ls .values m (omega (arith, r .few)))
 
@@ -190,19 +151,32 @@ module _ (n : ℕ) (S : List Bool) (orders : List ℕ) (r : PaidRuns n orders) w
           few = r .few;
           places = js .places;
           left = λ m l. omega (arith, sums-are m l);
-          small = λ m l. omega (arith, sums-are m l, payers-most n S orders m, r .few);
-          joined = λ m l. omega (arith, js .values m (omega (arith, r .few)), times-most n S (paidFrom orders) m, r .few);
+          small = λ m l. omega (arith, sums-are m l, payers-most taken orders m, w .few, r .few);
+          joined = λ m l. omega (arith, js .values m (omega (arith, r .few)), times-most taken (paidFrom orders) m, w .few, r .few);
         }
 
-    pub payers-present : (payers : List ℕ) → Present orders joining leaving payers n → Payers n S orders payers
+    pub payers-present : (payers : List ℕ) → Present orders joining leaving payers n → Payers n taken orders payers
     payers-present payers p = record { values = λ j l. omega (arith, p .values j l, sums-are (j + 1) (omega arith)) }
 
-module _ (n : ℕ) (orders : List ℕ) (r : PaidRuns n orders) where
-  pub runs-from : SmallNumbers n orders (3 * mostTurns)
-  runs-from = record { few = r .few; within = omega (arith, r .places, r .few); small = λ t l. omega (arith, r .rising t l, r .within t l, r .few) }
+  pub runs-from : SmallNumbers taken orders (3 * mostTurns)
+  runs-from =
+      record {
+        few = omega (arith, w .few, r .few);
+        early = omega arith;
+        turns = λ i h. omega (arith, all-at (w .inside) i h, r .few);
+        within = λ i h. omega (arith, r .places, r .few, all-at (w .inside) i h);
+        small = λ i h. let l : getD taken i 0 < n = all-at (w .inside) i h in omega (arith, r .rising (getD taken i 0) l, r .within (getD taken i 0) l, r .few);
+      }
 
-  pub runs-to : SmallNumbers n orders (4 * mostTurns)
-  runs-to = record { few = r .few; within = omega (arith, r .places, r .few); small = λ t l. omega (arith, r .within t l, r .few) }
+  pub runs-to : SmallNumbers taken orders (4 * mostTurns)
+  runs-to =
+      record {
+        few = omega (arith, w .few, r .few);
+        early = omega arith;
+        turns = λ i h. omega (arith, all-at (w .inside) i h, r .few);
+        within = λ i h. omega (arith, r .places, r .few, all-at (w .inside) i h);
+        small = λ i h. let l : getD taken i 0 < n = all-at (w .inside) i h in omega (arith, r .within (getD taken i 0) l, r .few);
+      }
 
 pub ruleset payer-cases = (runs-from, runs-to, payers-summable, payers-present)
 

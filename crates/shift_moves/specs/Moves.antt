@@ -3,17 +3,16 @@ use mathlib.Core.Path.{_≡_}
 use mathlib.Core.Logic.{_≢_}
 use mathlib.Core.Bool.{Bool, cond, _&&_}
 use mathlib.Core.List.{List}
-use Prim.Native.Nat.{ℕ, _+_, _-_, _≤_, _<_}
+use Prim.Native.Nat.{ℕ, _+_, _-_, _*_, _≤_, _<_}
 use lib.Dec.{ltb, leb, eqb}
 use lib.ListN.{length, getD}
-use Rattle.lists.specs.Lists.{sum, below}
+use Rattle.lists.specs.Lists.{sum, All}
 use Rattle.lists.specs.Counting.{sumBefore}
 use Rattle.model.specs.Choice.{chosen}
 use Rattle.sheet.specs.Kind.{mostTurns}
-use Rattle.choice_map.specs.Choice.{chosenIn, choiceIn}
 use Rattle.shift_look.specs.declared.Extent.{Extent}
 use Rattle.shift_look.specs.OrdersAndCounts.{turnsIn, orderPlaces, driversTurn, paidFrom, paidTo}
-use Rattle.refine_spec.specs.Shift.{slopePayers, movedPrice}
+use Rattle.refine_spec.specs.Shift.{movedPrice, movedPrices}
 
 -- a place for each number from 0 to the most turns
 abbrev pub payerPlaces : ℕ
@@ -23,17 +22,13 @@ payerPlaces = mostTurns + 1
 abbrev pub numberBehind : List ℕ → ℕ → ℕ → ℕ
 numberBehind numbers at t = getD numbers (at + t) 0
 
--- how many turns of a set have number k
-unfoldable pub timesChosen : ℕ → List Bool → (ℕ → ℕ) → ℕ → ℕ
-timesChosen n S f k = chosen n S (λ t. cond (eqb (f t) k) 1 0)
+-- how many turns of a list have number k
+unfoldable pub timesTaken : List ℕ → (ℕ → ℕ) → ℕ → ℕ
+timesTaken taken f k = sum (λ t. cond (eqb (f t) k) 1 0) taken
 
--- how many of the first m turns that a map has chosen have it
-unfoldable pub timesBefore : List ℕ → (ℕ → ℕ) → ℕ → ℕ → ℕ
-timesBefore map f m k = sum (λ t. cond (chosenIn map t) (cond (eqb (f t) k) 1 0) 0) (below m)
-
--- how many turns of a set pay for the place of the drivers' order before place m: their runs start before m and do not end before it
-unfoldable pub payersBefore : ℕ → List Bool → List ℕ → ℕ → ℕ
-payersBefore n S orders m = chosen n S (λ t. cond (ltb (paidFrom orders t) m && leb m (paidTo orders t)) 1 0)
+-- how many of them pay for the place of the drivers' order before place m: their runs start before m and do not end before it
+unfoldable pub payersBefore : List ℕ → List ℕ → ℕ → ℕ
+payersBefore taken orders m = sum (λ t. cond (ltb (paidFrom orders t) m && leb m (paidTo orders t)) 1 0) taken
 
 -- those that joined before place m, less those that left before it
 abbrev pub payersPresent : List ℕ → List ℕ → ℕ → ℕ
@@ -50,13 +45,13 @@ payersAt payers j = getD payers j 0
 abbrev pub payersAfter : List ℕ → ℕ → ℕ
 payersAfter payers k = getD payers (k + 1) 0
 
--- how many turns that a map has chosen pay the price at place k of the slopes' prices, which is that of slope k + 1
+-- how many turns of a list pay the price at place k of the slopes' prices, which is that of slope k + 1
 abbrev pub slopePayersIn : Extent → List ℕ → List ℕ → ℕ → ℕ
-slopePayersIn e cols map k = slopePayers (turnsIn e cols) (choiceIn (e .size .count) map) (k + 1)
+slopePayersIn e cols taken k = timesTaken taken (turnsIn e cols .slope) (k + 1)
 
 -- and how many pay for place j of the drivers' order
-abbrev pub turnPayersIn : Extent → List ℕ → List ℕ → ℕ → ℕ
-turnPayersIn e orders map j = payersBefore (e .size .count) (choiceIn (e .size .count) map) orders (j + 1)
+abbrev pub turnPayersIn : List ℕ → List ℕ → ℕ → ℕ
+turnPayersIn orders taken j = payersBefore taken orders (j + 1)
 
 -- a slope's price stands where it is counted
 abbrev pub ownPlace : ℕ → ℕ
@@ -72,21 +67,27 @@ turnPricePlace slopes orders j = slopes + driversTurn orders j
 
 -- ---- as statements
 
--- n numbers from a place on, each with a place in a table of payers
-pub record SmallNumbers (n : ℕ) (numbers : List ℕ) (at : ℕ) : Type 0 where
-  pub few : n ≤ mostTurns
-  pub within : at + n ≤ length numbers
-  pub small : (t : ℕ) → t < n → numberBehind numbers at t ≤ mostTurns
+-- a list of some of n turns, no more than there are
+pub record Taken (n : ℕ) (taken : List ℕ) : Type 0 where
+  pub few : length taken ≤ n
+  pub inside : All (λ t. t < n) taken
 
--- for each number, how many of the first t turns that a map has chosen have it
-pub record TimesTo (map numbers : List ℕ) (at : ℕ) (times : List ℕ) (t : ℕ) : Type 0 where
-  pub places : length times ≡ payerPlaces
-  pub values : (k : ℕ) → k ≤ mostTurns → getD times k 0 ≡ timesBefore map (numberBehind numbers at) t k
+-- it has the turns of a set: whatever is summed up, it comes to the same over both
+unfoldable pub TurnsOf : ℕ → List Bool → List ℕ → Type 0
+TurnsOf n S taken = (f : ℕ → ℕ) → sum f taken ≡ chosen n S f
 
--- for each number, how many turns of a set have it
-pub record Times (n : ℕ) (S : List Bool) (f : ℕ → ℕ) (times : List ℕ) : Type 0 where
+-- the turns of a list have numbers in a column from a place on, each with a place in a table of payers
+pub record SmallNumbers (taken numbers : List ℕ) (at : ℕ) : Type 0 where
+  pub few : length taken ≤ mostTurns
+  pub early : at ≤ 4 * mostTurns
+  pub turns : (i : ℕ) → i < length taken → getD taken i 0 < mostTurns
+  pub within : (i : ℕ) → i < length taken → at + getD taken i 0 < length numbers
+  pub small : (i : ℕ) → i < length taken → numberBehind numbers at (getD taken i 0) ≤ mostTurns
+
+-- for each number, how many turns of a list have it
+pub record Times (taken : List ℕ) (f : ℕ → ℕ) (times : List ℕ) : Type 0 where
   pub places : length times ≡ payerPlaces
-  pub values : (k : ℕ) → k ≤ mostTurns → getD times k 0 ≡ timesChosen n S f k
+  pub values : (k : ℕ) → k ≤ mostTurns → getD times k 0 ≡ timesTaken taken f k
 
 -- what n turns pay for in the drivers' order: each for the places of one run
 pub record PaidRuns (n : ℕ) (orders : List ℕ) : Type 0 where
@@ -109,8 +110,8 @@ pub record Present (orders joining leaving payers : List ℕ) (i : ℕ) : Type 0
   pub values : (j : ℕ) → j < i → getD payers (driversTurn orders j) 0 ≡ payersPresent joining leaving (j + 1)
 
 -- the payers of n turns: those of their places in the drivers' order
-pub record Payers (n : ℕ) (S : List Bool) (orders payers : List ℕ) : Type 0 where
-  pub values : (j : ℕ) → j < n → getD payers (driversTurn orders j) 0 ≡ payersBefore n S orders (j + 1)
+pub record Payers (n : ℕ) (taken orders payers : List ℕ) : Type 0 where
+  pub values : (j : ℕ) → j < n → getD payers (driversTurn orders j) 0 ≡ payersBefore taken orders (j + 1)
 
 -- no more payers at the first n places than there can be turns
 unfoldable pub FewPayers : ℕ → List ℕ → Type 0
@@ -127,3 +128,7 @@ pub record MovedBy (change : ℕ) (payers place : ℕ → ℕ) (n : ℕ) (old ne
   pub size : length new ≡ length old
   pub done : (i : ℕ) → i < n → getD new (place i) 0 ≡ movedPrice change (payers i) (getD old (place i) 0)
   pub others : (x : ℕ) → ((i : ℕ) → i < n → place i ≢ x) → getD new x 0 ≡ getD old x 0
+
+-- all prices are moved as by any set that has the turns of a list
+pub record MovedFor (e : Extent) (cols taken : List ℕ) (change : ℕ) (old new : List ℕ) : Type 0 where
+  pub is : (S : List Bool) → TurnsOf (e .size .count) S taken → new ≡ movedPrices (turnsIn e cols) (e .slopes) S change old

@@ -8,11 +8,10 @@ ghost use lib.Dec.{ltb};
 ghost use lib.ListN.{length, getD, set, replicate};
 ghost use Rattle.turn.specs.Turn.{mostWorth};
 ghost use Rattle.sheet.specs.Kind.{mostTurns, mostSlopes};
-ghost use Rattle.choice_map.specs.Choice.{choiceIn, Clean};
 ghost use Rattle.shift_look.specs.OrdersAndCounts.{mostPrice, turnsIn, Ordered, Priced};
-ghost use Rattle.refine_spec.specs.Shift.{highestPrice, movedPrice, turnChange, movedPrices};
+ghost use Rattle.refine_spec.specs.Shift.{highestPrice, movedPrice, turnChange};
 ghost use Rattle.shift_moves.specs.Moves.{payerPlaces, numberBehind, payersAt, payersAfter, slopePayersIn, turnPayersIn, ownPlace, turnPricePlace};
-ghost use Rattle.shift_moves.specs.Moves.{nobody, placeBehind, SmallNumbers, TimesTo, Times, PaidRuns, Summable, Present, Payers, FewPayers, EachOnce, MovedBy};
+ghost use Rattle.shift_moves.specs.Moves.{nobody, placeBehind, Taken, SmallNumbers, Times, PaidRuns, Summable, Present, Payers, FewPayers, EachOnce, MovedBy, MovedFor};
 use instance::MOST_TURNS;
 use instance::PLACES;
 use instance::as_place;
@@ -105,58 +104,26 @@ fn move_price(change: u32, payers: u16, prices: &mut [u16], i: usize)
     prices[i] = moved_price(change, payers, price);
 }
 
-// 1 for a turn that is chosen, else 0.
-fn one_if(chosen: bool) -> u16
-    ensures { λ r. ⌜ (r ≡ cond chosen 1 0) × (r ≤ 1) ⌝ }
-{
-    if chosen { 1 } else { 0 }
-}
-
-// One payer more at place k, or none.
-fn add_payer(payers: &mut [u16; PAYERS], k: usize, more: u16)
-    requires { ⌜ (k ≤ mostTurns) × (getD (now payers) k 0 < mostTurns) × (more ≤ 1) ⌝ }
-    ensures { λ _. ⌜ now (payers .exit) ≡ set (now (payers .entry)) k (getD (now (payers .entry)) k 0 + more) ⌝ }
+// One payer more at place k.
+fn add_payer(payers: &mut [u16; PAYERS], k: usize)
+    requires { ⌜ (k ≤ mostTurns) × (getD (now payers) k 0 < mostTurns) ⌝ }
+    ensures { λ _. ⌜ now (payers .exit) ≡ set (now (payers .entry)) k (getD (now (payers .entry)) k 0 + 1) ⌝ }
 {
     let x = payers[k];
-    payers[k] = x + more;
+    payers[k] = x + 1;
 }
 
-// Counts the turns of the relaxed set between two places by their numbers, where those before are counted. Each turn adds
-// 1 or 0: a branch per turn would be mispredicted.
-fn count_between(
-    from: usize,
-    to: usize,
-    relaxed: &[u8],
-    numbers: &[u16],
-    at: usize,
-    times: &mut [u16; PAYERS],
-)
-    requires { ⌜ (from ≤ to) × (to ≤ 8 * length (now relaxed)) × SmallNumbers to (now numbers) at ⌝ }
-    requires { ⌜ TimesTo (now relaxed) (now numbers) at (now times) from ⌝ }
-    ensures { λ _. ⌜ TimesTo (now (relaxed .entry)) (now (numbers .entry)) at (now (times .exit)) to ⌝ }
+// For each number, how many turns of a list have it in the column that starts at a place.
+fn count_numbers(taken: &[u16], numbers: &[u16], at: usize, times: &mut [u16; PAYERS])
+    requires { ⌜ SmallNumbers (now taken) (now numbers) at × (now times ≡ replicate payerPlaces 0) ⌝ }
+    ensures { λ _. ⌜ Times (now (taken .entry)) (numberBehind (now (numbers .entry)) at) (now (times .exit)) ⌝ }
 {
-    let mut t = from;
-    while t < to {
-        let k = as_place(numbers[at + t]);
-        let more = one_if(choice_map::is_chosen(relaxed, t));
-        add_payer(&mut *times, k, more);
-        t += 1;
+    let mut i = 0;
+    while i < taken.len() {
+        let k = as_place(numbers[at + as_place(taken[i])]);
+        add_payer(&mut *times, k);
+        i += 1;
     }
-}
-
-// For each number, how many turns of the relaxed set have it in the column that starts at a place. Eight turns at a
-// time, so that the compiler reads each byte of the map once.
-fn count_numbers(n: usize, relaxed: &[u8], numbers: &[u16], at: usize, times: &mut [u16; PAYERS])
-    requires { ⌜ Clean n (now relaxed) × SmallNumbers n (now numbers) at × (now times ≡ replicate payerPlaces 0) ⌝ }
-    ensures { λ _. ⌜ Times n (choiceIn n (now (relaxed .entry))) (numberBehind (now (numbers .entry)) at) (now (times .exit)) ⌝ }
-{
-    let bytes = n / 8;
-    let mut q = 0;
-    while q < bytes {
-        count_between(8 * q, 8 * q + 8, relaxed, numbers, at, &mut *times);
-        q += 1;
-    }
-    count_between(8 * bytes, n, relaxed, numbers, at, &mut *times);
 }
 
 // The payers of each turn, from those that join and those that leave at each place of the drivers' order. They stand by
@@ -183,15 +150,15 @@ fn sum_payers(
 }
 
 // The payers of each turn.
-fn count_payers(n: usize, orders: &[u16; ORDERS], relaxed: &[u8], payers: &mut [u16; PAYERS])
-    requires { ⌜ Clean n (now relaxed) × PaidRuns n (now orders) × EachOnce n (now orders) × (length (now payers) ≡ payerPlaces) ⌝ }
-    ensures { λ _. ⌜ Payers n (choiceIn n (now (relaxed .entry))) (now (orders .entry)) (now (payers .exit)) ⌝ }
+fn count_payers(n: usize, orders: &[u16; ORDERS], taken: &[u16], payers: &mut [u16; PAYERS])
+    requires { ⌜ Taken n (now taken) × PaidRuns n (now orders) × EachOnce n (now orders) × (length (now payers) ≡ payerPlaces) ⌝ }
+    ensures { λ _. ⌜ Payers n (now (taken .entry)) (now (orders .entry)) (now (payers .exit)) ⌝ }
 {
     let all = &orders[..];
     let mut joining = [0u16; PAYERS];
     let mut leaving = [0u16; PAYERS];
-    count_numbers(n, relaxed, all, FROMS, &mut joining);
-    count_numbers(n, relaxed, all, TOS, &mut leaving);
+    count_numbers(taken, all, FROMS, &mut joining);
+    count_numbers(taken, all, TOS, &mut leaving);
     sum_payers(n, orders, &joining, &leaving, &mut *payers);
 }
 
@@ -242,44 +209,44 @@ fn lower_turn_prices(e: Extent, change: u16, prices: &mut [u16])
     }
 }
 
-fn move_slopes(e: Extent, cols: &[u16; PLACES], relaxed: &[u8], change: u32, prices: &mut [u16])
-    requires { ⌜ Priced e (now cols) (now prices) × Clean (e .size .count) (now relaxed) × (change ≤ mostWorth) ⌝ }
-    ensures { λ _. ⌜ MovedBy change (slopePayersIn e (now (cols .entry)) (now (relaxed .entry))) ownPlace (e .slopes)
+fn move_slopes(e: Extent, cols: &[u16; PLACES], taken: &[u16], change: u32, prices: &mut [u16])
+    requires { ⌜ Priced e (now cols) (now prices) × Taken (e .size .count) (now taken) × (change ≤ mostWorth) ⌝ }
+    ensures { λ _. ⌜ MovedBy change (slopePayersIn e (now (cols .entry)) (now (taken .entry))) ownPlace (e .slopes)
         (now (prices .entry)) (now (prices .exit)) ⌝ }
 {
     let mut payers = [0u16; PAYERS];
-    count_numbers(e.size.count, relaxed, &cols[..], 0, &mut payers);
+    count_numbers(taken, &cols[..], 0, &mut payers);
     move_slope_prices(e.slopes, &payers, change, &mut *prices);
 }
 
-fn move_turns(e: Extent, orders: &[u16; ORDERS], relaxed: &[u8], change: u32, prices: &mut [u16])
+fn move_turns(e: Extent, orders: &[u16; ORDERS], taken: &[u16], change: u32, prices: &mut [u16])
     requires { ⌜ (e .slopes ≤ mostSlopes) × (length (now prices) ≡ e .slopes + e .size .count) × (change ≤ mostWorth) ⌝ }
-    requires { ⌜ Clean (e .size .count) (now relaxed) × PaidRuns (e .size .count) (now orders) × EachOnce (e .size .count) (now orders) ⌝ }
-    ensures { λ _. ⌜ MovedBy (turnChange change) (turnPayersIn e (now (orders .entry)) (now (relaxed .entry)))
+    requires { ⌜ Taken (e .size .count) (now taken) × PaidRuns (e .size .count) (now orders) × EachOnce (e .size .count) (now orders) ⌝ }
+    ensures { λ _. ⌜ MovedBy (turnChange change) (turnPayersIn (now (orders .entry)) (now (taken .entry)))
         (turnPricePlace (e .slopes) (now (orders .entry))) (e .size .count) (now (prices .entry)) (now (prices .exit)) ⌝ }
 {
     let mut payers = [0u16; PAYERS];
-    count_payers(e.size.count, orders, relaxed, &mut payers);
+    count_payers(e.size.count, orders, taken, &mut payers);
     move_turn_prices(e, &payers, turn_change(change), &mut *prices);
 }
 
-// Moves every price by how many turns of the relaxed set pay it.
+// Moves every price by how many turns of the relaxed set pay it. The set comes as a list of its turns: to go
+// through them alone takes less than to ask of each turn whether it is taken.
 pub fn move_prices(
     e: Extent,
     cols: &[u16; PLACES],
     orders: &[u16; ORDERS],
-    relaxed: &[u8],
+    taken: &[u16],
     change: u32,
     prices: &mut [u16],
 )
-    requires { ⌜ Priced e (now cols) (now prices) × Ordered (turnsIn e (now cols)) (now orders) × Clean (e .size .count) (now relaxed) ⌝ }
+    requires { ⌜ Priced e (now cols) (now prices) × Ordered (turnsIn e (now cols)) (now orders) × Taken (e .size .count) (now taken) ⌝ }
     requires { ⌜ change ≤ mostWorth ⌝ }
-    ensures { λ _. ⌜ now (prices .exit) ≡ movedPrices (turnsIn e (now (cols .entry))) (e .slopes)
-        (choiceIn (e .size .count) (now (relaxed .entry))) change (now (prices .entry)) ⌝ }
+    ensures { λ _. ⌜ MovedFor e (now (cols .entry)) (now (taken .entry)) change (now (prices .entry)) (now (prices .exit)) ⌝ }
 {
-    move_slopes(e, cols, relaxed, change, &mut *prices);
+    move_slopes(e, cols, taken, change, &mut *prices);
     if 0 < driver_bound(e.size, cols) {
-        move_turns(e, orders, relaxed, change, &mut *prices);
+        move_turns(e, orders, taken, change, &mut *prices);
         return;
     }
     lower_turn_prices(e, as_u16(turn_change(change)), &mut *prices);

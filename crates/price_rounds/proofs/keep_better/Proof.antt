@@ -4,8 +4,8 @@ use borrow.Author.Needs.{needs}
 use Rattle.price_rounds.proofs.keep_better.Statement.{statement}
 use Rattle.price_rounds.proofs.keep_better.Tie as tie
 
-choose-from-requires : tie.Need-choose-from-requires
-choose-from-requires c κs = ((search needs, search needs, search needs), ((search (needs, zeros-cases, better-cases), search (needs, zeros-cases, better-cases)), search needs))
+choose-listed-requires : tie.Need-choose-listed-requires
+choose-listed-requires c κs = ((search needs, search needs, search needs), (search (needs, zeros-cases, better-cases), search (needs, zeros-cases, better-cases)))
 
 pub keep-better-spec : {M : Type 1} → statement M
 keep-better-spec =
@@ -13,7 +13,7 @@ keep-better-spec =
     (tie.spec
     (λ c. search (needs, zeros-cases, better-cases))
     (λ c. search (needs, zeros-cases, better-cases))
-    choose-from-requires
+    choose-listed-requires
     (λ c. search (needs, zeros-cases, better-cases))
     (λ c κs. search needs)
     (λ c. search needs)

@@ -8,7 +8,11 @@ move-prices-spec =
     tie.close
     (tie.spec
     (λ c. search needs)
-    (λ c κs. search (needs, move-cases))
+    (λ c. search (needs, move-cases))
+    (λ c. search (needs, move-cases))
+    (λ c. search (needs, move-cases))
+    (λ c. search needs)
+    (λ c κs. ((search (needs, move-cases), search (needs, move-cases), search (needs, move-cases)), search needs))
     (λ c. search needs)
     (λ c κs. search (needs, move-cases))
     (λ c. search needs)
