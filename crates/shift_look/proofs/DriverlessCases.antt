@@ -20,7 +20,7 @@ use Rattle.best_spec.specs.Table.{bestWorth}
 use Rattle.best_table.specs.OrderAndTable.{InTurnOrder, Befores, Chained, Filled}
 use Rattle.limit_spec.specs.Prices.{slopePrice, turnPrice, paysTurn, paidBy, countsFor, priceSum}
 use Rattle.shift_look.specs.declared.Extent.{Extent}
-use Rattle.shift_look.specs.OrdersAndCounts.{countedTurns, turnsIn, slopesSum, mostPrice, Priced, CountsTo, DriversUpTo}
+use Rattle.shift_look.specs.OrdersAndCounts.{countedTurns, turnsIn, slopesSum, mostPrice, Priced, CountsTo, DriversUpTo, DriversSeen}
 use Rattle.shift_look.proofs.SumCases.{driver-at}
 use Rattle.shift_look.proofs.CountCases.{count-is-left}
 use Rattle.shift_look.proofs.LookCases.{table-chained, table-first}
@@ -45,10 +45,22 @@ module _ (p : Size) (cols : List ℕ) where
 
 pub ruleset greatest-cases = (upto-start, upto-more, upto-done)
 
--- where it is 0, no turn names one
-pub none-named : (e : Extent) (cols : List ℕ) {r : ℕ} → r ≤ 0 → DriversUpTo (turnsBy (e .size) cols) (e .size .count) r → NoDrivers (turnsIn e cols)
-unfolding DriversUpTo
-none-named e cols z u t h = omega (arith, u t (omega (arith, count-is (e .size) cols)))
+-- another number than 0 says nothing, and the greatest all that there is to say
+module _ (T : Turns) (i r : ℕ) where
+  pub seen-some : 0 < r → DriversSeen T i r
+  unfolding DriversSeen
+  seen-some h z = absurd (omega arith)
+
+  pub seen-greatest : DriversUpTo T i r → DriversSeen T i r
+  unfolding DriversSeen
+  seen-greatest u z = u
+
+pub ruleset seen-cases = (seen-some, seen-greatest)
+
+-- with 0, no turn names one
+pub none-named : (e : Extent) (cols : List ℕ) {r : ℕ} → r ≤ 0 → DriversSeen (turnsBy (e .size) cols) (e .size .count) r → NoDrivers (turnsIn e cols)
+unfolding DriversSeen DriversUpTo
+none-named e cols z u t h = omega (arith, u z t (omega (arith, count-is (e .size) cols)))
 
 -- ---- what a turn pays
 
@@ -93,7 +105,7 @@ module _ (e : Extent) (cols prices : List ℕ) (none : NoDrivers (turnsIn e cols
       driverless-fits l = omega (arith, f .most 0 (omega arith) (omega arith), w .few)
 
 -- the prices that the limit has in it are those of the slopes
-pub driverless-prices : (e : Extent) (cols prices : List ℕ) {r a : ℕ} → r ≤ 0 → DriversUpTo (turnsBy (e .size) cols) (e .size .count) r → a ≡ slopesSum prices (e .slopes) → a ≡ priceSum (turnsIn e cols) (e .slopes) prices
+pub driverless-prices : (e : Extent) (cols prices : List ℕ) {r a : ℕ} → r ≤ 0 → DriversSeen (turnsBy (e .size) cols) (e .size .count) r → a ≡ slopesSum prices (e .slopes) → a ≡ priceSum (turnsIn e cols) (e .slopes) prices
 driverless-prices e cols prices z u q = q ∙ sym (prices-slopes (turnsIn e cols) (e .slopes) prices (none-named e cols z u))
 
 pub ruleset slope-count-cases = (slope-counts, slope-above, slope-listed)

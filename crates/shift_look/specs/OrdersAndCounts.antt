@@ -93,6 +93,10 @@ pub record Driven (p : Size) (cols : List ℕ) : Type 0 where
 unfoldable pub DriversUpTo : Turns → ℕ → ℕ → Type 0
 DriversUpTo T i most = (t : ℕ) → t < i → T .driver t ≤ most
 
+-- with 0, none of the first i turns names a driver; another number says nothing
+unfoldable pub DriversSeen : Turns → ℕ → ℕ → Type 0
+DriversSeen T i seen = seen ≤ 0 → DriversUpTo T i seen
+
 -- the first i groomers of some columns are the drivers, and the rest is as it was
 pub record DriversPut (cols room : List ℕ) (i : ℕ) : Type 0 where
   pub places : length room ≡ length cols

@@ -9,7 +9,7 @@ ghost use Rattle.shift_look.specs.OrdersAndCounts.{turnsIn, paidFrom, pa
 ghost use Rattle.shift_look.specs.OrdersAndCounts.{SumsTo, NumbersTo, PaymentsTo, CountsTo};
 use super::Extent;
 use super::ORDERS;
-use super::driverless::driver_bound;
+use super::driverless::driver_seen;
 use super::driverless::put_slope_counts;
 use super::runs::FROMS;
 use super::runs::TOS;
@@ -139,7 +139,7 @@ pub fn put_counts(
     ensures { λ _. ⌜ CountsTo (turnsIn e (now (cols .entry))) (e .slopes) (now (prices .entry)) (now (counts .exit)) (e .size .count) ⌝ }
     ensures { λ r. ⌜ (r ≡ priceSum (turnsIn e (now (cols .entry))) (e .slopes) (now (prices .entry))) × (r ≤ (mostSlopes + mostTurns) * mostPrice) ⌝ }
 {
-    if 0 < driver_bound(e.size, cols) {
+    if 0 < driver_seen(e.size, cols) {
         return put_counts_with_drivers(e, cols, orders, prices, &mut *counts);
     }
     put_slope_counts(e, cols, prices, &mut *counts);

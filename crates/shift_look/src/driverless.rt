@@ -9,7 +9,7 @@ ghost use Rattle.instance.specs.Columns.{turnsBy, Held};
 ghost use Rattle.best_spec.specs.Table.{bestWorth};
 ghost use Rattle.best_table.specs.OrderAndTable.{Ranged};
 ghost use Rattle.limit_spec.specs.Prices.{countsFor, priceSum};
-ghost use Rattle.shift_look.specs.OrdersAndCounts.{countedTurns, turnsIn, orderPlaces, Priced, CountsTo, DriversUpTo};
+ghost use Rattle.shift_look.specs.OrdersAndCounts.{countedTurns, turnsIn, orderPlaces, Priced, CountsTo, DriversUpTo, DriversSeen};
 use super::Extent;
 use super::ORDERS;
 use super::counts::net_of;
@@ -28,8 +28,8 @@ fn greater(x: u16, y: u16) -> u16
     if x < y { y } else { x }
 }
 
-// A number that no turn's driver is above: with 0, no turn names one.
-pub fn driver_bound(p: Size, cols: &[u16; PLACES]) -> u16
+// A number that no turn's driver is above.
+fn driver_bound(p: Size, cols: &[u16; PLACES]) -> u16
     requires { ⌜ p .count ≤ mostTurns ⌝ }
     ensures { λ r. ⌜ DriversUpTo (turnsBy p (now (cols .entry))) (p .count) r ⌝ }
 {
@@ -41,6 +41,19 @@ pub fn driver_bound(p: Size, cols: &[u16; PLACES]) -> u16
         t += 1;
     }
     greatest
+}
+
+// 0 only where no turn names a driver. The first turn is asked by itself: where turns have drivers it most often names
+// one, and the others need not be asked.
+pub fn driver_seen(p: Size, cols: &[u16; PLACES]) -> u16
+    requires { ⌜ p .count ≤ mostTurns ⌝ }
+    ensures { λ r. ⌜ DriversSeen (turnsBy p (now (cols .entry))) (p .count) r ⌝ }
+{
+    let first = row_at(cols, 0);
+    if 0 < first.driver {
+        return first.driver;
+    }
+    driver_bound(p, cols)
 }
 
 // What turn t counts for.

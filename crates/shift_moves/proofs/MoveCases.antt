@@ -22,7 +22,7 @@ use Rattle.instance.specs.Columns.{rowIn, turnsBy}
 use Rattle.instance.proofs.Rows.{slope-at}
 use Rattle.limit_spec.specs.Prices.{slopePrice, turnPrice}
 use Rattle.shift_look.specs.declared.Extent.{Extent}
-use Rattle.shift_look.specs.OrdersAndCounts.{mostPrice, turnsIn, driversTurn, DriversUpTo, Ordered, Priced}
+use Rattle.shift_look.specs.OrdersAndCounts.{mostPrice, turnsIn, driversTurn, DriversSeen, Ordered, Priced}
 use Rattle.shift_look.proofs.DriverlessCases.{none-named}
 use Rattle.refine_spec.specs.Shift.{highestPrice, slopePayers, turnPayers, movedPrice, turnChange, movedPrices}
 use Rattle.shift_moves.specs.Moves.{payerPlaces, numberBehind, timesTaken, payersBefore, nobody, payersAt, payersAfter, slopePayersIn, turnPayersIn, ownPlace, placeBehind, turnPricePlace, Taken, TurnsOf, SmallNumbers, Times, PaidRuns, Payers, FewPayers, EachOnce, MovedBy, MovedFor}
@@ -331,7 +331,7 @@ module _ (e : Extent) (cols orders taken : List ℕ) (change : ℕ) (prices : Li
     unfolding turnsBy
     prices-moved new o b = record { is = λ S t. all-driven (turnsBy (e .size) cols) (e .slopes) S change prices mid new (w .list) (of-set S t) orders taken o t b }
 
-    pub prices-lowered : (new : List ℕ) {r c d : ℕ} → r ≤ 0 → DriversUpTo (turnsBy (e .size) cols) (e .size .count) r → c ≡ turnChange change → d ≡ c → MovedBy d nobody (placeBehind (e .slopes)) (e .size .count) mid new
+    pub prices-lowered : (new : List ℕ) {r c d : ℕ} → r ≤ 0 → DriversSeen (turnsBy (e .size) cols) (e .size .count) r → c ≡ turnChange change → d ≡ c → MovedBy d nobody (placeBehind (e .slopes)) (e .size .count) mid new
         → MovedFor e cols taken change prices new
     unfolding turnsBy
     prices-lowered new z u q p b =

@@ -21,7 +21,7 @@ use shift_look::Extent;
 use shift_look::FROMS;
 use shift_look::ORDERS;
 use shift_look::TOS;
-use shift_look::driver_bound;
+use shift_look::driver_seen;
 
 // The greatest number that a price list can hold.
 const MOST_PRICE: u32 = 65535;
@@ -245,7 +245,7 @@ pub fn move_prices(
     ensures { λ _. ⌜ MovedFor e (now (cols .entry)) (now (taken .entry)) change (now (prices .entry)) (now (prices .exit)) ⌝ }
 {
     move_slopes(e, cols, taken, change, &mut *prices);
-    if 0 < driver_bound(e.size, cols) {
+    if 0 < driver_seen(e.size, cols) {
         move_turns(e, orders, taken, change, &mut *prices);
         return;
     }
