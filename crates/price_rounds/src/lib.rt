@@ -53,32 +53,25 @@ pub struct Reached {
     pub rounds: u32,
 }
 
-// The rule, and the worth of the best choice so far.
-pub struct BestSoFar {
-    pub rule: RuleFor,
-    pub worth: u32,
-}
-
 // The choice made from a list takes the place of the best so far only if it is worth more; returns the worth of
 // the one that stays.
 fn keep_better(
-    b: BestSoFar,
+    rule: RuleFor,
+    worth: u32,
     cols: &[u16; PLACES],
     list: &[u16],
     best: &mut [u8],
     room: &mut [u16; PLACES],
 ) -> u32
-    requires { ⌜ RulePosed (b .rule) (now cols) × NumbersOf (sizeOf (b .rule) .count) (now list) × RunsFor (b .rule) (now cols) (now room) ⌝ }
-    requires { ⌜ Clean (sizeOf (b .rule) .count) (now best) ⌝ }
-    ensures { λ w. ⌜ BetterKept (b .rule) (now (cols .entry)) (chosenFrom (b .rule) (now (cols .entry)) (now (list .entry)))
-        (choiceIn (sizeOf (b .rule) .count) (now (best .entry))) (b .worth) (choiceIn (sizeOf (b .rule) .count) (now (best .exit))) w ⌝ }
-    ensures { λ _. ⌜ Clean (sizeOf (b .rule) .count) (now (best .exit)) × RunsFor (b .rule) (now (cols .entry)) (now (room .exit)) ⌝ }
+    requires { ⌜ RulePosed rule (now cols) × NumbersOf (sizeOf rule .count) (now list) × RunsFor rule (now cols) (now room) ⌝ }
+    requires { ⌜ Clean (sizeOf rule .count) (now best) ⌝ }
+    ensures { λ w. ⌜ BetterKept rule (now (cols .entry)) (chosenFrom rule (now (cols .entry)) (now (list .entry)))
+        (choiceIn (sizeOf rule .count) (now (best .entry))) worth (choiceIn (sizeOf rule .count) (now (best .exit))) w ⌝ }
+    ensures { λ _. ⌜ Clean (sizeOf rule .count) (now (best .exit)) × RunsFor rule (now (cols .entry)) (now (room .exit)) ⌝ }
 {
-    let rule = b.rule;
     let mut space = [0u8; MAP_BYTES];
     let map = &mut space[..best.len()];
     let found = choose_listed(rule, cols, &*room, list, &mut *map);
-    let worth = b.worth;
     if found <= worth {
         return worth;
     }
@@ -129,11 +122,7 @@ fn make_rounds(
         let mut numbers = [0u16; ASKED];
         let count = put_list(&*ranks, &*relaxed, &mut numbers);
         let list = &numbers[..count];
-        let rated = BestSoFar {
-            rule: rule,
-            worth: worth,
-        };
-        worth = keep_better(rated, cols, list, &mut *best, &mut *room);
+        worth = keep_better(rule, worth, cols, list, &mut *best, &mut *room);
         if is_over(limit, worth, made, t.rounds) {
             return reached_with(limit, worth, made);
         }
