@@ -89,17 +89,17 @@ fn reached_with(limit: u32, worth: u32, rounds: u32) -> Reached
     }
 }
 
-// Makes the rounds, from prices of 0 and the choice in a map. The map and the list then have the best choice
-// and the prices of the lowest limit. The room holds the runs of a shift's orders during the rounds.
+// Makes the rounds, from prices of 0 and the choice in `best`. That is the best choice then, and `kept` has
+// the prices of the lowest limit. The room holds the runs of a shift's orders during the rounds.
 fn make_rounds(
     t: Task,
     cols: &[u16; PLACES],
-    lowest: &mut [u16],
+    kept: &mut [u16],
     best: &mut [u8],
     room: &mut [u16; PLACES],
 ) -> Reached
-    requires { ⌜ RoundsStart t (now cols) (now lowest) (now best) (now room) ⌝ }
-    ensures { λ r. ⌜ ReachedFrom t (now (cols .entry)) (now (best .entry)) r (now (lowest .exit)) (now (best .exit)) ⌝ }
+    requires { ⌜ RoundsStart t (now cols) (now kept) (now best) (now room) ⌝ }
+    ensures { λ r. ⌜ ReachedFrom t (now (cols .entry)) (now (best .entry)) r (now (kept .exit)) (now (best .exit)) ⌝ }
 {
     let rule = t.rule;
     let p = size_of(rule);
@@ -109,7 +109,7 @@ fn make_rounds(
     let ranks = &mut places[..p.count];
     put_ranks(p, cols, &mut *ranks);
     let mut space = [0u16; MOST_PRICES];
-    let prices = &mut space[..lowest.len()];
+    let prices = &mut space[..kept.len()];
     let mut change = first_change(rule, cols);
     let mut limit = NO_LIMIT;
     let mut worth = t.worth;
@@ -118,7 +118,7 @@ fn make_rounds(
         let mut map = [0u8; MAP_BYTES];
         let relaxed = &mut map[..best.len()];
         let seen = look_at(rule, cols, &orders, &*prices, &mut *relaxed);
-        limit = keep_lower(seen, limit, &*prices, &mut *lowest);
+        limit = keep_lower(seen, limit, &*prices, &mut *kept);
         let mut numbers = [0u16; ASKED];
         let count = put_list(&*ranks, &*relaxed, &mut numbers);
         let list = &numbers[..count];
@@ -137,19 +137,19 @@ pub fn shift_rounds(
     e: Extent,
     s: Start,
     cols: &[u16; PLACES],
-    lowest: &mut [u16],
+    kept: &mut [u16],
     best: &mut [u8],
     room: &mut [u16; PLACES],
 ) -> Reached
-    requires { ⌜ RoundsStart (shiftTask e s) (now cols) (now lowest) (now best) (now room) ⌝ }
-    ensures { λ r. ⌜ ReachedFrom (shiftTask e s) (now (cols .entry)) (now (best .entry)) r (now (lowest .exit)) (now (best .exit)) ⌝ }
+    requires { ⌜ RoundsStart (shiftTask e s) (now cols) (now kept) (now best) (now room) ⌝ }
+    ensures { λ r. ⌜ ReachedFrom (shiftTask e s) (now (cols .entry)) (now (best .entry)) r (now (kept .exit)) (now (best .exit)) ⌝ }
 {
     let t = Task {
         rule: RuleFor::Shift(e),
         rounds: s.rounds,
         worth: s.worth,
     };
-    make_rounds(t, cols, &mut *lowest, &mut *best, &mut *room)
+    make_rounds(t, cols, &mut *kept, &mut *best, &mut *room)
 }
 
 // The rounds of a hall.
@@ -157,17 +157,17 @@ pub fn hall_rounds(
     h: HallSize,
     s: Start,
     cols: &[u16; PLACES],
-    lowest: &mut [u16],
+    kept: &mut [u16],
     best: &mut [u8],
     room: &mut [u16; PLACES],
 ) -> Reached
-    requires { ⌜ RoundsStart (hallTask h s) (now cols) (now lowest) (now best) (now room) ⌝ }
-    ensures { λ r. ⌜ ReachedFrom (hallTask h s) (now (cols .entry)) (now (best .entry)) r (now (lowest .exit)) (now (best .exit)) ⌝ }
+    requires { ⌜ RoundsStart (hallTask h s) (now cols) (now kept) (now best) (now room) ⌝ }
+    ensures { λ r. ⌜ ReachedFrom (hallTask h s) (now (cols .entry)) (now (best .entry)) r (now (kept .exit)) (now (best .exit)) ⌝ }
 {
     let t = Task {
         rule: RuleFor::Hall(h),
         rounds: s.rounds,
         worth: s.worth,
     };
-    make_rounds(t, cols, &mut *lowest, &mut *best, &mut *room)
+    make_rounds(t, cols, &mut *kept, &mut *best, &mut *room)
 }

@@ -37,7 +37,7 @@ use Rattle.hall_look.specs.declared.HallSize.{HallSize}
 use Rattle.hall_look.specs.Look.{hallFor, HallPosed}
 use Rattle.price_rule.specs.declared.RuleFor.{RuleFor}
 use Rattle.price_rule.specs.declared.RuleFor.the-variants.{Shift, Hall}
-use Rattle.price_rule.specs.Rules.{sizeOf, pricesOf, changeOf, ruleLimit, relaxedOf, fitsOf, movedOf, choiceOf, listOf, ruleWorth, ShiftPosed, RulePosed, OrderedFor, RunsFor}
+use Rattle.price_rule.specs.Rules.{sizeOf, pricesOf, changeOf, ruleLimit, relaxedOf, fitsOf, movedOf, choiceOf, choosingList, ruleWorth, ShiftPosed, RulePosed, OrderedFor, RunsFor}
 
 -- ---- for a shift
 
@@ -117,12 +117,12 @@ module _ (r : RuleFor) (e : Extent) (g : r ≡ Shift e) where
     unfolding fitsOf sizeOf
     shift-chosen list map q = rw g q
 
-    module _ (map list : List ℕ) (q : list ≡ listOf r cols map) where
+    module _ (map list : List ℕ) (q : list ≡ choosingList r cols map) where
       abbrev S : List Bool
       S = choiceIn (e .size .count) map
 
       list-is : list ≡ byWorth (turnsIn e cols) ++ keep (has S) (byWorth (turnsIn e cols))
-      unfolding listOf withChosen sizeOf
+      unfolding choosingList withChosen sizeOf
       list-is = rw g at q
 
       all-long : length (byWorth (turnsIn e cols)) ≡ e .size .count
@@ -269,8 +269,8 @@ module _ (r : RuleFor) (cols : List ℕ) where
     unfolding choiceOf
     choice-made f = list-made (sizeOf r) cols ranks e relaxed list q (fitsOf r cols) f
 
-    pub list-made-of : list ≡ listOf r cols relaxed
-    unfolding listOf
+    pub list-made-of : list ≡ choosingList r cols relaxed
+    unfolding choosingList
     list-made-of = let n : length ranks ≡ sizeOf r .count = ranks-length (sizeOf r) cols ranks e in q ∙ rw (n, e)
 
   -- what a choice in a map is worth

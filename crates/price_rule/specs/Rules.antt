@@ -67,8 +67,8 @@ unfoldable pub choiceOf : RuleFor → List ℕ → List Bool → List Bool
 choiceOf r cols relaxed = choiceFrom (fitsOf r cols) (turnsBy (sizeOf r) cols) relaxed
 
 -- the list that it is made from: all turns or windows by worth, and behind them those that a map has chosen
-unfoldable pub listOf : RuleFor → List ℕ → List ℕ → List ℕ
-listOf r cols map = withChosen (choiceIn (sizeOf r .count) map) (byWorth (turnsBy (sizeOf r) cols))
+unfoldable pub choosingList : RuleFor → List ℕ → List ℕ → List ℕ
+choosingList r cols map = withChosen (choiceIn (sizeOf r .count) map) (byWorth (turnsBy (sizeOf r) cols))
 
 -- what a choice is worth
 unfoldable pub ruleWorth : RuleFor → List ℕ → List Bool → ℕ

@@ -1,5 +1,5 @@
 // The rule of rounds as a value, for a shift or for a hall: what does not depend on prices, a look at the prices, the
-// choice made from a relaxed set, how a round moves the prices, and the first change.
+// choice made from a list, how a round moves the prices, and the first change.
 ghost use mathlib.Core.Path.{_≡_};
 ghost use mathlib.Core.Bool.{false};
 ghost use Prim.Native.Nat.{_≤_};
@@ -12,7 +12,7 @@ ghost use Rattle.selection.specs.Asked.{NumbersOf};
 ghost use Rattle.hall_spec.specs.Hall.{staysAllowed};
 ghost use Rattle.hall_look.specs.Look.{hallFor, HallPosed};
 ghost use Rattle.shift_look.specs.OrdersAndCounts.{orderPlaces};
-ghost use Rattle.price_rule.specs.Rules.{sizeOf, pricesOf, changeOf, ruleLimit, relaxedOf, fitsOf, listOf, movedOf, RulePosed, OrderedFor, RunsFor};
+ghost use Rattle.price_rule.specs.Rules.{sizeOf, pricesOf, changeOf, ruleLimit, relaxedOf, fitsOf, choosingList, movedOf, RulePosed, OrderedFor, RunsFor};
 use hall_look::HallSize;
 use hall_steps::OneKind;
 use instance::PLACES;
@@ -138,7 +138,7 @@ pub fn move_prices(
     prices: &mut [u16],
 )
     requires { ⌜ RulePosed r (now cols) × OrderedFor r (now cols) (now orders) × (length (now prices) ≡ pricesOf r) ⌝ }
-    requires { ⌜ Clean (sizeOf r .count) (now relaxed) × (now list ≡ listOf r (now cols) (now relaxed)) × (change ≤ mostWorth) ⌝ }
+    requires { ⌜ Clean (sizeOf r .count) (now relaxed) × (now list ≡ choosingList r (now cols) (now relaxed)) × (change ≤ mostWorth) ⌝ }
     ensures { λ _. ⌜ now (prices .exit)
         ≡ movedOf r (now (cols .entry)) (choiceIn (sizeOf r .count) (now (relaxed .entry))) change (now (prices .entry)) ⌝ }
 {

@@ -45,8 +45,8 @@ fn driver_at(e: Extent, cols: &[u16; PLACES], orders: &[u16; ORDERS], j: usize) 
     row.driver
 }
 
-// The first place of the drivers' order whose turn names a driver, behind all others; as many places as there are
-// turns if none does.
+// The first place of the drivers' order whose turn names a driver: turns without one all stand before it. As many
+// places as there are turns if none does.
 fn first_named(e: Extent, cols: &[u16; PLACES], orders: &[u16; ORDERS]) -> usize
     requires { ⌜ (e .size .count ≤ mostTurns) × Ordered (turnsIn e (now cols)) (now orders) ⌝ }
     ensures { λ r. ⌜ NamedFrom (turnsIn e (now (cols .entry))) (e .size .count) r ⌝ }
@@ -62,8 +62,8 @@ fn first_named(e: Extent, cols: &[u16; PLACES], orders: &[u16; ORDERS]) -> usize
     j
 }
 
-// The sums of what is paid at the first places, from none of them to all: nothing for turns that name no driver,
-// which come first.
+// The sums of what is paid at the first places, from none of them to all. They come in as zeros, and stay so for turns
+// that name no driver, which come first.
 pub fn put_sums(
     e: Extent,
     cols: &[u16; PLACES],
