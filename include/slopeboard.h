@@ -246,7 +246,7 @@ slopeboard_read_answer slopeboard_read_short(const uint8_t *sheet, size_t sheet_
  * the order of the sheet: read it back to know them.
  *
  * Refusals, in this order: 18, 3, 4; then for each turn, in the table's order, 6, 7, 8, 9, 19; then 11 if bytes_len
- * is below the bytes of the sheet. */
+ * is below the bytes of the sheet. SLOPEBOARD_MOST_SHEET_BYTES are always enough. */
 slopeboard_write_answer slopeboard_write(uint32_t groomers, uint32_t slopes, const uint16_t *table, size_t table_len,
                                          uint8_t *bytes, size_t bytes_len);
 
@@ -436,10 +436,10 @@ slopeboard_limit_answer slopeboard_limit(const uint8_t *sheet, size_t sheet_len,
  * the kept limit is now the board's worth, or if all rounds are made, it ends. Else a round moves the prices, and
  * it looks again.
  *
- * A round moves each price by how many turns of the best sets pay it. If none does, it falls by the change, not
- * below 0; if one does, it stays; for each further one it rises by the change, not above 60,000. A turn's price
- * moves by half of the change, rounded down, at least 1; a driverless turn's stays 0. Then the change becomes
- * fifteen sixteenths of itself, rounded down, at least 1.
+ * A round moves each price by how many turns of the best sets pay it. A price that none pays goes down by the
+ * change, to 0 at the lowest. One that a single turn pays stays; for each further payer it goes up by the change, to
+ * 60,000 at most. Prices of turns go by half of the change, rounded down, or by 1 if that is 0; a driverless turn's
+ * stays 0. After each round the change shrinks to 15/16, rounded down, never below 1.
  *
  * Refusals: those of slopeboard_read but 11, in their order; then 11 if board_len is below
  * SLOPEBOARD_BOARD_BYTES of the sheet's turns, or prices_len below the number of slopes and turns together. */
@@ -451,8 +451,8 @@ slopeboard_refine_answer slopeboard_refine(const uint8_t *sheet, size_t sheet_le
  * The list has a price for each minute from 0 to 959, in sixteenths. A window pays its draw times the sum of its
  * minutes' prices, divided by 16 and rounded down. What is then left of its worth, 0 if nothing is, is what it
  * counts for. Each vehicle takes the window with the greatest count, of equals the lowest number, or none where
- * every count is 0. The limit is what these count for, plus the units times the sum of all prices, divided by 16
- * and rounded down.
+ * every count is 0. The limit is what these count for, plus what all units cost in every minute: a sixteenth of
+ * units * (all prices added up), without the remainder.
  *
  * Refusals: those of slopeboard_charge but 11, in their order; then 26 if prices_len is not SLOPEBOARD_MINUTES. */
 slopeboard_limit_answer slopeboard_charge_limit(const uint8_t *sheet, size_t sheet_len, const uint16_t *prices,

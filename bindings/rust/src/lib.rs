@@ -336,9 +336,9 @@ pub fn limit(sheet: &[u8], prices: &[u16]) -> Result<u32, Refusal> {
 /// many rounds in which the prices move, and writes the best board found and the
 /// prices of the lowest limit. The board passes [`check`] and is worth no less
 /// than the planned one, and [`limit`] gives the same limit at these prices.
-/// More rounds never give less worth or a higher limit. It stops early if worth
-/// and limit meet. Asks for [`board_bytes`] of the sheet's turns, and for a
-/// price for each slope and each turn.
+/// With more rounds the worth never falls and the limit never rises. It stops
+/// early if worth and limit meet. Asks for [`board_bytes`] of the sheet's turns,
+/// and for a price for each slope and each turn.
 pub fn refine(
     sheet: &[u8],
     rounds: u32,
@@ -382,9 +382,9 @@ pub fn charge_limit(sheet: &[u8], prices: &[u16]) -> Result<u32, Refusal> {
 /// many rounds in which the prices move, and writes the choice map of the best
 /// set found and the prices of the lowest limit. The set is allowed and worth no
 /// less than the plan, and [`charge_limit`] gives the same limit at these
-/// prices. More rounds never give less worth or a higher limit. It stops early
-/// if worth and limit meet. Asks for [`map_bytes`] of the sheet's windows, and
-/// for [`MINUTES`] prices.
+/// prices. With more rounds the worth never falls and the limit never rises. It
+/// stops early if worth and limit meet. Asks for [`map_bytes`] of the sheet's
+/// windows, and for [`MINUTES`] prices.
 pub fn charge_refine(
     sheet: &[u8],
     rounds: u32,

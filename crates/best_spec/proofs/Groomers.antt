@@ -1,4 +1,4 @@
--- The table goes groomer by groomer: of two lists that share no groomer it is the two tables, one added to the other. Assumes nothing.
+-- The best goes groomer by groomer: that of two lists that share no groomer is their bests together. Assumes nothing.
 use mathlib.Core.Path.{_≡_, refl, _∙_}
 use mathlib.Core.Logic.{_≢_}
 use mathlib.Core.List.{List, [], _∷_, _++_}

@@ -22,7 +22,7 @@ use Rattle.model.proofs.Members.{chosen-members, members-are, members-feasible}
 use Rattle.model.proofs.Promised.{planned-length, choice-apart}
 use Rattle.model.proofs.Readings.{apart-reads}
 use Rattle.best_spec.specs.Table.{turnOrder, Best, blocked, bestOver, bestWorth, adding, bestChoice, isAmong, Later, ends-later, higher, BestSet, LeavesOutLatest}
-use Rattle.best_spec.proofs.Members.{all-drop, all-both, sum-both, among-all, all-among, among-cons, some-or-none, setChoice, set-from, set-earns}
+use Rattle.best_spec.proofs.Members.{all-drop, all-parts, sum-both, among-all, all-among, among-cons, some-or-none, setChoice, set-from, set-earns}
 use Rattle.best_spec.proofs.Ordering.{Leads, by-groomer, by-end, by-number, leads-one, Before, Ordered, empty, first, ordered-both, order-ordered, order-range, order-sum}
 use Rattle.best_spec.proofs.Tables.{best-ind, bestBefore, best-every, apart-among, Listed, listed-before, taking, taking-with, taking-without, taking-best}
 use Rattle.best_spec.proofs.Parts.{Parts, parts, three-tables, own-in}
@@ -50,11 +50,8 @@ module _ (T : Turns) (lengths : PositiveLengths T) (free : NoDrivers T) (single 
   independent x y hx hy d p q = apart-among T (apart-set T lengths (best .feasible)) x y (set-from (T .count) R x p) (set-from (T .count) R y q) d
 
   -- what it takes of a list
-  abbrev Takes : List ℕ → ℕ
-  Takes ts = taking T lengths free single (has S) independent ts
-
-  abbrev InOrder : List ℕ → Type 0
-  InOrder ts = Listed T lengths free single ts
+  abbrev worthTaken : List ℕ → ℕ
+  worthTaken ts = taking T lengths free single (has S) independent ts
 
   -- it has a turn of a list that is later than x and not of an entry's turns
   abbrev Other : List ℕ → List ℕ → ℕ → Type 0
@@ -62,7 +59,7 @@ module _ (T : Turns) (lengths : PositiveLengths T) (free : NoDrivers T) (single 
 
   -- along the table of one groomer's turns: where it takes as much as an entry earns and leaves out a turn of the entry, it has another
   abbrev Leaves : ℕ → List ℕ → Best → Type 0
-  Leaves g ts b = InOrder ts → All (λ t. T .groomer t ≡ g) ts → Takes ts ≡ b .worth → (x : ℕ) → isAmong (b .turns) x ≡ true → has S x ≡ false → Other ts (b .turns) x
+  Leaves g ts b = Listed T lengths free single ts → All (λ t. T .groomer t ≡ g) ts → worthTaken ts ≡ b .worth → (x : ℕ) → isAmong (b .turns) x ≡ true → has S x ≡ false → Other ts (b .turns) x
 
   among-first : (t : ℕ) (us : List ℕ) → isAmong (t ∷ us) t ≡ true
   unfolding isAmong
@@ -110,7 +107,7 @@ module _ (T : Turns) (lengths : PositiveLengths T) (free : NoDrivers T) (single 
     own-leaves = best-ind T (Leaves g) (λ h o e x i. absurd (not-both i refl)) leaves-without leaves-with
 
   -- it takes the best worth of all turns
-  takes-best : Takes (turnOrder T) ≡ bestWorth T
+  takes-best : worthTaken (turnOrder T) ≡ bestWorth T
   unfolding chosen bestWorth
   takes-best =
       omega (
@@ -122,14 +119,14 @@ module _ (T : Turns) (lengths : PositiveLengths T) (free : NoDrivers T) (single 
       )
 
   -- hence of each groomer's own turns what their table earns
-  takes-own : {g : ℕ} (p : Parts T g (turnOrder T)) → InOrder (p .own) × (Takes (p .own) ≡ bestOver T (p .own) .worth)
+  takes-own : {g : ℕ} (p : Parts T g (turnOrder T)) → Listed T lengths free single (p .own) × (worthTaken (p .own) ≡ bestOver T (p .own) .worth)
   unfolding bestWorth
   takes-own p =
       let f : ℕ → ℕ = λ t. cond (has S t) (T .worth t) 0 in
       let (lower, rest) = ordered-both T (p .lower) (subst (Ordered T) (p .split) (order-ordered T)) in
       let (own, upper) = ordered-both T (p .own) rest in
-      let (lows, rests) = all-both (p .lower) (subst (All (λ t. t < T .count)) (p .split) (order-range T)) in
-      let (owns, ups) = all-both (p .own) rests in (
+      let (lows, rests) = all-parts (p .lower) (subst (All (λ t. t < T .count)) (p .split) (order-range T)) in
+      let (owns, ups) = all-parts (p .own) rests in (
         (own, owns),
         omega (
           arith,
@@ -151,11 +148,11 @@ module _ (T : Turns) (lengths : PositiveLengths T) (free : NoDrivers T) (single 
       let (y, j, c, out, r) = own-leaves (T .groomer x) (p .own) o (p .are-own) w x (sym (own-in T p x refl) ∙ choice-among T x e) (fails (has S x) (λ h. not-both (set-from (T .count) R x h) n)) in
       (y, set-from (T .count) R y c, fails (has (bestChoice T) y) (λ h. not-both (sym (own-in T p y (among-all y (p .are-own) j)) ∙ choice-among T y h) out), r)
 
--- whatever the turns earn, be it nothing
+-- the table's set leaves out the latest, even where turns earn nothing
 pub best-leaves-out : (T : Turns) → PositiveLengths T → NoDrivers T → OneTurnASlope T → LeavesOutLatest T (bestChoice T)
 best-leaves-out T lengths free single R best = leaves-out T lengths free single best
 
--- ---- of two such sets there is one
+-- ---- there is only one such set
 
 module _ (T : Turns) where
   later-leads : (y x : ℕ) → Later T y x → Leads T y x

@@ -1,4 +1,4 @@
--- A list in order by one groomer: the turns of those below it, its own, those of the ones above, and the table of each part. Assumes nothing.
+-- A list in order, cut at one groomer: the turns of those below it, its own, those of the ones above, and the best of each part. Assumes nothing.
 use mathlib.Core.Path.{_≡_, refl, sym, ap, ap₂, _∙_}
 use mathlib.Core.Bool.{Bool, true, false, _||_}
 use mathlib.Core.List.{List, [], _∷_, _++_}
@@ -90,7 +90,7 @@ module _ (T : Turns) where
             kept = rw (ne-eqb (T .groomer t) g e) (p .kept ∙ none-own);
           }
 
-  -- the table over all three is the three tables
+  -- the parts share no groomer, so the best of the list is their bests together
   pub three-tables : {g : ℕ} {ts : List ℕ} (p : Parts g ts) → bestOver T ts ≡ together (bestOver T (p .lower)) (together (bestOver T (p .own)) (bestOver T (p .upper)))
   three-tables {g} p =
       ap (bestOver T) (p .split)

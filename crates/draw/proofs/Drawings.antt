@@ -1,6 +1,6 @@
 -- Drawing by its cases, each premise in the form in which the code's calls and tests leave it. Assumes nothing.
 use Prim.Native.Nat.{ℕ, zero, suc, _+_, _-_, _*_, _%_, _<_, _≤_}
-use mathlib.Core.Path.{_≡_, refl, sym, _∙_, ap}
+use mathlib.Core.Path.{_≡_, sym, _∙_, ap}
 use mathlib.Core.List.{List, [], _∷_, append-nil}
 use native.Mathlib.Omega.{arith}
 use native.Mathlib.Numerals.{sub-one}
@@ -30,16 +30,10 @@ use Rattle.write_spec.specs.Key.{keyOf, keysOf, turnsOfKeys, turnsByKey}
 use Rattle.write_spec.proofs.Writable.{table-sorted, write-clear}
 use Rattle.refusal.specs.Outcome.{beside}
 use Rattle.draw.specs.declared.Drawn.{Drawn}
-use Rattle.draw_spec.specs.Draw.{drawFactor, drawModulus, mostDraw, nextDraw, drawNumber, drawnLength, lengthPlaces, drawnStarts, fromOne, turnDrawn, turnDraws, turnAfter, drawnTurns, drawnTable, Drawable}
+use Rattle.draw_spec.specs.Draw.{drawModulus, mostDraw, drawNumber, drawnLength, lengthPlaces, drawnStarts, fromOne, turnDrawn, turnDraws, turnAfter, drawnTurns, drawnTable, Drawable}
 use Rattle.draw_spec.specs.DrawnSheet.{seedCauses, drawCauses, drawOf}
-use Rattle.draw_spec.proofs.Draws.{draw-drawable, drawn-length, number-drawable, number-one, number-two, number-three, number-four, number-five}
+use Rattle.draw_spec.proofs.Draws.{drawn-length, number-drawable, number-one, number-two, number-three, number-four, number-five}
 use Rattle.draw_spec.proofs.DrawnSheets.{drawn-causes, seed-iff, drawn-as-written}
-
--- ---- one draw
-
-pub next-drawn : (x : ℕ) → Drawable x → (drawFactor * x % drawModulus ≡ nextDraw x) × Drawable (drawFactor * x % drawModulus)
-unfolding nextDraw
-next-drawn x d = (refl, draw-drawable x d)
 
 -- ---- one turn
 

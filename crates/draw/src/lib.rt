@@ -10,7 +10,7 @@ ghost use Rattle.sheet.specs.Kind.{garage, mostTurns};
 ghost use Rattle.sheet.specs.Accepted.{Legal};
 ghost use Rattle.write_spec.specs.Write.{writeOf};
 ghost use Rattle.write_spec.specs.Key.{keysOf};
-ghost use Rattle.draw_spec.specs.Draw.{drawModulus, lengthPlaces, nextDraw, drawNumber, drawnLength, fromOne, turnDrawn, turnDraws, turnAfter, drawnTurns, drawnTable, Drawable};
+ghost use Rattle.draw_spec.specs.Draw.{drawModulus, lengthPlaces, drawNumber, drawnLength, fromOne, turnDrawn, turnDraws, turnAfter, drawnTurns, drawnTable, Drawable};
 ghost use Rattle.draw_spec.specs.DrawnSheet.{seedCauses, drawOf};
 use refusal::WriteAnswer;
 use sheet::MOST_TURNS;
@@ -44,14 +44,6 @@ const LENGTH_PLACES: u32 = 100;
 pub struct Drawn {
     pub turn: Turn,
     pub last: u32,
-}
-
-// The draw after x. It is never 0 and never the modulus, so drawing goes on for ever.
-pub fn next_draw(x: u64) -> u64
-    requires { ⌜ Drawable x ⌝ }
-    ensures { λ r. ⌜ (r ≡ nextDraw x) × Drawable r ⌝ }
-{
-    DRAW_FACTOR * x % DRAW_MODULUS
 }
 
 // The remainder of a product of two draws by the modulus, without a division: what stands above two to the power of

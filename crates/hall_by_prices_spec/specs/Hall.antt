@@ -38,7 +38,7 @@ hallRule H vehicles =
       moved = λ change prices. movedMinutes H (hallRelaxed H prices) change prices;
     }
 
--- before the first look: every price is 0, the change is an eighth of the greatest worth, rounded up, in parts as the prices, and the choice is that of the hall's plan
+-- before the first look: every price is 0, the change is an eighth of the greatest worth, rounded up, in sixteenths, as the prices are, and the choice is that of the hall's plan
 unfoldable pub hallStart : Hall → ℕ → Stage
 hallStart H vehicles = startFrom (hallRule H vehicles) (firstChange 8 (greatestOf (H .windows .worth) (below (windowCount H)))) (replicate shiftMinutes 0) (hallChoice H)
 
@@ -48,7 +48,7 @@ hallRefined H vehicles rounds = refined (hallRule H vehicles) rounds (hallStart 
 
 -- ---- as statements
 
--- S is chosen so: each window that is allowed together with the chosen windows that are asked before it, and no other. E has those windows; with t set it has t too
+-- S is chosen so: each window that is allowed together with the chosen windows that are asked before it, and no other. E has those windows; with t set it has t too. There is exactly one such E (`chosen-before`, `before-same`)
 pub record WindowsFrom (H : Hall) (relaxed S : List Bool) : Type 0 where
   pub places : length S ≡ windowCount H
   pub exactly : (t : ℕ) → t < windowCount H →

@@ -92,8 +92,8 @@ fn put_rows(cols: &mut [u16; PLACES], table: &[u16], n: usize)
     put_ends(&mut *cols, n);
 }
 
-// Reads any bytes as a sheet of a kind into columns, the reader's answer beside them; the gap is for
-// the problem's size to say. The room is for the table of turns on the way: nothing is said of what it
+// Reads any bytes as a sheet of a kind into columns, the reader's answer beside them. No gap is fixed
+// here: the caller's `Size` has it. The room is for the table of turns on the way: nothing is said of what it
 // holds afterwards, nor of what the columns hold after a refusal.
 pub fn load_as(
     kind: Kind,

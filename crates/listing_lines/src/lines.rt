@@ -40,7 +40,7 @@ fn put_labelled(out: &mut [u8], at: usize, word: &[u8], x: u32) -> usize
     text::put_number(&mut *out, next, x)
 }
 
-// Two of them. Every line goes through here, so that the loops over characters are compiled once.
+// Two of them. The lines of turns go through here, so that their loops are compiled once.
 fn put_pair(out: &mut [u8], at: usize, word: &[u8], x: u32, second: &[u8], y: u32) -> usize
     requires { ⌜ at + length (labelled (now word) x ++ labelled (now second) y) ≤ lastPlace ⌝ }
     ensures { λ r. ⌜ (r ≡ at + length (labelled (now (word .entry)) x ++ labelled (now (second .entry)) y))

@@ -120,12 +120,12 @@ module _ (test : List Bool → ℕ → Bool) where
         go (inr k) (no d) ih = choose-other (made js) j t d ∙ ih k ∙ ap (λ (U : List Bool). test U t) (sym (as-before j js l h t k))
 
     -- the words: each turn is chosen just if it fits beside the chosen ones that are asked before it
-    abbrev Settles : List Bool → Type 0
-    Settles S = (t : ℕ) → t < n → has S t ≡ test (earlier S t) t
+    abbrev ByTheTest : List Bool → Type 0
+    ByTheTest S = (t : ℕ) → t < n → has S t ≡ test (earlier S t) t
 
-    -- they leave one choice, where the list has with a turn all that are asked before it. Of the other choice they need to hold only where both are alike so far
+    -- two choices that keep the words agree on the list, if it has with each turn all asked before it. The second need keep them only where both agree on the turns asked before
     each-alike : {js : List ℕ} → Falling js → ((t u : ℕ) → isAmong js t ≡ true → u < n → before u t ≡ true → isAmong js u ≡ true) →
-        (P Q : List Bool) → Settles P → ((t : ℕ) → t < n → earlier Q t ≡ earlier P t → has Q t ≡ test (earlier Q t) t) → (t : ℕ) → isAmong js t ≡ true → has Q t ≡ has P t
+        (P Q : List Bool) → ByTheTest P → ((t : ℕ) → t < n → earlier Q t ≡ earlier P t → has Q t ≡ test (earlier Q t) t) → (t : ℕ) → isAmong js t ≡ true → has Q t ≡ has P t
     unfolding isAmong
     each-alike empty whole P Q p q t m = absurd (not-both m refl)
     each-alike (first {j = j} {js = js} l h f) whole P Q p q t m = go (each-alike f smaller P Q p q) (among-cons t j js m)
@@ -328,17 +328,17 @@ module _ (test : List Bool → ℕ → Bool) (shut : (S : List Bool) (j t : ℕ)
   abbrev Asked : List ℕ → Type 0
   Asked = Falling test (T .count) (asked T relaxed) (asked-self T relaxed)
 
-  abbrev Later : ℕ → ℕ → Type 0
-  Later x y = (asked T relaxed y x ≡ true) × (asked T relaxed x y ≡ false)
+  abbrev AskedAfter : ℕ → ℕ → Type 0
+  AskedAfter = After test (T .count) (asked T relaxed) (asked-self T relaxed)
 
-  later-alike : (x y : ℕ) → has relaxed x ≡ has relaxed y → poorerFirst T x y ≡ true → x ≢ y → Later x y
-  later-alike x y s e d = (
+  after-alike : (x y : ℕ) → has relaxed x ≡ has relaxed y → poorerFirst T x y ≡ true → x ≢ y → AskedAfter x y
+  after-alike x y s e d = (
     asked-alike T relaxed y x (sym s) ∙ and-of (poorerFirst T x y) (not (eqb x y)) e (refuted (eqb x y) (λ q. d (eqb-true x y q))),
     asked-alike T relaxed x y s ∙ fails (richer T x y) (λ b. d (worth-order T .told x y e (and-1 (poorerFirst T y x) (not (eqb y x)) b))),
   )
 
-  later-relaxed : (x y : ℕ) → has relaxed x ≡ false → has relaxed y ≡ true → Later x y
-  later-relaxed x y e f = (rw (e, f) refl, rw (e, f) refl)
+  after-relaxed : (x y : ℕ) → has relaxed x ≡ false → has relaxed y ≡ true → AskedAfter x y
+  after-relaxed x y e f = (rw (e, f) refl, rw (e, f) refl)
 
   kept-asked : (p : ℕ → Bool) (r : Bool) → ((t : ℕ) → p t ≡ true → has relaxed t ≡ r) → {ts : List ℕ} → Ranked T ts → All (λ t. t < T .count) ts → Asked (keep p ts)
   unfolding keep
@@ -346,12 +346,12 @@ module _ (test : List Bool → ℕ → Bool) (shut : (S : List Bool) (j t : ℕ)
   kept-asked p r same (first {t = t} {ts = ts} h o) (more l ls) = go (p t) refl (kept-asked p r same o ls)
     where
       go : (b : Bool) → p t ≡ b → Asked (keep p ts) → Asked (cond b (t ∷ keep p ts) (keep p ts))
-      go true e ih = first l (all-map (λ u (a, f). later-alike t u (same t e ∙ sym (same u f)) (a .0) (a .1)) (all-both (keep-every p h) (keep-holds p ts))) ih
+      go true e ih = first l (all-map (λ u (a, f). after-alike t u (same t e ∙ sym (same u f)) (a .0) (a .1)) (all-both (keep-every p h) (keep-holds p ts))) ih
       go false e ih = ih
 
   both-asked : {xs ys : List ℕ} → Asked xs → Asked ys → All (λ x. has relaxed x ≡ false) xs → All (λ y. has relaxed y ≡ true) ys → Asked (xs ++ ys)
   both-asked empty g none b = g
-  both-asked (first {j = j} l h f) g (more e es) b = first l (all-append h (all-map (λ y q. later-relaxed j y e q) b)) (both-asked f g es b)
+  both-asked (first {j = j} l h f) g (more e es) b = first l (all-append h (all-map (λ y q. after-relaxed j y e q) b)) (both-asked f g es b)
 
   list-asked : Asked (others ++ relaxedOnes)
   list-asked =

@@ -34,7 +34,7 @@ module _ (T : Turns) (slopes : ℕ) (prices : List ℕ) where
       ext-getD false (relaxedSet T slopes prices) (bestChoice P) (tab-length (T .count) (isRelaxed P) ∙ sym (best-length P))
       (λ t l. tab-at (T .count) (isRelaxed P) false t (omega (arith, tab-length (T .count) (isRelaxed P))) ∙ sym (choice-own P t))
 
-  -- slopes and drivers may as well stay as they are
+  -- the table reads no slope and no driver, so these may stay
   pub relaxed-counted : relaxedSet T slopes prices ≡ bestChoice (withWorths T (countsFor T slopes prices))
   unfolding pricedTurns
   relaxed-counted = relaxed-best ∙ bare-choice (withWorths T (countsFor T slopes prices))

@@ -1,8 +1,9 @@
 // A choice made from a list of turns, by the orders of the groomers and of the drivers. In each order the turns of one
 // groomer or driver stand together, the one that ends last first. A turn's run goes from its place up to the first
-// turn that ends early enough to come before it. Two turns conflict by their groomer, or by their driver, just if each
-// one's place is before the end of the other's run. So a turn that is chosen flags the places near its own, and
-// whether a turn fits is seen at its own place in both orders.
+// turn that ends early enough to come before it; that of a turn without a driver is empty in the drivers' order. Two
+// turns conflict by their groomer, or by their driver, just if each one's place is before the end of the other's run.
+// So a turn that is chosen flags the places near its own, and whether a turn fits is seen at its own place in both
+// orders.
 mod choosing;
 mod runs;
 

@@ -102,8 +102,8 @@ Takes a sheet. Starts from the planned board and makes rounds in which prices
 move. Writes the best board found, which passes 'check'. Prints its worth, the
 lowest limit found and how many rounds were made; then, if the limit is the
 worth, that no board earns more; then the chosen turns. No choice of turns
-without a conflict is worth more than the limit. More rounds never give less
-worth or a higher limit.
+without a conflict is worth more than the limit. With more rounds the worth
+never falls and the limit never rises.
 
 With --prices the prices are written, too: 'limit' takes them and prints the
 same limit. If standard error is a terminal, it shows the seconds gone.",
@@ -248,8 +248,8 @@ Takes a charging sheet. Starts from the plan that 'charge' makes and makes
 rounds in which prices move. Writes the choice map of the best choice found.
 Prints its worth, the lowest limit found and how many rounds were made; then, if
 the limit is the worth, that no allowed set earns more; then the chosen windows.
-No choice of windows that is allowed is worth more than the limit. More rounds
-never give less worth or a higher limit.
+No choice of windows that is allowed is worth more than the limit. With more
+rounds the worth never falls and the limit never rises.
 
 With --prices the prices are written, too: 'charge-limit' takes them and prints
 the same limit. If standard error is a terminal, it shows the seconds gone.",
