@@ -99,6 +99,10 @@ module _ (T : Turns) where
         go (yes l) = omega (arith, used-held lengths l, together-different f a (minute lengths l))
         go (no l) = omega (arith, used-none (omega arith))
 
+    -- with turns or without
+    pub some-reached : (minute : ℕ) × (heldTogether T minute ≡ usedOf T)
+    some-reached = elim (decLt 0 (T .count)) [ yes l ↦ together-reached lengths l | no l ↦ (0, omega (arith, used-none (omega arith), together-most 0)) ]
+
     -- what comes back is how many different numbers are given
     pub used-different : different number (T .count) ≡ usedOf T
     used-different = omega (arith, different-used, fewest number (numbers-assignment T))

@@ -14,7 +14,7 @@ use Rattle.instance_spec.proofs.SheetTurns.{sheet-count, sheet-lengths}
 use Rattle.assign_spec.specs.Numbering.{numberIn, numbersOf, usedOf, Before, GreedyNumbers, AssignPromises}
 use Rattle.assign_spec.specs.Assign.{assignCauses, assignOf, AssignPromised}
 use Rattle.assign_spec.proofs.Numbers.{numbers-places, numbers-greedy, numbers-assignment}
-use Rattle.assign_spec.proofs.Fewest.{together-most, together-reached, fewest, used-different}
+use Rattle.assign_spec.proofs.Fewest.{together-most, some-reached, fewest, used-different}
 use Rattle.assign_spec.proofs.AssignCauses.{assign-number, answered}
 use Rattle.refusal.proofs.Outcome.{enough-iff}
 
@@ -27,7 +27,7 @@ numbers-promised T lengths =
       no-overlap = numbers-assignment T;
       uses = used-different T lengths;
       no-minute-above = together-most T;
-      some-minute = together-reached T lengths;
+      some-minute = some-reached T lengths;
       fewest = fewest T lengths;
     }
 

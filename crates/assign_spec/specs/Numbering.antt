@@ -90,5 +90,5 @@ pub record AssignPromises (T : Turns) (numbers : List ℕ) (used : ℕ) : Type 0
   pub no-overlap : Assignment T (numberIn numbers)
   pub uses : different (numberIn numbers) (T .count) ≡ used
   pub no-minute-above : (minute : ℕ) → heldTogether T minute ≤ used
-  pub some-minute : 0 < T .count → (minute : ℕ) × (heldTogether T minute ≡ used)
+  pub some-minute : (minute : ℕ) × (heldTogether T minute ≡ used)
   pub fewest : (f : ℕ → ℕ) → Assignment T f → used ≤ different f (T .count)

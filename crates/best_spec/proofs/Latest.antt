@@ -228,6 +228,15 @@ module _ (T : Turns) (lengths : PositiveLengths T) (free : NoDrivers T) (single 
       from : (y : ℕ) → isAmong (members (T .count) S) y ≡ true → has S y ≡ true
       from y a = among-all y (members-are (T .count) S) a .1
 
+  -- the one choice without a conflict that earns the best worth and leaves out the latest
+  pub best-only : (S : List Bool) → length S ≡ T .count → Independent T S → chosen (T .count) S (T .worth) ≡ bestWorth T → LeavesOutLatest T S → S ≡ bestChoice T
+  best-only S n apart earns latest = sym (latest-only T (bestChoice T) S (best-length T) n (best-later S n apart earns) later)
+    where
+      later : LaterIn T S (bestChoice T)
+      later x e f =
+          let (y, a, c, l) = latest (bestTurns T) (best-set T lengths free single) x e (fails (isAmong (bestTurns T) x) (λ h. not-both (among-choice T x h) f)) in
+          (y, among-choice T y a, c, l)
+
   pub best-choice-planned : ((t : ℕ) → t < T .count → 0 < T .worth t) → bestChoice T ≡ choice T
   best-choice-planned worths =
       latest-only T (bestChoice T) (choice T) (best-length T) (planned-length T)

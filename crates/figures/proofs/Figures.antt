@@ -1,7 +1,7 @@
 -- The numbers are those: each equation is computed, or is a law with its number written out. Assumes nothing.
 use Prim.Native.Nat.{_%_}
 use native.Mathlib.Omega.{arith}
-use borrow.Author.Tests.{ne-eqb, lt-ltb}
+use borrow.Author.Tests.{ne-eqb, lt-ltb, le-ltb}
 use mathlib.Core.Path.{refl, sym}
 use native.Mathlib.Numerals.{unary-clauses}
 use Rattle.turn.specs.Turn.{outsideRange}
@@ -115,6 +115,7 @@ figures =
       lone-price = λ change price. refl;
       highest-price = λ change k price l. rw (ne-eqb k 0 (λ e. omega (arith, l, e)), ne-eqb k 1 (λ e. omega (arith, l, e)));
       highest-minute = λ change units drawn price l. rw (lt-ltb units drawn l);
+      lower-minute = λ change units drawn price l. rw (le-ltb units drawn l);
       factor = λ p. p .twice;
       driven-factor = λ p. p .thrice;
       driven-one-turn = λ p. p .twice-one-turn;

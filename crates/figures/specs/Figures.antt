@@ -185,9 +185,10 @@ pub record Figures : Type 0 where
   -- a price that no turn pays falls by the change, and a difference of numbers is not below 0; one that a single turn pays stays
   pub unpaid-price : (change price : ℕ) → movedPrice change 0 price ≡ price - change
   pub lone-price : (change price : ℕ) → movedPrice change 1 price ≡ price
-  -- a price that k turns pay, k above 1, rises to 60,000 at most; one of a minute in which more than the units is drawn, to 65,535
+  -- a price that k turns pay, k above 1, rises to 60,000 at most; one of a minute in which more than the units is drawn, to 65,535; one of another minute falls, not below 0
   pub highest-price : (change k price : ℕ) → 2 ≤ k → movedPrice change k price ≡ min 60000 (price + (k - 1) * change)
   pub highest-minute : (change units drawn price : ℕ) → units < drawn → movedMinute change units drawn price ≡ min 65535 (price + (change * (drawn - units) + (units - 1)) / units)
+  pub lower-minute : (change units drawn price : ℕ) → drawn ≤ units → movedMinute change units drawn price ≡ price - change * (units - drawn) / units
   -- ---- the factors in the promises
 
   -- without drivers no feasible set is worth more than twice the tally

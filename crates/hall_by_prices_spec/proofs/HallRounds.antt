@@ -69,6 +69,11 @@ unfolding minutePrice
 first-list = record { minutes = length-replicate {A = ℕ} shiftMinutes 0; highest = zeros-bounded shiftMinutes highestMinutePrice }
 
 module _ (H : Hall) (S : List Bool) (change : ℕ) (prices : List ℕ) where
+  -- each minute's price is moved by what the set's windows draw in it
+  pub moved-minute : (m : ℕ) → m < shiftMinutes → minutePrice (movedMinutes H S change prices) m ≡ movedMinute change (H .units) (drawnAt H S m) (minutePrice prices m)
+  unfolding movedMinutes minutePrice
+  moved-minute m l = tab-at shiftMinutes (λ m. movedMinute change (H .units) (drawnAt H S m) (getD prices m 0)) 0 m l
+
   pub moved-list : MinuteList prices → MinuteList (movedMinutes H S change prices)
   unfolding movedMinutes minutePrice
   moved-list k =

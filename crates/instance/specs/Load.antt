@@ -22,7 +22,7 @@ shiftSize n = record { count = n; gap = shiftGap }
 unfoldable pub EndsFit : ℕ → List ℕ → Type 0
 EndsFit n table = (t : ℕ) → t < n → turnIn table t .start + turnIn table t .length < 65536
 
--- the first k columns have these values of the table's first n turns
+-- column j, for each j below k, has value j of each of the table's first n turns
 pub record Copied (table : List ℕ) (n : ℕ) (cols : List ℕ) (k : ℕ) : Type 0 where
   pub places : length cols ≡ columnPlaces
   pub values : (j t : ℕ) → j < k → t < n → getD cols (j * mostTurns + t) 0 ≡ getD table (t * rowNumbers + j) 0
