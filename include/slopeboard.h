@@ -31,7 +31,7 @@
  * - Times, measured and not proved, in microseconds: one call on the slowest sheets known, the best of many rounds
  *   over 64 sheets (reference/bench), on one core of an AMD EPYC server. slopeboard_list 137, slopeboard_plan 117,
  *   slopeboard_charge 60, slopeboard_check 57, slopeboard_play 47, slopeboard_keep 12, slopeboard_limit 10,
- *   slopeboard_assign 9.4, slopeboard_draw 8.2, slopeboard_write 6.3 (up to 13 on a table made to be slow to sort),
+ *   slopeboard_assign 9.4, slopeboard_draw 8.2, slopeboard_write 6.3 (some 30 on a table made to be slow to sort),
  *   slopeboard_charge_limit 6.0, slopeboard_restore 3.9, slopeboard_read 2.5, slopeboard_best 2.8; slopeboard_improve
  *   27 for 10,000 visits; slopeboard_refine 245 and slopeboard_charge_refine 447 for 50 rounds. A slower sheet may
  *   exist.
