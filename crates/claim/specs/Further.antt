@@ -1,8 +1,11 @@
 -- Worked cases beside the starred ones, through the same definitions: each says its rule or its request (document 01: the steps, the board, a right step, the listing; requests R-2, R-3, R-5). Assumes nothing.
 use mathlib.Core.Path.{_≡_}
-use mathlib.Core.List.{_++_}
+use mathlib.Core.List.{[], _∷_, _++_}
 use mathlib.Core.Bool.{true, false}
+use Rattle.model.specs.Pick.{steps}
+use Rattle.model.specs.Choice.{fits, goBack}
 use Rattle.sheet.specs.Read.{readOf, readRefused}
+use Rattle.instance_spec.specs.Problem.{sheetTurns}
 use Rattle.write_spec.specs.Write.{writeOf}
 use Rattle.board_open.specs.Chosen.{counted, countOf, turnChosen}
 use Rattle.check_spec.specs.Check.{checkOf, checked}
@@ -22,6 +25,9 @@ pub record FurtherCases : Type 0 where
   pub shift-chosen : turnChosen shiftBoard 1 ≡ true
   pub shift-not-chosen : turnChosen shiftBoard 0 ≡ false
   pub shift-no-turn : turnChosen shiftBoard 4 ≡ false
+  -- going back over the steps chooses turn 1 alone and leaves turn 2, which fits: without filling a board may not be full
+  pub left-unfilled : goBack (sheetTurns twoToFill) (steps (sheetTurns twoToFill)) ≡ false ∷ true ∷ false ∷ false ∷ []
+  pub still-fits : fits (sheetTurns twoToFill) (false ∷ true ∷ false ∷ false ∷ []) 2 ≡ true
   -- rule 4 of the steps: turns 2 and 3 both fit beside turn 1, but not together, and the lower number is filled in: worth 220. From the last turn down, by end or by worth it would be turn 3
   pub filled-in-order : planOf twoToFill (lent 32) ≡ beside (record { refusal = 0; bytes = 24 }) (filledBoard 220 6 ++ lent 8)
   -- the check asks for no order of filling: turn 3 in place of turn 2, worth 230, passes as well

@@ -1,8 +1,8 @@
 -- The numbers are those: each equation is computed, or is a law with its number written out. Assumes nothing.
-use Prim.Native.Nat.{_%_}
+use Prim.Native.Nat.{_+_, _%_}
 use native.Mathlib.Omega.{arith}
 use borrow.Author.Tests.{ne-eqb, lt-ltb, le-ltb}
-use mathlib.Core.Path.{refl, sym}
+use mathlib.Core.Path.{_≡_, refl, sym}
 use native.Mathlib.Numerals.{unary-clauses}
 use Rattle.turn.specs.Turn.{outsideRange}
 use Rattle.turn.proofs.Ranges.{inside-iff, within-iff}
@@ -11,6 +11,7 @@ use Rattle.sheet.specs.Record.{widthOf, field, turnFrom}
 use Rattle.sheet.proofs.Accepting.{read-accepted-iff}
 use Rattle.sheet.specs.Screen.{liftDesk}
 use Rattle.archive_spec.specs.Kept.{archive}
+use Rattle.choice_map.specs.Choice.{bitOf, chosenIn}
 use Rattle.instance_spec.specs.Problem.{problemOf, sheetTurns}
 use Rattle.plan_spec.proofs.PlanCauses.{plan-accepted-iff}
 use Rattle.draw_spec.specs.Draw.{nextDraw, turnDrawn}
@@ -28,7 +29,7 @@ use Rattle.hall_by_prices_spec.proofs.LimitCauses.{charge-limit-accepted-iff}
 use Rattle.figures.specs.Figures.{Figures}
 
 pub figures : Figures
-unfolding outsideRange garage withTurns widthOf field turnFrom liftDesk archive problemOf sheetTurns nextDraw turnDrawn isWide wideDraw roundedUp smallTakes chargingSheet startFrom firstChange nextChange movedPrice turnChange shiftStart windowPays supplyCost movedMinute hallStart
+unfolding outsideRange bitOf chosenIn garage withTurns widthOf field turnFrom liftDesk archive problemOf sheetTurns nextDraw turnDrawn isWide wideDraw roundedUp smallTakes chargingSheet startFrom firstChange nextChange movedPrice turnChange shiftStart windowPays supplyCost movedMinute hallStart
 figures =
     record {
       groomers = refl;
@@ -47,6 +48,8 @@ figures =
       board-mark = refl;
       kept-mark = refl;
       charging-mark = refl;
+      two-bytes = λ s at. omega arith;
+      four-bytes = λ s at. let e : at + 1 + 1 ≡ at + 2 = omega arith in rw e (omega arith);
       header = refl;
       header-counts = λ s. refl;
       header-turns = λ s. refl;
@@ -78,6 +81,7 @@ figures =
       board-worth = refl;
       map-bytes = λ n. refl;
       step-bytes = refl;
+      map-bit = λ map t. refl;
       board-bytes = λ n m. refl;
       planner-need = plan-accepted-iff;
       screen = refl;
@@ -116,6 +120,8 @@ figures =
       highest-price = λ change k price l. rw (ne-eqb k 0 (λ e. omega (arith, l, e)), ne-eqb k 1 (λ e. omega (arith, l, e)));
       highest-minute = λ change units drawn price l. rw (lt-ltb units drawn l);
       lower-minute = λ change units drawn price l. rw (le-ltb units drawn l);
+      empty-worth = λ T. refl;
+      added-worth = λ T t R. refl;
       factor = λ p. p .twice;
       driven-factor = λ p. p .thrice;
       driven-one-turn = λ p. p .twice-one-turn;

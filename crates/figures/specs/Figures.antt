@@ -1,11 +1,11 @@
 -- The numbers that the format's description fixes, on one page: each is said of a definition with a literal, mostly as an equation (documents 01, 02 and 03). Assumes nothing.
-use Prim.Native.Nat.{ℕ, _+_, _-_, _*_, _/_, _%_, _≤_, _<_, max, min}
+use Prim.Native.Nat.{ℕ, _+_, _-_, _*_, _/_, _%_, _^_, _≤_, _<_, max, min}
 use mathlib.Core.Path.{_≡_}
 use mathlib.Core.Bool.{Bool, true, false}
 use mathlib.Core.Logic.{_↔_}
 use mathlib.Core.List.{List, [], _∷_}
-use lib.Dec.{ltb}
-use lib.ListN.{length}
+use lib.Dec.{ltb, eqb}
+use lib.ListN.{length, getD}
 use lib.IntN.{pos, negℤ}
 use Rattle.lists.specs.Lists.{sum, below}
 use Rattle.refusal.specs.Number.{truncated, badMagic, badCounts, tooManyTurns, badMap, badSlope, badGroomer, badTime, badWorth, trailingBytes, bufferTooSmall, malformedBoard, chosenConflict, notMaximal, wrongStep, turnLeftOpen, wrongSums, partialTurn, badDriver, tooManyForScreen, notSingleTurns, tooManyToSearch, badSeed, badDelays, badDraw, badPrices}
@@ -20,7 +20,7 @@ use Rattle.sheet.specs.Read.{headerBytes, countsIn, turnCount, readOf}
 use Rattle.sheet.specs.Accepted.{Accepted}
 use Rattle.sheet.specs.Screen.{screenTurns, liftDesk}
 use Rattle.archive_spec.specs.Kept.{archive}
-use Rattle.choice_map.specs.Choice.{mapBytes}
+use Rattle.choice_map.specs.Choice.{mapBytes, chosenIn}
 use Rattle.board.specs.Board.{turnsPlace, stepCountPlace, tallyPlace, worthPlace, boardHeader, stepSize, boardLength}
 use Rattle.instance_spec.specs.Problem.{shiftGap, sheetTurns}
 use Rattle.model.specs.Turns.{Turns, NoDrivers}
@@ -72,6 +72,9 @@ pub record Figures : Type 0 where
   pub board-mark : boardMark ≡ 0x47 ∷ 0x52 ∷ 0x42 ∷ []
   pub kept-mark : keptMark ≡ 0x47 ∷ 0x52 ∷ 0x43 ∷ []
   pub charging-mark : chargingMark ≡ 0x47 ∷ 0x52 ∷ 0x45 ∷ []
+  -- numbers of two and of four bytes have their high byte first
+  pub two-bytes : (s : List ℕ) (at : ℕ) → valueAt s at 2 ≡ 256 * getD s at 0 + getD s (at + 1) 0
+  pub four-bytes : (s : List ℕ) (at : ℕ) → valueAt s at 4 ≡ 65536 * valueAt s at 2 + valueAt s (at + 2) 2
   -- a header of 7 bytes: behind the mark a byte of groomers, a byte of slopes, two bytes of turns
   pub header : headerBytes ≡ 7
   pub header-counts : (s : List ℕ) → countsIn s ≡ record { groomers = valueAt s 3 1; slopes = valueAt s 4 1 }
@@ -128,6 +131,8 @@ pub record Figures : Type 0 where
   -- then a bit a turn, in whole bytes, and four bytes a step
   pub map-bytes : (n : ℕ) → mapBytes n ≡ (n + 7) / 8
   pub step-bytes : stepSize ≡ 4
+  -- the bit of turn t is bit t % 8, from the lowest, of byte t / 8 of the map
+  pub map-bit : (map : List ℕ) (t : ℕ) → chosenIn map t ≡ eqb (getD map (t / 8) 0 / 2 ^ (t % 8) % 2) 1
   pub board-bytes : (n m : ℕ) → boardLength n m ≡ 15 + (n + 7) / 8 + 4 * m
   -- the planner needs the bytes of a board with as many steps as turns
   pub planner-need : {s : List ℕ} → Bytes s → (lent : List ℕ) → (planOf s lent .answer .refusal ≡ 0) ↔ (Accepted s × (15 + (turnCount s + 7) / 8 + 4 * turnCount s ≤ length lent))
@@ -191,6 +196,9 @@ pub record Figures : Type 0 where
   pub lower-minute : (change units drawn price : ℕ) → drawn ≤ units → movedMinute change units drawn price ≡ price - change * (units - drawn) / units
   -- ---- the factors in the promises
 
+  -- the worth of a set is the sum of its turns' worths, and 0 of the empty set
+  pub empty-worth : (T : Turns) → worthOf T [] ≡ 0
+  pub added-worth : (T : Turns) (t : ℕ) (R : List ℕ) → worthOf T (t ∷ R) ≡ T .worth t + worthOf T R
   -- without drivers no feasible set is worth more than twice the tally
   pub factor : {T : Turns} {S : List Bool} {tallied worth bound : ℕ} → Promises T S tallied worth bound → NoDrivers T → (R : List ℕ) → Feasible T R → worthOf T R ≤ 2 * tallied
   -- with drivers, than three times the tally, or twice where no slope has two turns

@@ -87,8 +87,6 @@ module _ (H : Hall) (vehicles : ℕ) where
   abbrev start : Stage
   start = hallStart H vehicles
 
-  -- ---- before the first look
-
   -- ---- each round
 
   moves : (change : ℕ) (prices : List ℕ) → MinuteList prices → MinuteList (R .moved change prices)
