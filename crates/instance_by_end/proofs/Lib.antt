@@ -1,3 +1,3 @@
 pub mod Orders
 pub mod Placed
-pub mod Numbers
+pub mod PutBack

@@ -8,9 +8,8 @@ use lib.Dec.{ltb}
 use lib.ListN.{length, getD}
 use Rattle.lists.specs.Order.{orderBy}
 use Rattle.model.specs.Turns.{Turns}
-use Rattle.instance.specs.declared.ways.Row.{Row}
 use Rattle.instance.specs.declared.columns.Size.{Size}
-use Rattle.instance.specs.Columns.{columnPlaces, rowIn, turnsBy, Held}
+use Rattle.instance.specs.Columns.{rowIn, turnsBy, Held}
 
 -- all turns by end, and those of one end by number
 unfoldable pub byEnd : Turns → List ℕ
@@ -23,22 +22,6 @@ turnAt order i = getD order i 0
 -- the place of a turn, by a list of places; what is no turn is behind the last one
 unfoldable pub placeAt : List ℕ → ℕ → ℕ
 placeAt places t = cond (ltb t (length places)) (getD places t 0) (length places)
-
--- a row with a turn's number in place of its worth
-unfoldable pub numbered : ℕ → Row → Row
-numbered t r =
-    record {
-      slope = r .slope;
-      groomer = r .groomer;
-      start = r .start;
-      end = r .end;
-      worth = t;
-      driver = r .driver;
-    }
-
--- the number that such rows have at a place
-abbrev pub numberAt : List ℕ → ℕ → ℕ
-numberAt cols i = rowIn cols i .worth
 
 -- ---- as statements
 
@@ -70,9 +53,3 @@ PlacesTo order places i = (k : ℕ) → k < i → getD places (turnAt order k) 0
 pub record PlacesOfAll (order places : List ℕ) : Type 0 where
   pub many : length places ≡ length order
   pub at : PlacesTo order places (length order)
-
--- of n rows the first i have their turns' numbers in place of their worths, the others are as they were
-pub record Numbered (n : ℕ) (order old own : List ℕ) (i : ℕ) : Type 0 where
-  pub places : length own ≡ columnPlaces
-  pub rows : (k : ℕ) → k < i → rowIn own k ≡ numbered (turnAt order k) (rowIn old k)
-  pub others : (k : ℕ) → i ≤ k → k < n → rowIn own k ≡ rowIn old k

@@ -5,7 +5,7 @@ ghost use Prim.Native.Nat.{_≤_, _<_};
 ghost use lib.ListN.{length, set};
 ghost use Rattle.sheet.specs.Kind.{mostTurns};
 ghost use Rattle.instance.specs.Columns.{columnPlaces, rowIn, turnsBy, Held};
-ghost use Rattle.instance_by_end.specs.Placing.{byEnd, placeAt, numbered, PutByEnd, Permutation, PlacesOfAll, Numbered};
+ghost use Rattle.instance_by_end.specs.Placing.{byEnd, placeAt, PutByEnd, Permutation, PlacesOfAll};
 use instance::PLACES;
 use instance::Row;
 use instance::Size;
@@ -52,35 +52,6 @@ pub fn put_by_end(p: Size, cols: &[u16; PLACES], order: &mut [u16], own: &mut [u
 {
     set_by_end(p, cols, &mut *order, &mut *own);
     put_rows(p, cols, &*order, &mut *own);
-}
-
-// A row with a turn's number in place of its worth.
-fn with_number(x: Row, t: u16) -> Row
-    ensures { λ r. ⌜ r ≡ numbered t x ⌝ }
-{
-    Row {
-        slope: x.slope,
-        groomer: x.groomer,
-        start: x.start,
-        end: x.end,
-        worth: t,
-        driver: x.driver,
-    }
-}
-
-// In rows that stand in an order, each turn's own number takes the place of its worth. Once the residuals are
-// set, no step asks for a worth, and the order needs no space of its own.
-pub fn put_numbers(p: Size, order: &[u16], own: &mut [u16; PLACES])
-    requires { ⌜ (p .count ≤ mostTurns) × (length (now order) ≡ p .count) × (length (now own) ≡ columnPlaces) ⌝ }
-    ensures { λ _. ⌜ Numbered (p .count) (now (order .entry)) (now (own .entry)) (now (own .exit)) (p .count) ⌝ }
-{
-    let n = p.count;
-    let mut i = 0;
-    while i < n {
-        let row = with_number(row_at(&*own, i), order[i]);
-        put_row(&mut *own, i, row);
-        i += 1;
-    }
 }
 
 // Turn t has place i.
