@@ -10,8 +10,8 @@
  * two turns are enough. Driver 0 is none. A feasible set is a set of a sheet's turns of which no two conflict; it is
  * worth what its turns are worth together.
  *
- * Link libslopeboard.a. It asks for memcpy and memset and nothing else. The archive is for x86-64; calls and structs
- * are as the System V ABI says.
+ * Link libslopeboard.a. It asks for memcpy, memmove and memset and nothing else. The archive is for x86-64; calls and
+ * structs are as the System V ABI says.
  *
  * What holds for every function:
  *
@@ -113,8 +113,8 @@ enum {
 #define SLOPEBOARD_MOST_TEXT_BYTES 4096
 
 /* The stack that each function needs, in bytes: read off the compiled code of this archive, with the arguments that
- * are not in registers and with what the ABI lets a function write below the stack pointer. What memcpy and memset
- * need beyond their return address comes on top. */
+ * are not in registers and with what the ABI lets a function write below the stack pointer. What memcpy, memmove
+ * and memset need beyond their return address comes on top. */
 #define SLOPEBOARD_STACK_ASSIGN 10736
 #define SLOPEBOARD_STACK_BEST 14016
 #define SLOPEBOARD_STACK_CHARGE 24896
@@ -123,7 +123,7 @@ enum {
 #define SLOPEBOARD_STACK_CHECK 13360
 #define SLOPEBOARD_STACK_COUNT 8
 #define SLOPEBOARD_STACK_DRAW 3748
-#define SLOPEBOARD_STACK_IMPROVE 14928
+#define SLOPEBOARD_STACK_IMPROVE 16160
 #define SLOPEBOARD_STACK_IS_CHOSEN 8
 #define SLOPEBOARD_STACK_KEEP 5392
 #define SLOPEBOARD_STACK_LIMIT 20592
