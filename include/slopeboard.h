@@ -10,8 +10,8 @@
  * two turns are enough. Driver 0 is none. A feasible set is a set of a sheet's turns of which no two conflict; it is
  * worth what its turns are worth together.
  *
- * Link libslopeboard.a. It asks for memcpy and memset and nothing else. The archive is for x86-64; calls and structs
- * are as the System V ABI says.
+ * Link libslopeboard.a. It asks for memcpy, memmove and memset and nothing else. The archive is for x86-64; calls and
+ * structs are as the System V ABI says.
  *
  * What holds for every function:
  *
@@ -29,12 +29,12 @@
  * - All working space is on the caller's stack: at most SLOPEBOARD_STACK_.. bytes, given for each function below. No
  *   function calls itself but the search of slopeboard_improve, one level deeper for each of at most 64 turns.
  * - Times, measured and not proved, in microseconds: one call on the slowest sheets known, the best of many rounds
- *   over 64 sheets (reference/bench), on one core of an AMD EPYC server. slopeboard_list 137, slopeboard_plan 117,
- *   slopeboard_charge 60, slopeboard_check 57, slopeboard_play 47, slopeboard_keep 12, slopeboard_limit 10,
- *   slopeboard_assign 9.4, slopeboard_draw 8.2, slopeboard_write 6.3 (some 30 on a table made to be slow to sort),
- *   slopeboard_charge_limit 6.0, slopeboard_restore 3.9, slopeboard_read 2.5, slopeboard_best 2.8; slopeboard_improve
- *   27 for 10,000 visits; slopeboard_refine 245 and slopeboard_charge_refine 447 for 50 rounds. A slower sheet may
- *   exist.
+ *   over 64 sheets (reference/bench), on one core of an AMD EPYC server that others used too. slopeboard_charge 148,
+ *   slopeboard_list 139, slopeboard_plan 121, slopeboard_play 69, slopeboard_check 61, slopeboard_assign 16,
+ *   slopeboard_limit 13, slopeboard_keep 12, slopeboard_draw 8.1, slopeboard_write 6.3 (some 30 on a table made to be
+ *   slow to sort), slopeboard_charge_limit 6.0, slopeboard_restore 3.9, slopeboard_read 2.5, slopeboard_best 2.5;
+ *   slopeboard_improve 51 for 10,000 visits; slopeboard_refine 270 and slopeboard_charge_refine 455 for 50 rounds. A
+ *   slower sheet may exist.
  */
 #ifndef SLOPEBOARD_H
 #define SLOPEBOARD_H
@@ -113,8 +113,8 @@ enum {
 #define SLOPEBOARD_MOST_TEXT_BYTES 4096
 
 /* The stack that each function needs, in bytes: read off the compiled code of this archive, with the arguments that
- * are not in registers and with what the ABI lets a function write below the stack pointer. What memcpy and memset
- * need beyond their return address comes on top. */
+ * are not in registers and with what the ABI lets a function write below the stack pointer. What memcpy, memmove
+ * and memset need beyond their return address comes on top. */
 #define SLOPEBOARD_STACK_ASSIGN 10736
 #define SLOPEBOARD_STACK_BEST 14016
 #define SLOPEBOARD_STACK_CHARGE 24896
@@ -123,7 +123,7 @@ enum {
 #define SLOPEBOARD_STACK_CHECK 13360
 #define SLOPEBOARD_STACK_COUNT 8
 #define SLOPEBOARD_STACK_DRAW 3748
-#define SLOPEBOARD_STACK_IMPROVE 14928
+#define SLOPEBOARD_STACK_IMPROVE 16160
 #define SLOPEBOARD_STACK_IS_CHOSEN 8
 #define SLOPEBOARD_STACK_KEEP 5392
 #define SLOPEBOARD_STACK_LIMIT 20592

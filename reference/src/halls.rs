@@ -110,6 +110,18 @@ pub fn all_together(rng: &mut Rng, windows: usize) -> Hall {
     hall
 }
 
+/// Small draws, and each step takes 1 from every open window: all hold one
+/// minute, and the worths rise by 1 with the ends.
+pub fn one_from_all(rng: &mut Rng, windows: usize) -> Hall {
+    let mut hall = small_draws(rng, windows);
+    for (number, [_, _, start, length, worth, _]) in (0..).zip(&mut hall.windows) {
+        *start = rng.below(400) as u16;
+        *length = 401 + number - *start;
+        *worth = 1 + number;
+    }
+    hall
+}
+
 /// Up to so many windows in few minutes, for trying every set.
 pub fn small(rng: &mut Rng, most: u32) -> Hall {
     let windows = rng.between(0, most) as usize;

@@ -13,10 +13,13 @@
 //! `include/slopeboard.h`.
 //!
 //! To build, the environment variable `SLOPEBOARD_LIB_DIR` names the folder of
-//! `libslopeboard.a`, an archive for x86-64. Nothing here needs an operating
-//! system or a heap; how much stack each function needs is in the header, too.
+//! `libslopeboard.a`, an archive for x86-64. A relative name is sought from this
+//! package's folder, then from each folder above it. Nothing here needs an
+//! operating system or a heap, and nothing panics; how much stack each function
+//! needs is in the header, too.
 
 #![no_std]
+#![deny(missing_docs)]
 
 pub mod raw;
 mod refusal;
@@ -31,6 +34,7 @@ pub const VERSION: u32 = 18;
 /// Numbers that a turn takes in a turn table: slope, groomer, start, length,
 /// worth, driver. Driver 0 is none.
 pub const NUMBERS_PER_TURN: usize = 6;
+/// Turns that a sheet has at most.
 pub const MOST_TURNS: usize = 400;
 /// Turns that [`read_short`] takes at most.
 pub const MOST_SHORT_TURNS: usize = 96;
@@ -38,7 +42,9 @@ pub const MOST_SHORT_TURNS: usize = 96;
 pub const MOST_SEARCHED_TURNS: usize = 64;
 /// The greatest seed that [`draw`] takes; the least is 1.
 pub const MOST_SEED: u64 = 2_147_483_646;
+/// Groomers that a sheet has at most.
 pub const MOST_GROOMERS: usize = 16;
+/// Slopes that a sheet has at most.
 pub const MOST_SLOPES: usize = 120;
 /// The highest number of a driver.
 pub const MOST_DRIVER: u16 = 40;
@@ -73,8 +79,11 @@ pub const fn map_bytes(turns: usize) -> usize {
 /// The counts in the header of a sheet.
 #[derive(Clone, Copy, Debug, PartialEq, Eq)]
 pub struct Counts {
+    /// Groomers, numbered from 1.
     pub groomers: u16,
+    /// Slopes, numbered from 1.
     pub slopes: u16,
+    /// Turns, numbered from 0 in the order of the sheet.
     pub turns: u16,
 }
 
@@ -85,8 +94,11 @@ pub struct Counts {
 /// than 0) by both with fewer than ten free minutes between.
 #[derive(Clone, Copy, Debug, PartialEq, Eq)]
 pub struct Sums {
+    /// The amounts of all steps together.
     pub tally: u32,
+    /// What the chosen turns are worth together.
     pub worth: u32,
+    /// The amounts of all steps, each counted once, twice or three times.
     pub ceiling: u32,
 }
 
@@ -178,7 +190,10 @@ pub fn open(board: &[u8]) -> Result<(), Refusal> {
 /// empty if the board does not open.
 pub fn steps(board: &[u8]) -> &[u8] {
     let part = unsafe { raw::slopeboard_steps(board.as_ptr(), board.len()) };
-    &board[part.start..][..part.length]
+    let steps = board
+        .get(part.start..)
+        .and_then(|rest| rest.get(..part.length));
+    steps.unwrap_or_default()
 }
 
 /// How many turns are chosen in a board.
@@ -254,7 +269,7 @@ pub fn improve(sheet: &[u8], visits: u64, map: &mut [u8]) -> Result<Improved, Re
 }
 
 /// Draws so many turns from a seed, for so many groomers and slopes, writes the
-/// sheet that [`write`] makes of them and gives its length. The same numbers
+/// sheet that [`write()`] makes of them and gives its length. The same numbers
 /// give the same sheet everywhere. No turn names a driver.
 pub fn draw(
     seed: u64,

@@ -5,9 +5,13 @@
 #[repr(C)]
 #[derive(Clone, Copy, Debug, PartialEq, Eq)]
 pub struct ReadAnswer {
+    /// 0, or why it refused.
     pub refusal: u8,
+    /// How many groomers the sheet has.
     pub groomers: u16,
+    /// How many slopes the sheet has.
     pub slopes: u16,
+    /// How many turns the sheet has.
     pub turns: u16,
 }
 
@@ -15,7 +19,9 @@ pub struct ReadAnswer {
 #[repr(C)]
 #[derive(Clone, Copy, Debug, PartialEq, Eq)]
 pub struct WriteAnswer {
+    /// 0, or why it refused.
     pub refusal: u8,
+    /// How many were written, from the buffer's start.
     pub bytes: u32,
 }
 
@@ -23,7 +29,9 @@ pub struct WriteAnswer {
 #[repr(C)]
 #[derive(Clone, Copy, Debug, PartialEq, Eq)]
 pub struct Part {
+    /// The place of the first byte.
     pub start: usize,
+    /// How many bytes, four a step.
     pub length: usize,
 }
 
@@ -31,7 +39,9 @@ pub struct Part {
 #[repr(C)]
 #[derive(Clone, Copy, Debug, PartialEq, Eq)]
 pub struct CountAnswer {
+    /// 0, or why it refused.
     pub refusal: u8,
+    /// How many turns are chosen.
     pub turns: u32,
 }
 
@@ -39,9 +49,13 @@ pub struct CountAnswer {
 #[repr(C)]
 #[derive(Clone, Copy, Debug, PartialEq, Eq)]
 pub struct CheckAnswer {
+    /// 0, or why it refused.
     pub refusal: u8,
+    /// The amounts of all steps together.
     pub tally: u32,
+    /// What the chosen turns are worth together.
     pub worth: u32,
+    /// What no feasible set is worth more than.
     pub ceiling: u32,
 }
 
@@ -49,7 +63,9 @@ pub struct CheckAnswer {
 #[repr(C)]
 #[derive(Clone, Copy, Debug, PartialEq, Eq)]
 pub struct AssignAnswer {
+    /// 0, or why it refused.
     pub refusal: u8,
+    /// How many do all turns.
     pub groomers: u16,
 }
 
@@ -57,7 +73,9 @@ pub struct AssignAnswer {
 #[repr(C)]
 #[derive(Clone, Copy, Debug, PartialEq, Eq)]
 pub struct BestAnswer {
+    /// 0, or why it refused.
     pub refusal: u8,
+    /// What the turns in the map are worth.
     pub worth: u32,
 }
 
@@ -65,10 +83,15 @@ pub struct BestAnswer {
 #[repr(C)]
 #[derive(Clone, Copy, Debug, PartialEq, Eq)]
 pub struct ImproveAnswer {
+    /// 0, or why it refused.
     pub refusal: u8,
+    /// Whether the search ran to its end.
     pub whole: bool,
+    /// What the turns in the map are worth.
     pub worth: u32,
+    /// The ceiling of the planned board less this worth.
     pub above: u32,
+    /// How many were made.
     pub visits: u64,
 }
 
@@ -77,9 +100,13 @@ pub struct ImproveAnswer {
 #[repr(C)]
 #[derive(Clone, Copy, Debug, Default, PartialEq, Eq)]
 pub struct Standing {
+    /// Minutes in which it worked on a turn.
     pub working: u16,
+    /// Minutes in which it drove over: the ten after each turn.
     pub driving: u16,
+    /// All other minutes.
     pub standing: u16,
+    /// The turn worked in minute 959, 65,535 if none.
     pub turn: u16,
 }
 
@@ -87,7 +114,9 @@ pub struct Standing {
 #[repr(C)]
 #[derive(Clone, Copy, Debug, PartialEq, Eq)]
 pub struct PlayAnswer {
+    /// 0, or why it refused.
     pub refusal: u8,
+    /// How many places of the list were written.
     pub groomers: u16,
 }
 
@@ -95,7 +124,9 @@ pub struct PlayAnswer {
 #[repr(C)]
 #[derive(Clone, Copy, Debug, PartialEq, Eq)]
 pub struct ChargeAnswer {
+    /// 0, or why it refused.
     pub refusal: u8,
+    /// What the windows in the map are worth.
     pub worth: u32,
 }
 
@@ -103,7 +134,9 @@ pub struct ChargeAnswer {
 #[repr(C)]
 #[derive(Clone, Copy, Debug, PartialEq, Eq)]
 pub struct LimitAnswer {
+    /// 0, or why it refused.
     pub refusal: u8,
+    /// What no feasible set, or no allowed set of windows, is worth more than.
     pub limit: u32,
 }
 
@@ -111,10 +144,15 @@ pub struct LimitAnswer {
 #[repr(C)]
 #[derive(Clone, Copy, Debug, PartialEq, Eq)]
 pub struct RefineAnswer {
+    /// 0, or why it refused.
     pub refusal: u8,
+    /// How many bytes the board has.
     pub bytes: u32,
+    /// What its chosen turns are worth.
     pub worth: u32,
+    /// The limit at the written prices.
     pub limit: u32,
+    /// How many were made.
     pub rounds: u32,
 }
 
@@ -122,13 +160,18 @@ pub struct RefineAnswer {
 #[repr(C)]
 #[derive(Clone, Copy, Debug, PartialEq, Eq)]
 pub struct ChargeRefineAnswer {
+    /// 0, or why it refused.
     pub refusal: u8,
+    /// What the windows in the map are worth.
     pub worth: u32,
+    /// The limit at the written prices.
     pub limit: u32,
+    /// How many were made.
     pub rounds: u32,
 }
 
 extern "C" {
+    /// Reads a sheet into a turn table.
     pub fn slopeboard_read(
         sheet: *const u8,
         sheet_len: usize,
@@ -136,6 +179,7 @@ extern "C" {
         table_len: usize,
     ) -> ReadAnswer;
 
+    /// Reads a sheet of at most 96 turns.
     pub fn slopeboard_read_short(
         sheet: *const u8,
         sheet_len: usize,
@@ -143,6 +187,7 @@ extern "C" {
         table_len: usize,
     ) -> ReadAnswer;
 
+    /// Writes the sheet of a turn table.
     pub fn slopeboard_write(
         groomers: u32,
         slopes: u32,
@@ -152,6 +197,7 @@ extern "C" {
         bytes_len: usize,
     ) -> WriteAnswer;
 
+    /// Plans a sheet's turns and writes the board.
     pub fn slopeboard_plan(
         sheet: *const u8,
         sheet_len: usize,
@@ -159,14 +205,19 @@ extern "C" {
         board_len: usize,
     ) -> WriteAnswer;
 
+    /// Gives 0 if the bytes are a board, else 12.
     pub fn slopeboard_open(board: *const u8, board_len: usize) -> u8;
 
+    /// Finds the steps in a board.
     pub fn slopeboard_steps(board: *const u8, board_len: usize) -> Part;
 
+    /// Counts the chosen turns of a board.
     pub fn slopeboard_count(board: *const u8, board_len: usize) -> CountAnswer;
 
+    /// Tells whether a turn is chosen in a board.
     pub fn slopeboard_is_chosen(board: *const u8, board_len: usize, turn: usize) -> bool;
 
+    /// Checks a board against a sheet.
     pub fn slopeboard_check(
         sheet: *const u8,
         sheet_len: usize,
@@ -174,6 +225,7 @@ extern "C" {
         board_len: usize,
     ) -> CheckAnswer;
 
+    /// Plans a sheet's turns and writes the drivers' listing.
     pub fn slopeboard_list(
         sheet: *const u8,
         sheet_len: usize,
@@ -181,6 +233,7 @@ extern "C" {
         text_len: usize,
     ) -> WriteAnswer;
 
+    /// Gives every turn a groomer, as few groomers as can be.
     pub fn slopeboard_assign(
         sheet: *const u8,
         sheet_len: usize,
@@ -188,6 +241,7 @@ extern "C" {
         places_len: usize,
     ) -> AssignAnswer;
 
+    /// Works out the best worth where no slope has two turns and no turn a driver.
     pub fn slopeboard_best(
         sheet: *const u8,
         sheet_len: usize,
@@ -195,6 +249,7 @@ extern "C" {
         map_len: usize,
     ) -> BestAnswer;
 
+    /// Searches for a set that is worth more than the planned board.
     pub fn slopeboard_improve(
         sheet: *const u8,
         sheet_len: usize,
@@ -203,6 +258,7 @@ extern "C" {
         map_len: usize,
     ) -> ImproveAnswer;
 
+    /// Draws a sheet from a seed.
     pub fn slopeboard_draw(
         seed: u64,
         groomers: u32,
@@ -212,6 +268,7 @@ extern "C" {
         bytes_len: usize,
     ) -> WriteAnswer;
 
+    /// Writes the kept form of a sheet.
     pub fn slopeboard_keep(
         sheet: *const u8,
         sheet_len: usize,
@@ -219,6 +276,7 @@ extern "C" {
         kept_len: usize,
     ) -> WriteAnswer;
 
+    /// Writes the sheet of a kept form.
     pub fn slopeboard_restore(
         kept: *const u8,
         kept_len: usize,
@@ -226,6 +284,7 @@ extern "C" {
         sheet_len: usize,
     ) -> WriteAnswer;
 
+    /// Plays a board with delays.
     pub fn slopeboard_play(
         sheet: *const u8,
         sheet_len: usize,
@@ -237,6 +296,7 @@ extern "C" {
         list_len: usize,
     ) -> PlayAnswer;
 
+    /// Plans the windows of a charging hall.
     pub fn slopeboard_charge(
         sheet: *const u8,
         sheet_len: usize,
@@ -244,6 +304,7 @@ extern "C" {
         map_len: usize,
     ) -> ChargeAnswer;
 
+    /// Works out a limit by prices.
     pub fn slopeboard_limit(
         sheet: *const u8,
         sheet_len: usize,
@@ -251,6 +312,7 @@ extern "C" {
         prices_len: usize,
     ) -> LimitAnswer;
 
+    /// Makes a better board, and a low limit, by rounds.
     pub fn slopeboard_refine(
         sheet: *const u8,
         sheet_len: usize,
@@ -261,6 +323,7 @@ extern "C" {
         prices_len: usize,
     ) -> RefineAnswer;
 
+    /// Works out a hall's limit by prices.
     pub fn slopeboard_charge_limit(
         sheet: *const u8,
         sheet_len: usize,
@@ -268,6 +331,7 @@ extern "C" {
         prices_len: usize,
     ) -> LimitAnswer;
 
+    /// Makes a better choice of windows, and a low limit, by rounds.
     pub fn slopeboard_charge_refine(
         sheet: *const u8,
         sheet_len: usize,

@@ -17,7 +17,8 @@ pub enum Refusal {
     BadCounts = 3,
     /// More than 400 turns.
     TooManyTurns = 4,
-    /// A record's map has an unknown bit, or the first lacks a field.
+    /// A map is above 3F, or the first is neither 1F nor 3F; in a charging sheet
+    /// a map is above 1F, or the first is not 1F.
     BadMap = 5,
     /// A turn's slope, or a window's vehicle, is 0 or above the count.
     BadSlope = 6,
@@ -62,6 +63,9 @@ pub enum Refusal {
     /// The price list has not one number for each slope and each turn; for a
     /// hall, not one for each minute.
     BadPrices = 26,
+    /// A number that is none of these. The library gives none of them; the archive
+    /// of another version might.
+    Unknown = u8::MAX,
 }
 
 /// By number, from 1.
@@ -95,6 +99,7 @@ const ALL: [Refusal; 26] = [
 ];
 
 impl Refusal {
+    /// Its number in the header.
     pub fn number(self) -> u8 {
         self as u8
     }
@@ -111,7 +116,7 @@ pub(crate) fn none(number: u8) -> Result<(), Refusal> {
     if number == 0 {
         return Ok(());
     }
-    Err(Refusal::from_number(number).expect("the library gives no other number"))
+    Err(Refusal::from_number(number).unwrap_or(Refusal::Unknown))
 }
 
 impl fmt::Display for Refusal {

@@ -13,8 +13,8 @@
 //! machine down for a while meets both. The best is the fastest round, the
 //! median that of all rounds; the ratio is library to reference by the
 //! medians, the growth is the library's median against that of half as many
-//! turns. A row marked * has the sheets on which the library is known to be
-//! slowest.
+//! turns. Of an entry's rows, that with the library's greatest best is marked *:
+//! such rows give the times in the header.
 //!
 //! All sheets that are random are drawn from a seed as the library draws them:
 //! lengths from 30 to 90, worths from 1 to 60,000.
@@ -23,11 +23,13 @@ use std::env;
 use std::hint::black_box;
 use std::time::{Duration, Instant};
 
-use slopeboard_reference::gen::{self, Rng, Shift};
+use slopeboard_reference::gen::{self, Rng, Row, Shift};
+use slopeboard_reference::halls::{self, Hall};
 use slopeboard_reference::limits::{
     LAST_END, MOST_DELAY, MOST_GROOMERS, MOST_WORTH, NUMBERS_PER_TURN,
 };
-use slopeboard_reference::{fast, halls, naive, prices, shapes};
+use slopeboard_reference::{fast, naive, prices, shapes};
+use Kind::{Turns, Windows};
 
 /// How many different sheets a row goes over.
 const SHEETS: usize = 64;
@@ -40,7 +42,8 @@ const ROUNDS: [usize; 2] = [15, 401];
 
 /// A turn table with its counts, a sheet with its turns in that order, the
 /// planner's board for it, its kept form, delays, prices and room for others,
-/// charging sheets of as many windows, a seed, and room for any answer.
+/// a seed, and room for any answer. Of a charging sheet there is no board and no
+/// kept form.
 struct Job {
     groomers: u32,
     slopes: u32,
@@ -52,9 +55,6 @@ struct Job {
     prices: Vec<u16>,
     minutes: Vec<u16>,
     room: Vec<u16>,
-    hall: Vec<u8>,
-    small_hall: Vec<u8>,
-    full_hall: Vec<u8>,
     seed: u64,
     numbers: Vec<u16>,
     bytes: Vec<u8>,
@@ -63,46 +63,50 @@ struct Job {
 }
 
 impl Job {
-    fn new(rng: &mut Rng, shift: &Shift) -> Job {
+    fn of_shift(rng: &mut Rng, shift: &Shift) -> Job {
         let sheet = gen::encode(rng, shift, 0).bytes;
         let mut board = vec![0; slopeboard::board_bytes(shift.turns.len())];
         let len = fast::plan(&sheet, &mut board).expect("the sheet is accepted");
         board.truncate(len);
         let mut kept = vec![0; sheet.len()];
         fast::keep(&sheet, &mut kept).expect("the sheet is accepted");
-        let hall = halls::usual(rng, shift.turns.len());
-        let hall = halls::encode(rng, &hall, 0).bytes;
-        let small_hall = halls::small_draws(rng, shift.turns.len());
-        let small_hall = halls::encode(rng, &small_hall, 0).bytes;
-        let full_hall = halls::all_together(rng, shift.turns.len());
-        let full_hall = halls::encode(rng, &full_hall, 0).bytes;
+        let counts = [shift.groomers, shift.slopes].map(u32::from);
+        let job = Job::new(rng, counts, &shift.turns, sheet);
+        Job { board, kept, ..job }
+    }
+
+    fn of_hall(rng: &mut Rng, hall: &Hall) -> Job {
+        let sheet = halls::encode(rng, hall, 0).bytes;
+        let counts = [hall.units, hall.vehicles].map(u32::from);
+        Job::new(rng, counts, &hall.windows, sheet)
+    }
+
+    fn new(rng: &mut Rng, [groomers, slopes]: [u32; 2], rows: &[Row], sheet: Vec<u8>) -> Job {
         let seed = 1 + u64::from(rng.below(2_147_483_646));
         let delay = |_| rng.between(0, MOST_DELAY.into()) as u16;
-        let delays: Vec<u16> = shift.turns.iter().map(delay).collect();
-        let count = usize::from(shift.slopes) + shift.turns.len();
+        let delays: Vec<u16> = rows.iter().map(delay).collect();
+        let count = slopes as usize + rows.len();
         let prices = prices::list(rng, 4, count, MOST_WORTH.into());
         Job {
-            groomers: shift.groomers.into(),
-            slopes: shift.slopes.into(),
-            table: shift.turns.concat(),
+            groomers,
+            slopes,
+            table: rows.concat(),
             sheet,
-            board,
-            kept,
+            board: Vec::new(),
+            kept: Vec::new(),
             delays,
             room: vec![0; slopeboard::MINUTES],
             minutes: prices::list(&mut Rng::new(seed), 4, slopeboard::MINUTES, 4000),
             prices,
-            hall,
-            small_hall,
-            full_hall,
             seed,
-            numbers: vec![0; NUMBERS_PER_TURN * shift.turns.len()],
+            numbers: vec![0; NUMBERS_PER_TURN * rows.len()],
             bytes: vec![0; slopeboard::MOST_TEXT_BYTES],
             list: Default::default(),
             other_list: Default::default(),
         }
     }
 
+    /// The steps of the board, none for a hall.
     fn steps(&self) -> usize {
         naive::steps(&self.board).len() / 4
     }
@@ -242,52 +246,25 @@ const PLAY_BY_MINUTE: Entry = Entry {
 /// The entry for charging halls.
 const CHARGE: Entry = Entry {
     name: "charge",
-    library: |job| slopeboard::charge(&job.hall, &mut job.bytes).is_ok(),
-    reference: |job| fast::charge(&job.hall, &mut job.bytes).is_ok(),
-};
-
-/// The same on windows of small draws.
-const CHARGE_SMALL: Entry = Entry {
-    name: "charge s",
-    library: |job| slopeboard::charge(&job.small_hall, &mut job.bytes).is_ok(),
-    reference: |job| fast::charge(&job.small_hall, &mut job.bytes).is_ok(),
-};
-
-/// And where these all overlap.
-const CHARGE_TOGETHER: Entry = Entry {
-    name: "charge a",
-    library: |job| slopeboard::charge(&job.full_hall, &mut job.bytes).is_ok(),
-    reference: |job| fast::charge(&job.full_hall, &mut job.bytes).is_ok(),
+    library: |job| slopeboard::charge(&job.sheet, &mut job.bytes).is_ok(),
+    reference: |job| fast::charge(&job.sheet, &mut job.bytes).is_ok(),
 };
 
 /// The hall's limit by prices.
 const CHARGE_LIMIT: Entry = Entry {
     name: "charge l",
-    library: |job| slopeboard::charge_limit(&job.hall, &job.minutes).is_ok(),
-    reference: |job| fast::charge_limit(&job.hall, &job.minutes).is_ok(),
+    library: |job| slopeboard::charge_limit(&job.sheet, &job.minutes).is_ok(),
+    reference: |job| fast::charge_limit(&job.sheet, &job.minutes).is_ok(),
 };
 
 /// A better choice of windows by rounds.
 const CHARGE_REFINE: Entry = Entry {
     name: "charge r",
     library: |job| {
-        slopeboard::charge_refine(&job.hall, BOARD_ROUNDS, &mut job.bytes, &mut job.room).is_ok()
+        slopeboard::charge_refine(&job.sheet, BOARD_ROUNDS, &mut job.bytes, &mut job.room).is_ok()
     },
     reference: |job| {
-        fast::charge_refine(&job.hall, BOARD_ROUNDS, &mut job.bytes, &mut job.room).is_ok()
-    },
-};
-
-/// The same on windows of small draws.
-const CHARGE_REFINE_SMALL: Entry = Entry {
-    name: "charge q",
-    library: |job| {
-        let room = (&mut job.bytes, &mut job.room);
-        slopeboard::charge_refine(&job.small_hall, BOARD_ROUNDS, room.0, room.1).is_ok()
-    },
-    reference: |job| {
-        let room = (&mut job.bytes, &mut job.room);
-        fast::charge_refine(&job.small_hall, BOARD_ROUNDS, room.0, room.1).is_ok()
+        fast::charge_refine(&job.sheet, BOARD_ROUNDS, &mut job.bytes, &mut job.room).is_ok()
     },
 };
 
@@ -339,11 +316,12 @@ fn measure(entry: &Entry, jobs: &mut [Job]) -> [Times; 2] {
     samples.map(Times::of)
 }
 
-fn print_row(name: &str, label: &str, [library, reference]: [Times; 2], growth: Option<f64>) {
+fn print_row(name: &str, label: &str, times: [Times; 2], growth: Option<f64>) {
+    let [library, reference] = times;
     let micros = |time: f64| format!("{:.2}", time / 1000.0);
     let growth = growth.map_or(String::new(), |growth| format!("{growth:.2}"));
     println!(
-        "{name:10}{label:18}{:>9}{:>10}{:>12}{:>10}{:>8.2}{growth:>8}",
+        "{name:10}{label:20}{:>9}{:>10}{:>12}{:>10}{:>8.2}{growth:>8}",
         micros(library.best),
         micros(library.median),
         micros(reference.best),
@@ -352,8 +330,27 @@ fn print_row(name: &str, label: &str, [library, reference]: [Times; 2], growth: 
     );
 }
 
-/// Draws a shift with so many turns.
-type Kind = fn(&mut Rng, usize) -> Shift;
+/// Draws a shift of so many turns, or a hall of so many windows.
+#[derive(Clone, Copy)]
+enum Kind {
+    Turns(fn(&mut Rng, usize) -> Shift),
+    Windows(fn(&mut Rng, usize) -> Hall),
+}
+
+impl Kind {
+    fn job(self, rng: &mut Rng, count: usize) -> Job {
+        match self {
+            Turns(kind) => {
+                let shift = kind(rng, count);
+                Job::of_shift(rng, &shift)
+            }
+            Windows(kind) => {
+                let hall = kind(rng, count);
+                Job::of_hall(rng, &hall)
+            }
+        }
+    }
+}
 
 /// A drawn sheet of so many groomers and slopes; its turns are sorted.
 fn drawn(rng: &mut Rng, turns: usize, [groomers, slopes]: [u8; 2]) -> Shift {
@@ -387,6 +384,34 @@ fn driven_sheet(rng: &mut Rng, turns: usize) -> Shift {
     shift
 }
 
+/// The widest sheet with one of 12 drivers, or none, for each turn.
+fn twelve_drivers(rng: &mut Rng, turns: usize) -> Shift {
+    with_drivers(rng, turns, 12)
+}
+
+/// The same with as many drivers as there can be.
+fn forty_drivers(rng: &mut Rng, turns: usize) -> Shift {
+    with_drivers(rng, turns, 40)
+}
+
+fn with_drivers(rng: &mut Rng, turns: usize, drivers: u32) -> Shift {
+    let mut shift = widest_shuffled(rng, turns);
+    for turn in &mut shift.turns {
+        turn[5] = rng.below(drivers + 1) as u16;
+    }
+    shift
+}
+
+/// Lengths up to five hours, so that many turns are going on at any time.
+fn long_turns(rng: &mut Rng, turns: usize) -> Shift {
+    shapes::drawn(rng, turns, [12, 80], [LAST_END, 1, 300], MOST_WORTH.into())
+}
+
+/// No two turns conflict: the search skips none.
+fn all_apart(rng: &mut Rng, turns: usize) -> Shift {
+    shapes::one_turn_a_slope(&shapes::a_step_a_turn(rng, turns, 119))
+}
+
 /// As many groomers and slopes as there can be, the turns as they are drawn.
 fn widest_sheet(rng: &mut Rng, turns: usize) -> Shift {
     drawn(rng, turns, [16, 120])
@@ -403,10 +428,13 @@ fn widest_falling(rng: &mut Rng, turns: usize) -> Shift {
 }
 
 /// A step for each turn, on as many slopes as share no cycle with the
-/// groomers, the turns in any order: the most that planning, checking and
-/// listing have to do.
+/// groomers, a driver of its own for each groomer, the turns in any order: the
+/// most that planning, checking, listing and playing have to do.
 fn most_steps(rng: &mut Rng, turns: usize) -> Shift {
-    let shift = shapes::a_step_a_turn(rng, turns, 119);
+    let mut shift = shapes::a_step_a_turn(rng, turns, 119);
+    for turn in &mut shift.turns {
+        turn[5] = turn[1];
+    }
     shapes::shuffled(rng, &shift)
 }
 
@@ -482,7 +510,6 @@ fn one_turn_a_slope(rng: &mut Rng, turns: usize, groomers: u8, longest: u32) -> 
 }
 
 /// The rows of an entry: the sheets' kind, its name in the table, and sizes.
-/// The last kind of most entries is the slowest known, marked *.
 type Rows = (
     &'static Entry,
     &'static [(&'static str, Kind, &'static [usize])],
@@ -494,172 +521,221 @@ const TABLE: &[Rows] = &[
     (
         &READ,
         &[
-            ("", usual_sheet, ALL_SIZES),
-            ("w", widest_sheet, &[400]),
-            ("d", driven_sheet, &[400]),
-            ("maps *", random_maps, &[400]),
+            ("", Turns(usual_sheet), ALL_SIZES),
+            ("w", Turns(widest_sheet), &[400]),
+            ("d", Turns(driven_sheet), &[400]),
+            ("maps", Turns(random_maps), &[400]),
         ],
     ),
     (
         &PLAN,
         &[
-            ("", usual_sheet, ALL_SIZES),
-            ("w", widest_sheet, &[400]),
-            ("d", driven_sheet, &[400]),
-            ("slope", one_slope, &[400]),
-            ("steps *", most_steps, &[400]),
+            ("", Turns(usual_sheet), ALL_SIZES),
+            ("w", Turns(widest_sheet), &[400]),
+            ("d", Turns(driven_sheet), &[400]),
+            ("slope", Turns(one_slope), &[400]),
+            ("steps", Turns(most_steps), &[400]),
         ],
     ),
     (
         &PLAN_FREE,
-        &[("", usual_sheet, &[400]), ("steps *", most_steps, &[400])],
+        &[
+            ("", Turns(usual_sheet), &[400]),
+            ("steps", Turns(most_steps), &[400]),
+        ],
     ),
     (
         &CHECK,
         &[
-            ("", usual_sheet, ALL_SIZES),
-            ("w", widest_sheet, &[400]),
-            ("d", driven_sheet, &[400]),
-            ("slope", one_slope, &[400]),
-            ("steps *", most_steps, &[400]),
+            ("", Turns(usual_sheet), ALL_SIZES),
+            ("w", Turns(widest_sheet), &[400]),
+            ("d", Turns(driven_sheet), &[400]),
+            ("slope", Turns(one_slope), &[400]),
+            ("steps", Turns(most_steps), &[400]),
         ],
     ),
     (
         &LIST,
         &[
-            ("", usual_sheet, ALL_SIZES),
-            ("w", widest_sheet, &[400]),
-            ("d", driven_sheet, &[400]),
-            ("slope", one_slope, &[400]),
-            ("steps *", most_steps, &[400]),
+            ("", Turns(usual_sheet), ALL_SIZES),
+            ("w", Turns(widest_sheet), &[400]),
+            ("d", Turns(driven_sheet), &[400]),
+            ("slope", Turns(one_slope), &[400]),
+            ("steps", Turns(most_steps), &[400]),
         ],
     ),
     (
         &WRITE,
         &[
-            ("sorted", widest_sheet, &[200, 400]),
-            ("falling", widest_falling, &[400]),
-            ("equal", equal_turns, &[400]),
-            ("random", widest_shuffled, &[400]),
-            ("few", shapes::few_kinds, &[400]),
-            ("worths", other_worths, &[400]),
-            ("small *", small_values, &[400]),
+            ("sorted", Turns(widest_sheet), &[200, 400]),
+            ("falling", Turns(widest_falling), &[400]),
+            ("equal", Turns(equal_turns), &[400]),
+            ("random", Turns(widest_shuffled), &[400]),
+            ("few", Turns(shapes::few_kinds), &[400]),
+            ("worths", Turns(other_worths), &[400]),
+            ("small", Turns(small_values), &[400]),
         ],
     ),
-    (&DRAW, &[("*", widest_sheet, &[200, 400])]),
+    (&DRAW, &[("", Turns(widest_sheet), &[200, 400])]),
     (
         &KEEP,
         &[
-            ("", usual_sheet, &[200, 400]),
-            ("maps *", random_maps, &[400]),
+            ("", Turns(usual_sheet), &[200, 400]),
+            ("maps", Turns(random_maps), &[400]),
         ],
     ),
     (
         &RESTORE,
         &[
-            ("", usual_sheet, &[200, 400]),
-            ("maps *", random_maps, &[400]),
+            ("", Turns(usual_sheet), &[200, 400]),
+            ("maps", Turns(random_maps), &[400]),
         ],
     ),
     (
         &ASSIGN,
         &[
-            ("", usual_sheet, &[200, 400]),
-            ("w", widest_sheet, &[400]),
-            ("equal *", equal_turns, &[400]),
+            ("", Turns(usual_sheet), &[200, 400]),
+            ("w", Turns(widest_sheet), &[400]),
+            ("equal", Turns(equal_turns), &[400]),
+            ("long", Turns(long_turns), &[400]),
         ],
     ),
     (
         &BEST,
         &[
-            ("k=16", single_of_16, &[60, 120]),
-            ("k=4", single_of_4, &[120]),
-            ("k=1 *", single_of_1, &[120]),
+            ("k=16", Turns(single_of_16), &[60, 120]),
+            ("k=4", Turns(single_of_4), &[120]),
+            ("k=1", Turns(single_of_1), &[120]),
         ],
     ),
     (
         &LIMIT,
         &[
-            ("", usual_sheet, &[200, 400]),
-            ("w", widest_sheet, &[400]),
-            ("d *", driven_sheet, &[400]),
+            ("", Turns(usual_sheet), &[200, 400]),
+            ("w", Turns(widest_sheet), &[400]),
+            ("d", Turns(driven_sheet), &[400]),
+            ("d=12", Turns(twelve_drivers), &[400]),
+            ("d=40", Turns(forty_drivers), &[400]),
         ],
     ),
     (
         &REFINE,
         &[
-            ("", usual_sheet, &[200, 400]),
-            ("w", widest_sheet, &[400]),
-            ("d", driven_sheet, &[400]),
+            ("", Turns(usual_sheet), &[200, 400]),
+            ("w", Turns(widest_sheet), &[400]),
+            ("d", Turns(driven_sheet), &[400]),
+            ("d=12", Turns(twelve_drivers), &[400]),
+            ("d=40", Turns(forty_drivers), &[400]),
         ],
     ),
     (
         &IMPROVE,
-        &[("", usual_sheet, &[32]), ("*", usual_sheet, &[64])],
+        &[
+            ("", Turns(usual_sheet), &[16, 32, 64]),
+            ("apart", Turns(all_apart), &[64]),
+        ],
     ),
     (
         &PLAY,
         &[
-            ("", usual_sheet, &[200, 400]),
-            ("w *", widest_sheet, &[400]),
+            ("", Turns(usual_sheet), &[200, 400]),
+            ("w", Turns(widest_sheet), &[400]),
+            ("steps", Turns(most_steps), &[400]),
         ],
     ),
-    (&PLAY_BY_MINUTE, &[("w *", widest_sheet, &[400])]),
-    (&CHARGE, &[("", usual_sheet, &[200, 400])]),
-    (&CHARGE_SMALL, &[("*", usual_sheet, &[400])]),
-    (&CHARGE_TOGETHER, &[("*", usual_sheet, &[400])]),
-    (&CHARGE_LIMIT, &[("", usual_sheet, &[200, 400])]),
-    (&CHARGE_REFINE, &[("", usual_sheet, &[200, 400])]),
-    (&CHARGE_REFINE_SMALL, &[("", usual_sheet, &[400])]),
+    (&PLAY_BY_MINUTE, &[("steps", Turns(most_steps), &[400])]),
+    (
+        &CHARGE,
+        &[
+            ("", Windows(halls::usual), &[200, 400]),
+            ("small", Windows(halls::small_draws), &[400]),
+            ("together", Windows(halls::all_together), &[400]),
+            ("one", Windows(halls::one_from_all), &[400]),
+        ],
+    ),
+    (&CHARGE_LIMIT, &[("", Windows(halls::usual), &[200, 400])]),
+    (
+        &CHARGE_REFINE,
+        &[
+            ("", Windows(halls::usual), &[200, 400]),
+            ("small", Windows(halls::small_draws), &[400]),
+            ("together", Windows(halls::all_together), &[400]),
+            ("one", Windows(halls::one_from_all), &[400]),
+        ],
+    ),
 ];
 
-/// Jobs for sheets of so many turns, all of one kind.
-fn jobs(rng: &mut Rng, kind: Kind, turns: usize) -> Vec<Job> {
-    let job = |_| {
-        let shift = kind(rng, turns);
-        Job::new(rng, &shift)
+/// The number of turns or windows, the mean of the steps, and the kind. A hall
+/// has no board, and so no steps.
+fn label(jobs: &[Job], kind: &str) -> String {
+    let count = jobs[0].numbers.len() / NUMBERS_PER_TURN;
+    let steps = jobs.iter().map(Job::steps).sum::<usize>() / jobs.len();
+    let label = match steps {
+        0 => format!("n={count} {kind}"),
+        _ => format!("n={count} m={steps} {kind}"),
     };
-    (0..SHEETS).map(job).collect()
+    label.trim_end().to_string()
 }
 
-/// The numbers of turns and steps; of the steps the mean.
-fn size(jobs: &[Job], kind: &str) -> String {
-    let steps = jobs.iter().map(Job::steps).sum::<usize>() / jobs.len();
-    format!(
-        "n={} m={steps} {kind}",
-        jobs[0].numbers.len() / NUMBERS_PER_TURN
-    )
+/// A row that was measured.
+struct Measured {
+    label: String,
+    times: [Times; 2],
+    growth: Option<f64>,
+}
+
+/// Measures an entry on sheets of one kind, with so many turns or windows.
+fn measured(entry: &Entry, kind: Kind, name: &str, sizes: &[usize]) -> Vec<Measured> {
+    let mut rng = Rng::new(7);
+    let mut before: Option<f64> = None;
+    let row = |count: &usize| {
+        let mut jobs: Vec<Job> = (0..SHEETS).map(|_| kind.job(&mut rng, *count)).collect();
+        let times = measure(entry, &mut jobs);
+        let median = times[0].median;
+        let growth = before.replace(median).map(|before| median / before);
+        Measured {
+            label: label(&jobs, name),
+            times,
+            growth,
+        }
+    };
+    sizes.iter().map(row).collect()
 }
 
 fn main() {
     let named: Vec<String> = env::args().skip(1).collect();
     let wanted = |name: &str| named.is_empty() || named.iter().any(|word| word == name);
-    println!("times of one call in microseconds, over {SHEETS} sheets; n is the number of turns, m of steps;");
-    println!("12 groomers and 80 slopes; w: 16 groomers, 120 slopes, sorted; d: with drivers; k: so many groomers;");
-    println!(
-        "improve: at most {VISITS} visits; refine, charge r and q: at most {BOARD_ROUNDS} rounds;"
-    );
+    println!("times of one call in microseconds, over {SHEETS} sheets; n is the number of turns or windows, m of steps;");
+    println!("*: the slowest row of an entry by the library's best;");
+    println!("12 groomers and 80 slopes; w: 16 groomers, 120 slopes, sorted; k: so many groomers; d: with drivers;");
+    println!("d=12, d=40: 16 groomers, 120 slopes, so many drivers; slope: all turns on one; steps: one for each turn;");
+    println!("long: turns of up to five hours;");
+    println!("improve: at most {VISITS} visits, apart: no two turns conflict; refine, charge r: at most {BOARD_ROUNDS} rounds;");
     println!("plan f: the reference makes no list at each pick;");
     println!("write few: six kinds of turns, nearly equal by pairs; worths: six kinds but for the worths;");
     println!("write small: small values, slower than all tables known that are not made to be slow to sort;");
     println!("play: the reference goes by the turns; play o: minute by minute as the library does, its peer;");
-    println!("charge s: small draws, charge a: and all windows overlap;");
-    println!("charge l: the hall's limit, charge r: its rounds, charge q: with small draws; *: the slowest known");
-    println!("                            library             reference");
+    println!("charge l: the hall's limit, charge r: its rounds; small: small draws, together: and all windows overlap,");
+    println!("one: and each step takes 1 from every open window");
+    println!("                              library             reference");
     println!(
-        "entry     sheet                  best    median        best    median   ratio  growth"
+        "entry     sheet                    best    median        best    median   ratio  growth"
     );
-    for (entry, rows) in TABLE.iter().filter(|(entry, _)| wanted(entry.name)) {
-        for (name, kind, sizes) in *rows {
-            let mut rng = Rng::new(7);
-            let mut before: Option<f64> = None;
-            for turns in *sizes {
-                let mut jobs = jobs(&mut rng, *kind, *turns);
-                let times = measure(entry, &mut jobs);
-                let growth = before.map(|before| times[0].median / before);
-                print_row(entry.name, &size(&jobs, name), times, growth);
-                before = Some(times[0].median);
-            }
+    for (entry, kinds) in TABLE.iter().filter(|(entry, _)| wanted(entry.name)) {
+        let rows = kinds
+            .iter()
+            .flat_map(|(name, kind, sizes)| measured(entry, *kind, name, sizes));
+        let rows: Vec<Measured> = rows.collect();
+        let best = |row: &Measured| row.times[0].best;
+        let slowest = rows.iter().map(best).fold(0.0, f64::max);
+        for row in &rows {
+            let mark = if best(row) == slowest { " *" } else { "" };
+            print_row(
+                entry.name,
+                &format!("{}{mark}", row.label),
+                row.times,
+                row.growth,
+            );
         }
     }
 }

@@ -6,7 +6,7 @@ use super::sheet::accept;
 use super::turns::Turn;
 
 /// What a groomer has done up to the minute last played.
-#[derive(Clone, Copy, Debug, PartialEq, Eq)]
+#[derive(Clone, Copy, Debug, Default, PartialEq, Eq)]
 pub struct Standing {
     pub working: u16,
     pub driving: u16,

@@ -258,5 +258,6 @@ fn rule(refusal: Refusal) -> &'static str {
         | Refusal::TooManyToSearch
         | Refusal::BadSeed
         | Refusal::BadDelays => "a limit is passed",
+        Refusal::Unknown => "the library gave a number that is not known here",
     }
 }

@@ -2,8 +2,10 @@
 //! has it, read off the compiled library: the arguments that are not in
 //! registers, its own frame with the return address,
 //! and the deepest of the library's functions below it, with what that one
-//! writes below the stack pointer. What memset and memcpy of the C library need
-//! comes on top.
+//! writes below the stack pointer. What memcpy, memmove and memset need beyond
+//! their return address comes on top. It fails where it cannot tell: at a call
+//! through a pointer, at a stack pointer that is moved by an unknown number, and
+//! at functions that call themselves to no depth given here.
 //!
 //! ```text
 //! SLOPEBOARD_LIB_DIR=$PWD/target/staticlib cargo run --release -p bench --bin stack
@@ -64,7 +66,32 @@ fn named(line: &str) -> Option<String> {
     Some(symbol[..end].to_string())
 }
 
-fn functions(listing: &str) -> BTreeMap<String, Function> {
+/// Where an instruction goes that calls or jumps: `call 7d <name>`, and
+/// `call 7d <name+0x7d>` where a relocation has the name. A call of a function
+/// in the same section has no relocation.
+fn target(line: &str) -> Option<(&str, Option<&str>)> {
+    let mut words = line.split_whitespace().skip(1);
+    let word = words.next()?;
+    if word != "call" && !word.starts_with('j') {
+        return None;
+    }
+    let name = line
+        .split_once(" <")
+        .and_then(|(_, rest)| rest.strip_suffix('>'));
+    Some((word, name))
+}
+
+/// Whether an instruction moves the stack pointer in a way that [`taken`] does
+/// not count.
+fn moved_otherwise(line: &str) -> bool {
+    let back = ["add", "pop"]
+        .iter()
+        .any(|word| line.split_whitespace().nth(1) == Some(word));
+    line.trim_end().ends_with(",%rsp") && taken(line) == 0 && !back
+}
+
+/// The functions of a listing by name, or the line that cannot be counted.
+fn functions(listing: &str) -> Result<BTreeMap<String, Function>, String> {
     let mut found: BTreeMap<String, Function> = BTreeMap::new();
     let mut name = String::new();
     for line in listing.lines() {
@@ -75,15 +102,29 @@ fn functions(listing: &str) -> BTreeMap<String, Function> {
             function.frame += taken(line);
             function.below = function.below.max(used_below(line));
             function.callees.extend(named(line));
+            match target(line) {
+                // An offset is a place in this function, or a relocation follows.
+                Some((_, Some(place))) if place.contains("+0x") => {}
+                // Back to its own start by a jump is a loop.
+                Some((word, Some(callee))) if word == "call" || callee != name => {
+                    function.callees.push(callee.to_string());
+                }
+                Some((_, None)) => return Err(format!("{name} goes through a pointer: {line}")),
+                _ if moved_otherwise(line) => return Err(format!("{name} has {line}")),
+                _ => {}
+            }
         }
     }
-    found
+    Ok(found)
 }
 
-/// How many times functions that call each other in a circle can stand above
-/// one another: the search goes one level deeper for each of 64 turns, and once
-/// more behind the last.
-const LEVELS: usize = 65;
+/// How many levels of a function that calls itself, or of functions that call
+/// each other in a circle with it, can stand above one another.
+const DEPTHS: &[(&str, usize)] = &[
+    // The search comes to at most 64 turns, one level deeper for each that it
+    // takes, and once past the last.
+    ("search::search::without", 64 + 1),
+];
 
 /// The functions that can be called, one by the other, from this one.
 fn reached(found: &BTreeMap<String, Function>, name: &str) -> BTreeSet<String> {
@@ -108,25 +149,39 @@ fn circle(found: &BTreeMap<String, Function>, name: &str) -> BTreeSet<String> {
     circle
 }
 
+/// How many levels a circle has. One that calls nothing of itself has one.
+fn levels(found: &BTreeMap<String, Function>, circle: &BTreeSet<String>) -> Result<usize, String> {
+    if !circle
+        .iter()
+        .any(|name| reached(found, name).contains(name))
+    {
+        return Ok(1);
+    }
+    let given = DEPTHS.iter().find(|(name, _)| circle.contains(*name));
+    given
+        .map(|(_, depth)| *depth)
+        .ok_or_else(|| format!("no depth is given for {circle:?}"))
+}
+
 /// What a function needs with all below it. Each function of a circle counts
 /// for every level.
-fn need(found: &BTreeMap<String, Function>, name: &str) -> usize {
+fn need(found: &BTreeMap<String, Function>, name: &str) -> Result<usize, String> {
     if !found.contains_key(name) {
         // The address that a function of the C library returns to; other names are of data.
-        return if name.starts_with("mem") { 8 } else { 0 };
+        return Ok(if name.starts_with("mem") { 8 } else { 0 });
     }
     let circle = circle(found, name);
     let in_circle = || circle.iter().map(|name| &found[name]);
     let frames: usize = in_circle().map(|function| function.frame).sum();
-    let levels = match reached(found, name).contains(name) {
-        true => LEVELS,
-        false => 1,
-    };
+    let mut deepest = in_circle()
+        .map(|function| function.below)
+        .max()
+        .unwrap_or(0);
     let callees = in_circle().flat_map(|function| &function.callees);
-    let others = callees.filter(|callee| !circle.contains(*callee));
-    let below = others.map(|callee| need(found, callee));
-    let own = in_circle().map(|function| function.below);
-    levels * frames + below.chain(own).max().unwrap_or(0)
+    for callee in callees.filter(|callee| !circle.contains(*callee)) {
+        deepest = deepest.max(need(found, callee)?);
+    }
+    Ok(levels(found, &circle)? * frames + deepest)
 }
 
 /// Bytes of the arguments that the caller puts on the stack, since six go into
@@ -140,25 +195,38 @@ fn arguments(name: &str) -> usize {
     }
 }
 
+/// The lines of the header.
+fn lines(archive: &str) -> Result<Vec<String>, String> {
+    let output = Command::new("objdump")
+        .args(["-dr", "--no-show-raw-insn", archive])
+        .output()
+        .map_err(|_| "objdump is not installed")?;
+    let found = functions(&String::from_utf8_lossy(&output.stdout))?;
+    if let Some((name, _)) = DEPTHS
+        .iter()
+        .find(|(name, _)| !reached(&found, name).contains(*name))
+    {
+        return Err(format!("{name} does not call itself in {archive}"));
+    }
+    let exported = found.keys().filter(|name| name.starts_with("slopeboard_"));
+    let line = |name: &String| {
+        let need = need(&found, name)? + arguments(name);
+        let name = name.replace("slopeboard_", "SLOPEBOARD_STACK_");
+        Ok(format!("#define {} {need}", name.to_uppercase()))
+    };
+    exported.map(line).collect()
+}
+
 fn main() -> ExitCode {
     let folder = env::var("SLOPEBOARD_LIB_DIR").unwrap_or_else(|_| "target/staticlib".to_string());
-    let archive = format!("{folder}/libslopeboard.a");
-    let output = Command::new("objdump")
-        .args(["-dr", "--no-show-raw-insn", &archive])
-        .output();
-    let Ok(output) = output else {
-        eprintln!("objdump is not installed");
-        return ExitCode::FAILURE;
-    };
-    let found = functions(&String::from_utf8_lossy(&output.stdout));
-    for name in found.keys().filter(|name| name.starts_with("slopeboard_")) {
-        let need = need(&found, name) + arguments(name);
-        let name = name.replace("slopeboard_", "SLOPEBOARD_STACK_");
-        println!("#define {} {need}", name.to_uppercase());
+    match lines(&format!("{folder}/libslopeboard.a")) {
+        Ok(lines) => {
+            lines.iter().for_each(|line| println!("{line}"));
+            ExitCode::SUCCESS
+        }
+        Err(fault) => {
+            eprintln!("stack: {fault}");
+            ExitCode::FAILURE
+        }
     }
-    if found.is_empty() {
-        eprintln!("no function in {archive}");
-        return ExitCode::FAILURE;
-    }
-    ExitCode::SUCCESS
 }
