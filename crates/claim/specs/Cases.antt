@@ -17,7 +17,7 @@ use Rattle.board_open.specs.Open.{openOf, stepsPart}
 use Rattle.check_spec.specs.Check.{checkOf, checked}
 use Rattle.plan_spec.specs.Plan.{planOf}
 use Rattle.listing_spec.specs.List.{listOf}
-use Rattle.claim.specs.Shift.{shift, shiftTable, shiftWritten, shiftBoard, shiftSteps, shiftListing, header, emptyBoard, lateTurn, wrongWorth, oneAndThree}
+use Rattle.claim.specs.Shift.{shift, shiftTable, shiftWritten, shiftBoard, shiftSteps, stepsExchanged, shiftListing, header, emptyBoard, lateTurn, wrongWorth, oneAndThree}
 use Rattle.refusal.specs.Outcome.{beside}
 
 -- lent places hold 9 before
@@ -52,6 +52,8 @@ pub record WorkedCases : Type 0 where
   pub shift-steps : stepsPart shiftBoard ≡ shiftSteps
   -- the shift: its board passes, since R-7 with the ceiling 340
   pub shift-checked : checkOf shift shiftBoard ≡ checked 0 240 240 340
+  -- the shift: more than one order of steps passes
+  pub steps-exchanged : checkOf shift stepsExchanged ≡ checked 0 240 240 340
   -- the shift: its listing, since R-2 without turn 2, since R-7 with the ceiling
   pub shift-listed : listOf shift (lent 102) ≡ beside (record { refusal = 0; bytes = 101 }) (shiftListing ++ lent 1)
   -- no bytes: 1, of the reader, the planner and the check
