@@ -1,9 +1,7 @@
 pub mod ColumnCases
 pub mod Across
 pub mod Resolved
-pub mod ColumnWorked
 pub mod Bodies
 pub mod Accepting
 pub mod KeptCauses
 pub mod RoundTrip
-pub mod Worked

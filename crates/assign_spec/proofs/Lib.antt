@@ -2,6 +2,5 @@ pub mod Smallest
 pub mod Counting
 pub mod Numbers
 pub mod Fewest
-pub mod Worked
 pub mod AssignCauses
 pub mod Promised

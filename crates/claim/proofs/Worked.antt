@@ -1,4 +1,4 @@
--- The two tables of worked cases hold: each line is computed. Assumes nothing.
+-- The table of worked cases holds: each line is computed. Assumes nothing.
 use mathlib.Core.Path.{refl}
 use Rattle.refusal.specs.Cause.{firstOf}
 use Rattle.refusal.specs.Written.{writtenUnless}
@@ -19,8 +19,7 @@ use Rattle.model.specs.Pick.{sooner, better, best, pick, nextStep, planBy, plan
 use Rattle.model.specs.Choice.{chosen, fits, choose, chooseEach, back, fill, goBack, choice}
 use Rattle.model.specs.Ceiling.{inGroups, holdAll, fewestGroups, stepCost, ceiling}
 use Rattle.model.specs.Rules.{independent, maximal, noEarlier, right, allRight, noneOpen, sums}
-use Rattle.choice_map.specs.Choice.{bitOf, chosenIn, choiceIn, clearPast, byteOf, mapOf, onesOf, onesIn}
-use Rattle.board_open.specs.Chosen.{countOf, turnChosen}
+use Rattle.choice_map.specs.Choice.{bitOf, chosenIn, choiceIn, clearPast, byteOf, mapOf}
 use Rattle.board.specs.Board.{boardMap, boardChoice, stepsIn, writtenSteps, stepBytes, boardOf}
 use Rattle.board_open.specs.Open.{badSizes, malformed, openOf, stepsPart}
 use Rattle.check_spec.specs.Check.{choiceCauses, stepCauses, ruleCauses, sumCauses, boardCauses, checkCauses, checkOf}
@@ -30,79 +29,41 @@ use Rattle.listing_spec.specs.Round.{startsAt, startsBelow, roundFrom, roundOf}
 use Rattle.listing_spec.specs.Text.{labelled, twoLabelled, headingOf, lineOf, linesOf, groomerText, groomersFrom, sumsLine, listingOf}
 use Rattle.listing_spec.specs.List.{sumsFor, listingFor, sheetListing, listCauses, listOf}
 use Rattle.claim.specs.Cases.{WorkedCases}
-use Rattle.claim.specs.Further.{FurtherCases}
 use Rattle.refusal.specs.Outcome.{unless}
 
--- both at once, so that what is opened is named once
-both : WorkedCases × FurtherCases
-unfolding insertBy sortBy numbersAtMost turnAtMost sortedTurns firstOf opensWith widthOf field turnFrom badMapFor endAt turnAt cursorAfter recordCauses firstCursor countCauses headerCauses recordsCauses turnsFrom rows garage causesFor sheetCauses turnsOf tableOf readCausesFor readFor readOf outsideRange pastShift turnCauses writtenUnless recordOf mapFor recordsOf sheetOf turnsOfTable turnsCauses tableCauses writeCauses writeOf problemOf sheetTurns overlapping overlap bySlope oneGroomer byGroomer oneDriver byDriver conflict every tab isOpen left initial touches lessened change afterStepBy conflictTakes inGroups holdAll fewestGroups stepCost ceiling afterStep afterSteps tally sooner better best pick nextStep planBy plan steps chosen fits choose chooseEach back fill goBack choice bitOf chosenIn choiceIn clearPast byteOf mapOf boardMap boardChoice stepsIn writtenSteps stepBytes boardOf badSizes malformed openOf stepsPart boardFor plannedBoard planCauses planOf decimalIn decimal startsAt startsBelow roundFrom roundOf labelled twoLabelled headingOf lineOf linesOf groomerText groomersFrom sumsLine listingOf sumsFor listingFor sheetListing listCauses listOf onesOf onesIn countOf turnChosen independent maximal noEarlier right allRight noneOpen sums choiceCauses stepCauses ruleCauses sumCauses boardCauses checkCauses checkOf unless
-both = (
-  record {
-    shift-read = refl;
-    shift-written = refl;
-    shift-stepped = refl;
-    shift-gone-back = refl;
-    shift-filled = refl;
-    shift-planned = refl;
-    shift-opened = refl;
-    shift-steps = refl;
-    shift-checked = refl;
-    shift-listed = refl;
-    nothing-read = refl;
-    nothing-planned = refl;
-    nothing-checked = refl;
-    empty-read = refl;
-    empty-planned = refl;
-    empty-checked = refl;
-    most-read = refl;
-    most-planned = refl;
-    most-checked = refl;
-    many-read = refl;
-    many-planned = refl;
-    many-checked = refl;
-    end-read = refl;
-    late-read = refl;
-    worth-read = refl;
-    dear-read = refl;
-    wrong-worth = refl;
-    one-and-three = refl;
-  },
-  record {
-    bytes-enough = refl;
-    byte-missing = refl;
-    shift-counted = refl;
-    shift-chosen = refl;
-    shift-not-chosen = refl;
-    shift-no-turn = refl;
-    left-unfilled = refl;
-    still-fits = refl;
-    filled-in-order = refl;
-    filled-checked = refl;
-    filled-otherwise = refl;
-    steps-exchanged = refl;
-    two-first = refl;
-    three-first = refl;
-    heading-alone = refl;
-    leaves-room = refl;
-    touching-turns = refl;
-    richer-first = refl;
-    richer-checked = refl;
-    driver-read = refl;
-    driver-refused = refl;
-    no-driver-read = refl;
-    driver-written = refl;
-    no-driver-written = refl;
-    driven-planned = refl;
-    driven-checked = refl;
-    driven-twice = refl;
-    driverless-planned = refl;
-  },
-)
-
--- the starred cases
 pub worked-cases : WorkedCases
-worked-cases = both .0
-
--- the others
-pub further-cases : FurtherCases
-further-cases = both .1
+unfolding insertBy sortBy numbersAtMost turnAtMost sortedTurns firstOf opensWith widthOf field turnFrom badMapFor endAt turnAt cursorAfter recordCauses firstCursor countCauses headerCauses recordsCauses turnsFrom rows garage causesFor sheetCauses turnsOf tableOf readCausesFor readFor readOf outsideRange pastShift turnCauses writtenUnless recordOf mapFor recordsOf sheetOf turnsOfTable turnsCauses tableCauses writeCauses writeOf problemOf sheetTurns overlapping overlap bySlope oneGroomer byGroomer oneDriver byDriver conflict every tab isOpen left initial touches lessened change afterStepBy conflictTakes inGroups holdAll fewestGroups stepCost ceiling afterStep afterSteps tally sooner better best pick nextStep planBy plan steps chosen fits choose chooseEach back fill goBack choice bitOf chosenIn choiceIn clearPast byteOf mapOf boardMap boardChoice stepsIn writtenSteps stepBytes boardOf badSizes malformed openOf stepsPart boardFor plannedBoard planCauses planOf decimalIn decimal startsAt startsBelow roundFrom roundOf labelled twoLabelled headingOf lineOf linesOf groomerText groomersFrom sumsLine listingOf sumsFor listingFor sheetListing listCauses listOf independent maximal noEarlier right allRight noneOpen sums choiceCauses stepCauses ruleCauses sumCauses boardCauses checkCauses checkOf unless
+worked-cases =
+    record {
+      shift-read = refl;
+      shift-written = refl;
+      shift-stepped = refl;
+      shift-gone-back = refl;
+      shift-filled = refl;
+      left-unfilled = refl;
+      still-fits = refl;
+      shift-planned = refl;
+      shift-opened = refl;
+      shift-steps = refl;
+      shift-checked = refl;
+      steps-exchanged = refl;
+      shift-listed = refl;
+      nothing-read = refl;
+      nothing-planned = refl;
+      nothing-checked = refl;
+      empty-read = refl;
+      empty-planned = refl;
+      empty-checked = refl;
+      most-read = refl;
+      most-planned = refl;
+      most-checked = refl;
+      many-read = refl;
+      many-planned = refl;
+      many-checked = refl;
+      end-read = refl;
+      late-read = refl;
+      worth-read = refl;
+      dear-read = refl;
+      wrong-worth = refl;
+      one-and-three = refl;
+    }

@@ -8,7 +8,7 @@ use lib.IntN.{pos, negsuc}
 use Rattle.model.specs.Turns.{Turns}
 use Rattle.model.specs.Steps.{initial, afterStep}
 use Rattle.model.specs.Pick.{steps}
-use Rattle.model.specs.Choice.{goBack, choice}
+use Rattle.model.specs.Choice.{fits, goBack, choice}
 use Rattle.turn.specs.declared.Counts.{Counts}
 use Rattle.sheet.specs.Read.{readOf, readRefused}
 use Rattle.instance_spec.specs.Problem.{sheetTurns}
@@ -17,7 +17,7 @@ use Rattle.board_open.specs.Open.{openOf, stepsPart}
 use Rattle.check_spec.specs.Check.{checkOf, checked}
 use Rattle.plan_spec.specs.Plan.{planOf}
 use Rattle.listing_spec.specs.List.{listOf}
-use Rattle.claim.specs.Shift.{shift, shiftTable, shiftWritten, shiftBoard, shiftSteps, shiftListing, header, emptyBoard, lateTurn, wrongWorth, oneAndThree}
+use Rattle.claim.specs.Shift.{shift, shiftTable, shiftWritten, shiftBoard, shiftSteps, stepsExchanged, shiftListing, header, emptyBoard, lateTurn, wrongWorth, oneAndThree, oneToFill}
 use Rattle.refusal.specs.Outcome.{beside}
 
 -- lent places hold 9 before
@@ -44,6 +44,9 @@ pub record WorkedCases : Type 0 where
   pub shift-gone-back : goBack shiftTurns (steps shiftTurns) ≡ false ∷ true ∷ false ∷ true ∷ []
   -- the shift: filling adds none since R-2, for turn 2 ends just where turn 3 starts
   pub shift-filled : choice shiftTurns ≡ false ∷ true ∷ false ∷ true ∷ []
+  -- of another sheet going back chooses turn 1 alone and leaves turn 2, which fits: without filling a turn may be left
+  pub left-unfilled : goBack (sheetTurns oneToFill) (steps (sheetTurns oneToFill)) ≡ false ∷ true ∷ false ∷ []
+  pub still-fits : fits (sheetTurns oneToFill) (false ∷ true ∷ false ∷ []) 2 ≡ true
   -- the shift: its board, since R-2 with map 0A and worth 240
   pub shift-planned : planOf shift (lent 33) ≡ beside (record { refusal = 0; bytes = 28 }) (shiftBoard ++ lent 5)
   -- the shift: its board opens
@@ -52,6 +55,8 @@ pub record WorkedCases : Type 0 where
   pub shift-steps : stepsPart shiftBoard ≡ shiftSteps
   -- the shift: its board passes, since R-7 with the ceiling 340
   pub shift-checked : checkOf shift shiftBoard ≡ checked 0 240 240 340
+  -- the shift: more than one order of steps passes
+  pub steps-exchanged : checkOf shift stepsExchanged ≡ checked 0 240 240 340
   -- the shift: its listing, since R-2 without turn 2, since R-7 with the ceiling
   pub shift-listed : listOf shift (lent 102) ≡ beside (record { refusal = 0; bytes = 101 }) (shiftListing ++ lent 1)
   -- no bytes: 1, of the reader, the planner and the check

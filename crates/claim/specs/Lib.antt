@@ -1,6 +1,5 @@
 pub mod Shift
 pub mod Cases
-pub mod Further
 pub mod Claim
 pub mod Confirm
 pub mod Listed

@@ -1,4 +1,3 @@
 pub mod Draws
 pub mod DrawnSheets
 pub mod DrawCauses
-pub mod Worked

@@ -2,4 +2,3 @@ pub mod Draw
 pub mod DrawnSheet
 pub mod DrawCause
 pub mod Promises
-pub mod Cases

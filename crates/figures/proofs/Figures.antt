@@ -20,16 +20,17 @@ use Rattle.draw_spec.proofs.Draws.{length-first, length-second, length-third, l
 use Rattle.hall_spec.specs.Hall.{isWide, wideDraw}
 use Rattle.hall_spec.specs.Plan.{roundedUp, smallTakes}
 use Rattle.hall_spec.specs.Charge.{chargingSheet}
+use Rattle.limit_spec.specs.Prices.{slopePrice, turnPrice}
 use Rattle.limit_spec.proofs.LimitCauses.{limit-accepted-iff}
 use Rattle.refine_spec.specs.Rounds.{startFrom, firstChange, nextChange}
 use Rattle.refine_spec.specs.Shift.{movedPrice, turnChange, shiftStart}
-use Rattle.hall_by_prices_spec.specs.Prices.{windowPays, supplyCost}
+use Rattle.hall_by_prices_spec.specs.Prices.{minutePrice, windowPays, supplyCost}
 use Rattle.hall_by_prices_spec.specs.Hall.{movedMinute, hallStart}
 use Rattle.hall_by_prices_spec.proofs.LimitCauses.{charge-limit-accepted-iff}
 use Rattle.figures.specs.Figures.{Figures}
 
 pub figures : Figures
-unfolding outsideRange bitOf chosenIn garage withTurns widthOf field turnFrom liftDesk archive problemOf sheetTurns nextDraw turnDrawn isWide wideDraw roundedUp smallTakes chargingSheet startFrom firstChange nextChange movedPrice turnChange shiftStart windowPays supplyCost movedMinute hallStart
+unfolding outsideRange bitOf chosenIn garage withTurns widthOf field turnFrom liftDesk archive problemOf sheetTurns nextDraw turnDrawn isWide wideDraw roundedUp smallTakes chargingSheet startFrom firstChange nextChange movedPrice turnChange shiftStart windowPays supplyCost movedMinute hallStart slopePrice turnPrice minutePrice
 figures =
     record {
       groomers = refl;
@@ -109,6 +110,9 @@ figures =
       to-99 = λ counts a b c d e h. sym (length-fourth (d % 100) h);
       shift-list = limit-accepted-iff;
       hall-list = charge-limit-accepted-iff;
+      slope-place = λ prices slope. refl;
+      turn-place = λ slopes prices u. refl;
+      minute-place = λ prices minute. refl;
       window-pays = λ H prices t. refl;
       supply-costs = λ H prices. refl;
       first-change = λ T groomers slopes. refl;

@@ -36,6 +36,7 @@ use Rattle.hall_spec.specs.Hall.{mostUnits, mostVehicles, hallGap, Hall, window
 use Rattle.hall_spec.specs.Plan.{smallTakes, smallSteps, hallWorth}
 use Rattle.hall_spec.specs.Promises.{worthOfWindows, HallPromises}
 use Rattle.hall_spec.specs.Charge.{chargingSheet, AcceptedCharging}
+use Rattle.limit_spec.specs.Prices.{slopePrice, turnPrice}
 use Rattle.limit_spec.specs.Limit.{limitOf}
 use Rattle.refine_spec.specs.Rounds.{nextChange, greatestOf}
 use Rattle.refine_spec.specs.Shift.{movedPrice, turnChange, greatestWorth, shiftStart}
@@ -178,6 +179,10 @@ pub record Figures : Type 0 where
   -- a price list of a shift has a number for each slope and each turn, one of a hall has 960
   pub shift-list : {s : List ℕ} → Bytes s → (prices : List ℕ) → (limitOf s prices .refusal ≡ 0) ↔ (Accepted s × (length prices ≡ valueAt s 4 1 + valueAt s 5 2))
   pub hall-list : {s : List ℕ} → Bytes s → (prices : List ℕ) → (chargeLimitOf s prices .refusal ≡ 0) ↔ (AcceptedCharging s × (length prices ≡ 960))
+  -- first the slopes in order, then the turns; in a hall the minutes in order
+  pub slope-place : (prices : List ℕ) (slope : ℕ) → slopePrice prices slope ≡ getD prices (slope - 1) 0
+  pub turn-place : (slopes : ℕ) (prices : List ℕ) (u : ℕ) → turnPrice slopes prices u ≡ getD prices (slopes + u) 0
+  pub minute-place : (prices : List ℕ) (minute : ℕ) → minutePrice prices minute ≡ getD prices minute 0
   -- a hall's prices are sixteenths
   pub window-pays : (H : Hall) (prices : List ℕ) (t : ℕ) → windowPays H prices t ≡ draw H t * minutesCost H prices t / 16
   pub supply-costs : (H : Hall) (prices : List ℕ) → supplyCost H prices ≡ H .units * sum (minutePrice prices) (below 960) / 16

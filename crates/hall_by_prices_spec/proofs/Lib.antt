@@ -5,5 +5,3 @@ pub mod Chosen
 pub mod RefineCauses
 pub mod HallRounds
 pub mod Refined
-pub mod Fronts
-pub mod Worked

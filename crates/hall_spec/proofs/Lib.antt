@@ -6,9 +6,7 @@ pub mod Open
 pub mod Small
 pub mod Wide
 pub mod Halls
-pub mod Worked
 pub mod Limits
 pub mod ChargingSheets
 pub mod ChargeCauses
 pub mod SheetPromised
-pub mod ChargeWorked

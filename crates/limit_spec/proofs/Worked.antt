@@ -24,11 +24,4 @@ limit-cases =
       one-slope = refl;
       three-slopes = refl;
       greatest = refl;
-      two-prices = refl;
-      tight = refl;
-      greatest-driven = refl;
-      no-turns = refl;
-      too-few = refl;
-      too-many = refl;
-      no-sheet = refl;
     }

@@ -2,19 +2,11 @@
 use mathlib.Core.Path.{_≡_}
 use mathlib.Core.List.{List, [], _∷_}
 use Prim.Native.Nat.{ℕ}
-use Rattle.limit_spec.specs.Limit.{limitIs, limitRefused, limitOf}
+use Rattle.limit_spec.specs.Limit.{limitIs, limitOf}
 
 -- document 01's shift: two groomers, three slopes, four turns; (slope, groomer, start, end, worth) are (1,1,0,60,100) (2,1,30,90,150) (1,2,0,120,80) (3,2,120,180,90)
 abbrev pub shift : List ℕ
 shift = 0x47 ∷ 0x52 ∷ 0x4D ∷ 0x02 ∷ 0x03 ∷ 0x00 ∷ 0x04 ∷ 0x1F ∷ 0x01 ∷ 0x01 ∷ 0x00 ∷ 0x00 ∷ 0x00 ∷ 0x3C ∷ 0x00 ∷ 0x64 ∷ 0x15 ∷ 0x02 ∷ 0x00 ∷ 0x1E ∷ 0x00 ∷ 0x96 ∷ 0x1F ∷ 0x01 ∷ 0x02 ∷ 0x00 ∷ 0x00 ∷ 0x00 ∷ 0x78 ∷ 0x00 ∷ 0x50 ∷ 0x1D ∷ 0x03 ∷ 0x00 ∷ 0x78 ∷ 0x00 ∷ 0x3C ∷ 0x00 ∷ 0x5A ∷ []
-
--- two groomers, three slopes, three turns: (1,1,0,60,100) and (2,2,30,90,150), both of driver 7, and (3,1,100,150,30) without a driver
-abbrev pub driven : List ℕ
-driven = 0x47 ∷ 0x52 ∷ 0x4D ∷ 0x02 ∷ 0x03 ∷ 0x00 ∷ 0x03 ∷ 0x3F ∷ 0x01 ∷ 0x01 ∷ 0x00 ∷ 0x00 ∷ 0x00 ∷ 0x3C ∷ 0x00 ∷ 0x64 ∷ 0x07 ∷ 0x17 ∷ 0x02 ∷ 0x02 ∷ 0x00 ∷ 0x1E ∷ 0x00 ∷ 0x96 ∷ 0x3F ∷ 0x03 ∷ 0x01 ∷ 0x00 ∷ 0x64 ∷ 0x00 ∷ 0x32 ∷ 0x00 ∷ 0x1E ∷ 0x00 ∷ []
-
--- two groomers, three slopes and no turns
-abbrev pub noneAtAll : List ℕ
-noneAtAll = 0x47 ∷ 0x52 ∷ 0x4D ∷ 0x02 ∷ 0x03 ∷ 0x00 ∷ 0x00 ∷ []
 
 pub record LimitCases : Type 0 where
   -- no prices: 150 of groomer 1 and 90 of groomer 2
@@ -25,16 +17,3 @@ pub record LimitCases : Type 0 where
   pub three-slopes : limitOf shift (60 ∷ 40 ∷ 10 ∷ 0 ∷ 0 ∷ 0 ∷ 0 ∷ []) ≡ limitIs 300
   -- the greatest prices: no turn counts, and no turn has a driver, so that three prices are left
   pub greatest : limitOf shift (65535 ∷ 65535 ∷ 65535 ∷ 65535 ∷ 65535 ∷ 65535 ∷ 65535 ∷ []) ≡ limitIs 196605
-  -- 40 and 5 on the two turns of driver 7: turn 0 pays 40, turn 1 pays 40 and 5; they count for 60 and 105, turn 2 for 30, and its own price is not in the limit
-  pub two-prices : limitOf driven (0 ∷ 0 ∷ 0 ∷ 40 ∷ 5 ∷ 999 ∷ []) ≡ limitIs 240
-  -- 100 on turn 0 alone: the limit is 100, 50 of turn 1 and 30 of turn 2, which is what turns 1 and 2 are worth
-  pub tight : limitOf driven (0 ∷ 0 ∷ 0 ∷ 100 ∷ 0 ∷ 0 ∷ []) ≡ limitIs 180
-  -- the greatest prices: of three slopes and of the two turns with a driver
-  pub greatest-driven : limitOf driven (65535 ∷ 65535 ∷ 65535 ∷ 65535 ∷ 65535 ∷ 65535 ∷ []) ≡ limitIs 327675
-  -- without turns the limit is the slopes' prices
-  pub no-turns : limitOf noneAtAll (1 ∷ 2 ∷ 3 ∷ []) ≡ limitIs 6
-  -- a price too few, and one too many
-  pub too-few : limitOf shift (0 ∷ 0 ∷ 0 ∷ 0 ∷ 0 ∷ 0 ∷ []) ≡ limitRefused 26
-  pub too-many : limitOf shift (0 ∷ 0 ∷ 0 ∷ 0 ∷ 0 ∷ 0 ∷ 0 ∷ 0 ∷ []) ≡ limitRefused 26
-  -- no sheet, and no list either: the sheet's number
-  pub no-sheet : limitOf [] (0 ∷ []) ≡ limitRefused 1

@@ -2,7 +2,6 @@ pub mod Stints
 pub mod Delayed
 pub mod Days
 pub mod Standings
-pub mod Worked
 pub mod TableStints
 pub mod Delays
 pub mod Moves

@@ -1,7 +1,6 @@
 pub mod Day
 pub mod Standing
 pub mod Play
-pub mod Cases
 pub mod Minutes
 pub mod Promises
 pub mod DayTable

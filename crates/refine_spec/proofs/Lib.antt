@@ -7,4 +7,3 @@ pub mod Shift
 pub mod Boards
 pub mod RefineCauses
 pub mod Promised
-pub mod Worked

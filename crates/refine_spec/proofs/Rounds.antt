@@ -8,7 +8,7 @@ use native.Mathlib.Omega.{arith}
 use native.Mathlib.Decide.{decLt}
 use lib.Dec.{ltb, eqb}
 use borrow.Author.Tests.{lt-ltb, le-ltb, eqb-true, eqb-false, eq-eqb, ne-eqb}
-use Rattle.refine_spec.specs.Rounds.{RoundRule, Stage, lowerLimit, betterChoice, looked, moving, refined}
+use Rattle.refine_spec.specs.Rounds.{RoundRule, Stage, lowerLimit, betterChoice, looked, nextChange, moving, refined}
 
 -- the lowest limit is the best worth
 abbrev pub Met : Stage → Type 0
@@ -76,6 +76,13 @@ module _ (R : RoundRule) where
       go : (b : Bool) → P (cond b (R .worth (R .choice (x .prices))) (x .worth)) (cond b (R .choice (x .prices)) (x .choice))
       go true = p
       go false = q
+
+  -- ---- a round
+
+  -- it lowers the change
+  pub moving-change : (x : Stage) → moving R x .change ≡ nextChange (x .change)
+  unfolding moving
+  moving-change x = refl
 
   -- ---- from a look on: no round is left, or limit and worth have met, or a round comes
 

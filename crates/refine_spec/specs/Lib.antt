@@ -4,4 +4,3 @@ pub mod Shift
 pub mod Refine
 pub mod Answer
 pub mod Promises
-pub mod Cases

@@ -5,4 +5,3 @@ pub mod Firsts
 pub mod Sets
 pub mod ImproveCauses
 pub mod SheetPromised
-pub mod Worked

@@ -3,4 +3,3 @@ pub mod Sets
 pub mod Promises
 pub mod Improve
 pub mod SheetPromises
-pub mod Cases

@@ -308,6 +308,7 @@ const BOARDS: &str = "
 13 one slope twice: 5 240 180, 0 100, 1 50, 3 90
 14 a turn that fits left out: 8 240 90, 0 100, 1 50, 3 90
 15 a step of turn 4: 10 240 240, 0 100, 1 50, 4 90
+15 an earlier end of its groomer is open: 10 240 240, 3 90, 0 100, 1 50
 15 a step of a closed turn: 10 240 240, 0 100, 1 50, 1 90
 15 another amount: 10 240 240, 0 99, 1 51, 3 90
 15 an earlier end is open: 10 240 240, 1 150, 2 80, 3 10
@@ -331,6 +332,22 @@ fn boards_checked(corpus: &mut Corpus) {
     corpus.check(12, "a board of no turns", &SHEET, none);
     let past_last = with(&BOARD, 15, &[0x1A]);
     corpus.check(12, "a bit past the last turn", &SHEET, &past_last);
+    let rows = [
+        TURNS[0],
+        TURNS[1],
+        [1, 2, 0, 120, 70, 0],
+        [1, 2, 0, 100, 80, 0],
+    ];
+    let other = board_with(10, [150, 230], &[(0, 100), (1, 50)]);
+    corpus.check(
+        0,
+        "the higher number filled in",
+        &sheet_of(2, 2, &rows),
+        &other,
+    );
+    let driven = sheet_of(2, 2, &[[1, 1, 0, 60, 100, 7], [2, 2, 30, 60, 150, 7]]);
+    let both = with(&planned(&driven), 14, &[250, 3]);
+    corpus.check(13, "one driver twice at one time", &driven, &both);
     corpus.check(0, "no turns", b"GRM\x02\x03\0\0", none);
     corpus.check(1, "no bytes", b"", b"");
     let longer = [&SHEET[..], &[0]].concat();
@@ -373,6 +390,7 @@ fn tables_written(corpus: &mut Corpus) {
         &[[1, 1, 0, 1, 1, 9], [1, 1, 0, 1, 1, 0]].concat(),
         40,
     );
+    write(0, "a first driver", [1, 1], &[1, 1, 0, 60, 100, 40], 18);
     write(18, "part of a turn, no groomers", [0, 3], &shift[..23], 0);
     write(3, "256 groomers", [256, 3], &shift, 0);
     write(3, "no slopes, 401 turns", [2, 0], &[1; 6 * 401], 0);
@@ -401,6 +419,7 @@ fn tables_written(corpus: &mut Corpus) {
 /// ends, and drivers.
 const PLANS: &str = "
 0 a turn that only the fill chooses: 1 1 0 60 10 0, 1 2 0 90 15 0, 2 2 30 70 4 0
+0 of two turns to fill in the lower number: 1 1 0 60 100 0, 2 1 30 60 150 0, 1 2 0 120 70 0, 1 2 0 100 80 0
 0 choosing from the last step back: 1 1 0 10 5 0, 2 1 5 10 20 0, 3 1 12 10 9 0
 0 other groomers at one time: 1 1 0 60 50 0, 2 2 0 60 60 0
 0 the earliest end, not the earliest start: 1 1 0 200 10 0, 2 1 10 20 9 0, 3 1 60 20 9 0
@@ -410,8 +429,10 @@ const PLANS: &str = "
 0 9 minutes after, two groomers: 1 1 100 50 70 0, 2 2 159 40 100 0
 0 9 minutes after, one driver: 1 1 100 50 70 7, 2 2 159 40 100 7
 0 9 minutes after, two drivers: 1 1 100 50 70 7, 2 2 159 40 100 8
+0 at one time, one driver: 1 1 0 60 100 7, 2 2 30 60 150 7
 0 one end, the second richer: 1 1 0 60 50 0, 2 1 30 30 51 0
 0 one end, equally rich: 1 1 0 60 50 0, 2 1 30 30 50 0
+0 one end, two equally rich and a poorer one before them: 1 1 0 60 50 0, 2 1 0 60 100 0, 2 2 0 60 100 0
 0 one end, poorer by what remains: 1 1 0 30 60 0, 4 1 20 70 109 0, 3 2 30 60 50 0
 0 three groups: 1 1 3 1 5 1, 1 2 3 2 5 0, 2 1 3 2 5 2, 3 3 3 3 5 1
 0 worth above the tally: 1 1 0 60 10 0, 2 1 0 80 100 0, 1 2 0 80 100 0
@@ -503,6 +524,29 @@ fn better_with_patience(corpus: &mut Corpus) {
         let name = format!("better than planned, {visits} visits");
         improve(0, &name, &better, visits, 1);
     }
+    let rows = [
+        [1, 2, 100, 10, 3, 0],
+        [1, 1, 0, 10, 5, 0],
+        [2, 1, 5, 20, 2, 0],
+        [1, 1, 15, 30, 5, 0],
+    ];
+    for visits in [4, 11] {
+        let name = format!("sets as good as the plan, {visits} visits");
+        improve(0, &name, &sheet_of(2, 2, &rows), visits, 2);
+    }
+    let rows = [
+        [1, 1, 0, 10, 5, 0],
+        [1, 2, 0, 10, 3, 0],
+        [2, 1, 5, 10, 3, 0],
+        [3, 1, 5, 10, 3, 0],
+    ];
+    improve(
+        0,
+        "the first of two better sets",
+        &sheet_of(2, 3, &rows),
+        99,
+        2,
+    );
     let on_one_slope = |turns: u16| {
         let row = |turn: u16| [1, 1, 13 * turn, 5, 7 + turn, 0];
         sheet_of(1, 1, &(0..turns).map(row).collect::<Vec<Row>>())
@@ -528,6 +572,7 @@ fn drawn_sheets(corpus: &mut Corpus) {
         assert_eq!(found, number, "{name}");
     };
     draw(0, "seed 1, 100 turns", 1, [16, 120, 100], 1007);
+    draw(0, "seed 2, two turns", 2, [2, 3, 2], 25);
     draw(0, "the greatest seed", MODULUS - 1, [16, 120, 3], 64);
     draw(0, "no turns", 7, [1, 1, 0], 7);
     draw(11, "no turns, a byte too few", 7, [1, 1, 0], 6);
@@ -560,6 +605,8 @@ fn kept_forms(corpus: &mut Corpus) {
     restore(0, "the shift", &kept, 39);
     restore(11, "the shift, a byte too few", &kept, 38);
     restore(0, "no turns", b"GRC\x01\x01\0\0", 7);
+    let drivers = b"GRC\x01\x02\0\x02\x3F\x21\x01\x02\x01\0\0\0\x3C\0\x64\x07\x08";
+    restore(0, "two drivers", drivers, 21);
     restore(1, "six bytes", &kept[..6], 39);
     restore(2, "a sheet", &SHEET, 39);
     restore(3, "no groomers", &with(&kept, 3, &[0, 3, 1, 0x91]), 39);
@@ -591,6 +638,7 @@ const HALLS: &str = "
 0 plans of one worth: 48, 1 48 0 60 50 0, 2 1 0 60 50 0
 0 the large draw worth more: 48, 1 48 0 60 51 0, 2 1 0 60 50 0
 0 large draws that touch: 48, 1 48 0 10 10 0, 2 48 10 10 9 0
+0 one end, the second worth more: 1, 1 1 0 1 1 0, 2 1 0 1 2 0, 2 1 1 1 2 0
 0 half the units is small: 48, 1 24 0 60 10 0, 2 25 0 60 9 0
 0 filled while the units last: 48, 1 24 0 60 10 0, 2 24 0 60 9 0, 3 24 0 60 8 0
 0 a vehicle's windows: 48, 1 1 0 10 10 0, 1 1 5 10 30 0, 1 1 500 10 15 0
