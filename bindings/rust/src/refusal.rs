@@ -63,8 +63,8 @@ pub enum Refusal {
     /// The price list has not one number for each slope and each turn; for a
     /// hall, not one for each minute.
     BadPrices = 26,
-    /// A number that is none of these. The library gives none of them; the archive
-    /// of another version might.
+    /// A number above 26. The library of this version gives none; that of another
+    /// might.
     Unknown = u8::MAX,
 }
 

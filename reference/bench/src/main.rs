@@ -330,7 +330,7 @@ fn print_row(name: &str, label: &str, times: [Times; 2], growth: Option<f64>) {
     );
 }
 
-/// Draws a shift of so many turns, or a hall of so many windows.
+/// Draws a shift with a number of turns, or a hall with a number of windows.
 #[derive(Clone, Copy)]
 enum Kind {
     Turns(fn(&mut Rng, usize) -> Shift),
@@ -684,7 +684,7 @@ struct Measured {
     growth: Option<f64>,
 }
 
-/// Measures an entry on sheets of one kind, with so many turns or windows.
+/// Measures an entry on sheets of one kind, at each of these sizes.
 fn measured(entry: &Entry, kind: Kind, name: &str, sizes: &[usize]) -> Vec<Measured> {
     let mut rng = Rng::new(7);
     let mut before: Option<f64> = None;
@@ -707,8 +707,8 @@ fn main() {
     let wanted = |name: &str| named.is_empty() || named.iter().any(|word| word == name);
     println!("times of one call in microseconds, over {SHEETS} sheets; n is the number of turns or windows, m of steps;");
     println!("*: the slowest row of an entry by the library's best;");
-    println!("12 groomers and 80 slopes; w: 16 groomers, 120 slopes, sorted; k: so many groomers; d: with drivers;");
-    println!("d=12, d=40: 16 groomers, 120 slopes, so many drivers; slope: all turns on one; steps: one for each turn;");
+    println!("12 groomers and 80 slopes; w: 16 groomers, 120 slopes, sorted; k: number of groomers; d: with drivers;");
+    println!("d=12, d=40: 16 groomers, 120 slopes, 12 or 40 drivers; slope: all turns on one; steps: one for each turn;");
     println!("long: turns of up to five hours;");
     println!("improve: at most {VISITS} visits, apart: no two turns conflict; refine, charge r: at most {BOARD_ROUNDS} rounds;");
     println!("plan f: the reference makes no list at each pick;");
