@@ -9,7 +9,7 @@ use Rattle.refusal.proofs.Outcome.{number-refused}
 use Rattle.wire.specs.Number.{Bytes}
 use Rattle.turn.specs.declared.Counts.{Counts}
 use Rattle.sheet.specs.declared.kind.Kind.{Kind}
-use Rattle.sheet.specs.Read.{Reading}
+use Rattle.sheet.specs.Read.{countsIn, turnCount, Reading}
 use Rattle.sheet.specs.Promises.{ReadPromisedFor}
 use Rattle.sheet.proofs.ReadCauses.{read-refused-iff}
 use Rattle.sheet.proofs.Promised.{read-promised}
@@ -24,7 +24,11 @@ use Rattle.archive_spec.proofs.KeptCauses.{keep-refused-iff, keep-unchanged, re
 use Rattle.archive_spec.proofs.RoundTrip.{keep-then-restore, restore-then-keep}
 use Rattle.model.specs.Turns.{Turns}
 use Rattle.model.specs.Promises.{Promises}
-use Rattle.board_open.proofs.OpenCauses.{open-first-iff}
+use Rattle.instance_spec.specs.Problem.{sheetTurns}
+use Rattle.board.specs.Board.{boardChoice}
+use Rattle.board_open.proofs.OpenCauses.{open-accepted-iff, open-first-iff}
+use Rattle.board_open.proofs.Chosen.{count-turns, chosen-turn}
+use Rattle.board_open.proofs.Parts.{part-named}
 use Rattle.plan_spec.specs.Plan.{planOf}
 use Rattle.plan_spec.proofs.PlanCauses.{plan-refused-iff, plan-unchanged}
 use Rattle.check_spec.specs.declared.CheckAnswer.{CheckAnswer}
@@ -35,20 +39,23 @@ use Rattle.listing_spec.proofs.Listed.{list-refused-iff, list-unchanged}
 use Rattle.assign_spec.specs.Assign.{assignOf}
 use Rattle.assign_spec.proofs.AssignCauses.{assign-refused-iff, assign-unchanged}
 use Rattle.assign_spec.proofs.Promised.{assign-promised}
+use Rattle.best_spec.specs.Groomers.{groomerWorth}
 use Rattle.best_spec.specs.Best.{bestOf}
 use Rattle.best_spec.proofs.BestCauses.{best-clear, best-refused-iff, best-unchanged}
 use Rattle.best_spec.proofs.Promised.{best-of-sheet, best-promised}
 use Rattle.search_spec.specs.Improve.{improveOf}
 use Rattle.search_spec.proofs.ImproveCauses.{improve-refused-iff, improve-unchanged}
-use Rattle.search_spec.proofs.SheetPromised.{improved-sheet}
+use Rattle.search_spec.proofs.SheetPromised.{improved-sheet, none-allowed-plan}
 use Rattle.play_spec.specs.declared.Stint.{Stint}
 use Rattle.play_spec.specs.declared.Standing.{Standing}
 use Rattle.play_spec.specs.Standing.{StandingIs}
-use Rattle.play_spec.specs.Play.{playOf}
+use Rattle.play_spec.specs.Day.{delayIn}
+use Rattle.play_spec.specs.Play.{dayAt, playOf}
 use Rattle.play_spec.proofs.PlayCauses.{play-refused-iff, play-unchanged}
 use Rattle.play_spec.proofs.Promised.{play-promised, play-alike}
 use Rattle.limit_spec.specs.declared.LimitAnswer.{LimitAnswer}
-use Rattle.limit_spec.specs.Limit.{limitCauses, limitRefused, limitOf}
+use Rattle.limit_spec.specs.Prices.{pricedTurns}
+use Rattle.limit_spec.specs.Limit.{priceCount, limitCauses, limitRefused, limitOf}
 use Rattle.limit_spec.proofs.LimitCauses.{limit-refused-iff}
 use Rattle.limit_spec.proofs.Promised.{limit-promised}
 use Rattle.refine_spec.specs.Refine.{refineOf}
@@ -65,7 +72,7 @@ use Rattle.hall_by_prices_spec.proofs.RefineCauses.{charge-refine-refused-iff, 
 use Rattle.hall_by_prices_spec.proofs.Refined.{charge-refine-promised}
 use Rattle.claim.proofs.Claimed.{claim, plan-front}
 use Rattle.claim.proofs.Listed.{list-promised}
-use Rattle.figures.specs.Promised.{Reads, Writes, Binds, Checks, Plans, ListsBoard, AssignsAll, FindsBest, Searches, StandsSo, PlaysShift, LimitsShift, RefinesShift, ChargesHall, LimitsHall, RefinesHall, Promised}
+use Rattle.figures.specs.Promised.{turnsIn, Reads, Writes, Binds, Checks, Plans, ListsBoard, AssignsAll, FindsBest, Searches, StandsSo, PlaysShift, LimitsShift, RefinesShift, ChargesHall, LimitsHall, RefinesHall, Promised}
 
 reads : {K : Kind} {s lent : List ℕ} {x : Reading} → ReadPromisedFor K s lent x → Reads K s lent x
 reads p =
@@ -146,28 +153,26 @@ module _ {s : List ℕ} (y : Bytes s) (lent : List ℕ) (z : planOf s lent .answ
       })
 
 module _ (s lent place : List ℕ) (z : listOf s lent .answer .refusal ≡ 0) (e : planOf s place .answer .refusal ≡ 0) where
-  lists-board : ListsBoard s (writtenPart (planOf s place)) lent (listOf s lent)
+  lists-board : ListsBoard s (writtenPart (planOf s place)) lent (sheetTurns s) (boardChoice (writtenPart (planOf s place))) (listOf s lent)
   lists-board =
       let p = list-promised s lent z place e in
       record { passes = p .passes; writes = p .writes; turns = λ h. p .rounds h .turns; by-start = λ h. p .rounds h .by-start; turn-lines = p .turn-lines }
 
 module _ (s lent : List ℕ) (z : assignOf s lent .answer .refusal ≡ 0) where
-  assigns-all : AssignsAll s lent (assignOf s lent)
+  assigns-all : AssignsAll (sheetTurns s) (take (turnCount s) (assignOf s lent .lent)) (assignOf s lent .answer .groomers)
   assigns-all =
-      let p = assign-promised s lent z in
-      let n = p .numbered in
+      let n = assign-promised s lent z .numbered in
       record {
         greedy = n .greedy;
         apart = n .no-overlap;
-        used = n .uses;
+        used-are = n .uses;
         together-most = n .no-minute-above;
         together-some = n .some-minute;
         fewest = n .fewest;
-        behind = p .behind;
       }
 
 module _ (s lent : List ℕ) (z : bestOf s lent .answer .refusal ≡ 0) where
-  finds-best : FindsBest s lent (bestOf s lent)
+  finds-best : FindsBest s lent (sheetTurns s) (turnsIn s (bestOf s lent .lent)) (bestOf s lent)
   finds-best =
       let p = best-promised s lent z in
       let (e, d, o, l) = best-clear s lent z in
@@ -191,7 +196,7 @@ module _ (s lent : List ℕ) (z : bestOf s lent .answer .refusal ≡ 0) where
       }
 
 module _ (s : List ℕ) (limit : ℕ) (lent : List ℕ) (z : improveOf s limit lent .answer .refusal ≡ 0) where
-  searches : Searches s limit lent (improveOf s limit lent)
+  searches : Searches s limit lent (sheetTurns s) (turnsIn s (improveOf s limit lent .lent)) (improveOf s limit lent)
   searches =
       let p = improved-sheet s limit lent z in
       let c = p .compares in
@@ -228,7 +233,7 @@ stands-so : {day : List Stint} {m : ℕ} {x : Standing} → StandingIs day m x �
 stands-so p = record { working = p .working-is; driving = p .driving-is; standing = p .standing-is; turn = p .turn-is; minutes = p .minutes }
 
 module _ (s b delays : List ℕ) (lent : List Standing) (z : playOf s b delays lent .answer .refusal ≡ 0) where
-  plays-shift : PlaysShift s b delays lent (playOf s b delays lent)
+  plays-shift : PlaysShift (sheetTurns s) (boardChoice b) (delayIn delays) (countsIn s .groomers) (dayAt s b delays) lent (playOf s b delays lent)
   plays-shift =
       let p = play-promised s b delays lent z in
       record {
@@ -241,20 +246,19 @@ module _ (s b delays : List ℕ) (lent : List Standing) (z : playOf s b delays l
         behind = p .behind;
         on-time = λ n u h. let (g, l, own, t) = p .on-time n u h in (g, l, own, λ m. (t .only m, λ (f, e). t .planned m f e));
         table-there = p .table-there;
-        one-minute = λ table w. p .by-minutes table w .one-minute;
-        each-minute = λ table w m l g h. stands-so (p .by-minutes table w .standings m l g h);
-        minute-behind = λ table w. p .by-minutes table w .behind;
-        last-minute = λ table w. p .by-minutes table w .last;
+        moves = λ table w. let q = p .by-minutes table w in record { one-minute = q .one-minute; each-minute = λ m l g h. stands-so (q .standings m l g h); behind = q .behind; last = q .last };
       }
 
 module _ (s prices : List ℕ) (z : limitOf s prices .refusal ≡ 0) where
-  limits-shift : LimitsShift s prices (limitOf s prices .limit)
+  limits-shift : LimitsShift s prices (sheetTurns s) (groomerWorth (pricedTurns (sheetTurns s) (countsIn s .slopes) prices)) (limitOf s prices .limit)
   limits-shift =
       let p = limit-promised s prices z in
       record { capped = p .within; parts = p .parts; attained = λ g. p .groomer-most g .attained; greatest = λ g. p .groomer-most g .greatest; free = p .free; free-best = p .free-best }
 
 module _ (s : List ℕ) (rounds : ℕ) (board prices : List ℕ) (z : refineOf s rounds board prices .refusal ≡ 0) where
-  refines-shift : RefinesShift s rounds board prices (take (refineOf s rounds board prices .bytes) (refineOf s rounds board prices .board)) (refineOf s rounds board prices)
+  refines-shift :
+      RefinesShift s rounds board prices (take (refineOf s rounds board prices .bytes) (refineOf s rounds board prices .board)) (take (priceCount s) (refineOf s rounds board prices .prices)) (sheetTurns s)
+      (refineOf s rounds board prices)
   refines-shift =
       let p = refine-promised s rounds board prices z in
       record {
@@ -279,7 +283,7 @@ module _ (s : List ℕ) (rounds : ℕ) (board prices : List ℕ) (z : refineOf s
       }
 
 module _ (s lent : List ℕ) (z : chargeOf s lent .answer .refusal ≡ 0) where
-  charges-hall : ChargesHall s lent (hallOf s) (chargeOf s lent)
+  charges-hall : ChargesHall s lent (hallOf s) (turnsIn s (chargeOf s lent .lent)) (chargeOf s lent)
   charges-hall =
       let p = charge-promised s lent z in
       let q = charge-promises s lent z in
@@ -310,7 +314,7 @@ module _ (s prices : List ℕ) (z : chargeLimitOf s prices .refusal ≡ 0) where
       record { capped = p .within; parts = p .parts; greatest = λ v. p .vehicle-most v .greatest; attained = λ v. p .vehicle-most v .attained; free = p .free }
 
 module _ (s : List ℕ) (rounds : ℕ) (map prices : List ℕ) (z : chargeRefineOf s rounds map prices .refusal ≡ 0) where
-  refines-hall : RefinesHall s rounds map prices (hallOf s) (chargeRefineOf s rounds map prices)
+  refines-hall : RefinesHall s rounds map prices (hallOf s) (turnsIn s (chargeRefineOf s rounds map prices .map)) (chargeRefineOf s rounds map prices)
   refines-hall =
       let p = charge-refine-promised s rounds map prices z in
       record {
@@ -360,14 +364,20 @@ promised =
           (p .drawn, p .many, λ k d l. let f = p .fields k d l in record { slope = f .slope; groomer = f .groomer; start = f .start; length = f .length; worth = f .worth; driver = f .driver }, p .as-written, writes (p .promised));
       keep-back = keep-then-restore;
       restore-back = restore-then-keep;
+      opens = open-accepted-iff;
+      count = count-turns;
+      is-chosen = chosen-turn;
+      steps = λ b. part-named b refl;
       check = checks;
       plan = plans;
       plan-accepts = λ {s} y. claim s s y .plans;
       plan-writes = λ {s} y. claim s s y .writes;
       list = lists-board;
       assign = assigns-all;
+      assign-behind = λ s lent z. assign-promised s lent z .behind;
       best = finds-best;
       improve = searches;
+      improve-none = λ s lent z n. let p = none-allowed-plan s lent z n in (p .worth-is, p .map-is);
       play = plays-shift;
       play-answer = λ s b delays lent other room. play-alike s b delays lent other room .answer;
       play-list = λ s b delays lent other room. play-alike s b delays lent other room .standings;

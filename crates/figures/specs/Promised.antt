@@ -37,8 +37,10 @@ use Rattle.model.specs.Rules.{Independent, Maximal}
 use Rattle.model.specs.IntervalSelection.{Selects}
 use Rattle.instance_spec.specs.Problem.{sheetTurns}
 use Rattle.choice_map.specs.Choice.{mapBytes, mapOf, choiceIn, onesIn}
-use Rattle.board.specs.Board.{boardTally, boardWorth, boardMap, boardChoice, writtenSteps}
-use Rattle.board_open.specs.Open.{openOf, FirstOpenCause}
+use Rattle.board.specs.Board.{boardTurns, boardSteps, boardTally, boardWorth, boardMap, boardChoice, writtenSteps}
+use Rattle.board_open.specs.Open.{openOf, stepsPart, WellFormed, FirstOpenCause}
+use Rattle.board_open.specs.Chosen.{countOf, turnChosen}
+use Rattle.board_open.specs.Part.{stepsPartAt}
 use Rattle.plan_spec.specs.Plan.{plannedBoard, planOf, FirstPlanCause}
 use Rattle.check_spec.specs.Check.{BoardKeeps, BoardCause, CheckCause, FirstCheckCause, checkOf, checked}
 use Rattle.listing_spec.specs.Round.{roundOf, Rising}
@@ -57,7 +59,7 @@ use Rattle.play_spec.specs.declared.Standing.{Standing}
 use Rattle.play_spec.specs.declared.Stint.{Stint}
 use Rattle.play_spec.specs.declared.PlayAnswer.{PlayAnswer}
 use Rattle.play_spec.specs.Day.{delayIn, works, doingAt, isWork, isDrive, isStand, DayIs, DoingIs}
-use Rattle.play_spec.specs.Standing.{freshOf, inHand}
+use Rattle.play_spec.specs.Standing.{freshOf, totalOf, inHand}
 use Rattle.play_spec.specs.DayTable.{Days}
 use Rattle.play_spec.specs.Minutes.{minuteOf, minutesFrom}
 use Rattle.play_spec.specs.Play.{dayAt, playRefused, playOf, FirstPlayCause}
@@ -181,77 +183,75 @@ pub record Plans (s b : List ℕ) : Type 0 where
 
 -- ---- the others by request
 
--- 01, the program slopes; R-7: the text is of the planner's board b and of the check's answer for it
-pub record ListsBoard (s b lent : List ℕ) (x : Written) : Type 0 where
+-- 01, the program slopes; R-7: the text is of the planner's board b, which chooses S, and of the check's answer for it
+pub record ListsBoard (s b lent : List ℕ) (T : Turns) (S : List Bool) (x : Written) : Type 0 where
   pub passes : checkOf s b .refusal ≡ 0
-  pub writes : x ≡ wrote (listingOf (countsIn s .groomers) (sheetTurns s) (boardChoice b) (record { worth = checkOf s b .worth; tally = checkOf s b .tally; ceiling = checkOf s b .ceiling })) lent
+  pub writes : x ≡ wrote (listingOf (countsIn s .groomers) T S (record { worth = checkOf s b .worth; tally = checkOf s b .tally; ceiling = checkOf s b .ceiling })) lent
   -- below a groomer's heading stand exactly its chosen turns, by start; there are as many as ones in the map
-  pub turns : (h u : ℕ) → In u (roundOf (sheetTurns s) (boardChoice b) h) ↔ ((u < sheetTurns s .count) × (has (boardChoice b) u ≡ true) × (sheetTurns s .groomer u ≡ h))
-  pub by-start : (h : ℕ) → Rising (sheetTurns s) (roundOf (sheetTurns s) (boardChoice b) h)
-  pub turn-lines : sum (λ k. length (roundOf (sheetTurns s) (boardChoice b) (k + 1))) (below (countsIn s .groomers)) ≡ onesIn (boardMap b)
+  pub turns : (h u : ℕ) → In u (roundOf T S h) ↔ ((u < T .count) × (has S u ≡ true) × (T .groomer u ≡ h))
+  pub by-start : (h : ℕ) → Rising T (roundOf T S h)
+  pub turn-lines : sum (λ k. length (roundOf T S (k + 1))) (below (countsIn s .groomers)) ≡ onesIn (boardMap b)
 
 -- R-4. Each turn's number is the smallest that is free when its turn comes, and no two of one number come within ten minutes
-pub record AssignsAll (s lent : List ℕ) (x : Outcome AssignAnswer (List ℕ)) : Type 0 where
-  pub greedy : GreedyNumbers (sheetTurns s) (take (turnCount s) (x .lent))
-  pub apart : Assignment (sheetTurns s) (numberIn (take (turnCount s) (x .lent)))
-  -- the number that comes back is how many are used, and the most turns that hold one minute, each ten minutes longer; no assignment uses fewer
-  pub used : different (numberIn (take (turnCount s) (x .lent))) (sheetTurns s .count) ≡ x .answer .groomers
-  pub together-most : (minute : ℕ) → heldTogether (sheetTurns s) minute ≤ x .answer .groomers
-  pub together-some : (minute : ℕ) × (heldTogether (sheetTurns s) minute ≡ x .answer .groomers)
-  pub fewest : (f : ℕ → ℕ) → Assignment (sheetTurns s) f → x .answer .groomers ≤ different f (sheetTurns s .count)
-  pub behind : drop (turnCount s) (x .lent) ≡ drop (turnCount s) lent
+pub record AssignsAll (T : Turns) (numbers : List ℕ) (used : ℕ) : Type 0 where
+  pub greedy : GreedyNumbers T numbers
+  pub apart : Assignment T (numberIn numbers)
+  -- how many are used comes back; it is the most turns that hold one minute, each ten minutes longer, and no assignment uses fewer
+  pub used-are : different (numberIn numbers) (T .count) ≡ used
+  pub together-most : (minute : ℕ) → heldTogether T minute ≤ used
+  pub together-some : (minute : ℕ) × (heldTogether T minute ≡ used)
+  pub fewest : (f : ℕ → ℕ) → Assignment T f → used ≤ different f (T .count)
 
--- R-9. The set shown has no conflict and earns the worth, and no feasible set earns more
-pub record FindsBest (s lent : List ℕ) (x : Earned) : Type 0 where
-  pub set : turnsIn s (x .lent) ≡ bestChoice (sheetTurns s)
-  pub places : length (turnsIn s (x .lent)) ≡ sheetTurns s .count
-  pub apart : Independent (sheetTurns s) (turnsIn s (x .lent))
-  pub earns : chosen (sheetTurns s .count) (turnsIn s (x .lent)) (sheetTurns s .worth) ≡ x .answer .worth
-  pub attained : (R : List ℕ) × Feasible (sheetTurns s) R × (worthOf (sheetTurns s) R ≡ x .answer .worth)
-  pub capped : CapsShift (sheetTurns s) (x .answer .worth)
+-- R-9. The set S that is shown has no conflict and earns the worth, and no feasible set earns more
+pub record FindsBest (s lent : List ℕ) (T : Turns) (S : List Bool) (x : Earned) : Type 0 where
+  pub set : S ≡ bestChoice T
+  pub places : length S ≡ T .count
+  pub apart : Independent T S
+  pub earns : chosen (T .count) S (T .worth) ≡ x .answer .worth
+  pub attained : (R : List ℕ) × Feasible T R × (worthOf T R ≡ x .answer .worth)
+  pub capped : CapsShift T (x .answer .worth)
   -- on equal worth the later turn is left out
-  pub latest : (R : List ℕ) → Feasible (sheetTurns s) R → worthOf (sheetTurns s) R ≡ x .answer .worth → (u : ℕ) → has (turnsIn s (x .lent)) u ≡ true → isAmong R u ≡ false →
-      (v : ℕ) × (isAmong R v ≡ true) × (has (turnsIn s (x .lent)) v ≡ false) × Later (sheetTurns s) v u
+  pub latest : (R : List ℕ) → Feasible T R → worthOf T R ≡ x .answer .worth → (u : ℕ) → has S u ≡ true → isAmong R u ≡ false → (v : ℕ) × (isAmong R v ≡ true) × (has S v ≡ false) × Later T v u
   -- the worth is the groomers' own bests added up
-  pub by-groomer : x .answer .worth ≡ groomersWorth (sheetTurns s) (countsIn s .groomers)
-  pub groomer-attained : (g : ℕ) → (R : List ℕ) × OwnSet (sheetTurns s) g R × (worthOf (sheetTurns s) R ≡ groomerWorth (sheetTurns s) g)
-  pub groomer-most : (g : ℕ) (R : List ℕ) → OwnSet (sheetTurns s) g R → worthOf (sheetTurns s) R ≤ groomerWorth (sheetTurns s) g
+  pub by-groomer : x .answer .worth ≡ groomersWorth T (countsIn s .groomers)
+  pub groomer-attained : (g : ℕ) → (R : List ℕ) × OwnSet T g R × (worthOf T R ≡ groomerWorth T g)
+  pub groomer-most : (g : ℕ) (R : List ℕ) → OwnSet T g R → worthOf T R ≤ groomerWorth T g
   -- the planned board has this worth, this tally and this map
   pub planned-worth : boardWorth (plannedBoard s) ≡ x .answer .worth
   pub planned-tally : boardTally (plannedBoard s) ≡ x .answer .worth
   pub planned-map : mapIn s (x .lent) ≡ boardMap (plannedBoard s)
-  pub map : mapIn s (x .lent) ≡ mapOf (turnsIn s (x .lent))
+  pub map : mapIn s (x .lent) ≡ mapOf S
   pub behind : drop (mapBytes (turnCount s)) (x .lent) ≡ drop (mapBytes (turnCount s)) lent
 
--- R-10. The turns that come back have no conflict and earn the worth, no less than the planned board
-pub record Searches (s : List ℕ) (limit : ℕ) (lent : List ℕ) (x : Improvement) : Type 0 where
-  pub places : length (turnsIn s (x .lent)) ≡ sheetTurns s .count
-  pub apart : Independent (sheetTurns s) (turnsIn s (x .lent))
-  pub earns : chosen (sheetTurns s .count) (turnsIn s (x .lent)) (sheetTurns s .worth) ≡ x .answer .worth
+-- R-10. The turns S that come back have no conflict and earn the worth, no less than the planned board
+pub record Searches (s : List ℕ) (limit : ℕ) (lent : List ℕ) (T : Turns) (S : List Bool) (x : Improvement) : Type 0 where
+  pub places : length S ≡ T .count
+  pub apart : Independent T S
+  pub earns : chosen (T .count) S (T .worth) ≡ x .answer .worth
   pub no-less : boardWorth (plannedBoard s) ≤ x .answer .worth
   -- the visits are the lesser of the limit and those of the whole search, which ran exactly if the limit allows it
-  pub all-used : limit ≤ wholeVisits (sheetTurns s) → x .answer .visits ≡ limit
-  pub all-made : wholeVisits (sheetTurns s) ≤ limit → x .answer .visits ≡ wholeVisits (sheetTurns s)
-  pub countable : wholeVisits (sheetTurns s) < 2 ^ 64
-  pub ran-whole : (x .answer .whole ≡ true) ↔ (wholeVisits (sheetTurns s) ≤ limit)
-  -- then no feasible set earns more; a larger limit earns no less; how far the ceiling is above
-  pub capped : x .answer .whole ≡ true → CapsShift (sheetTurns s) (x .answer .worth)
+  pub all-used : limit ≤ wholeVisits T → x .answer .visits ≡ limit
+  pub all-made : wholeVisits T ≤ limit → x .answer .visits ≡ wholeVisits T
+  pub countable : wholeVisits T < 2 ^ 64
+  pub ran-whole : (x .answer .whole ≡ true) ↔ (wholeVisits T ≤ limit)
+  -- then no feasible set earns more; a larger limit earns no less; how far the plan's ceiling is above
+  pub capped : x .answer .whole ≡ true → CapsShift T (x .answer .worth)
   pub larger : (more : ℕ) → limit ≤ more → (place : List ℕ) → mapBytes (turnCount s) ≤ length place → x .answer .worth ≤ improveOf s more place .answer .worth
-  pub to-ceiling : x .answer .worth + x .answer .above ≡ ceiling (sheetTurns s) (steps (sheetTurns s))
-  pub ceiling-caps : CapsShift (sheetTurns s) (x .answer .worth + x .answer .above)
-  -- compared are the planned set and then the sets without conflict, with a turn before without it, as far as the visits pay; the first that earns most is kept
-  pub starts : boardChoice (plannedBoard s) ≡ choice (sheetTurns s)
-  pub sets : (U : List Bool) → ListedSet U (setsOf (sheetTurns s) (sheetTurns s .count)) ↔ SetOf (sheetTurns s) (sheetTurns s .count) U
-  pub ordered : SetsInOrder (setsOf (sheetTurns s) (sheetTurns s .count))
-  pub all : wholeVisits (sheetTurns s) ≤ limit → setsWithin (sheetTurns s) limit ≡ setsOf (sheetTurns s) (sheetTurns s .count)
-  pub worth-is : x .answer .worth ≡ comparedAll (sheetTurns s) (setsWithin (sheetTurns s) limit) (fromPlan (sheetTurns s) limit) .worth
-  pub best-is : turnsIn s (x .lent) ≡ comparedAll (sheetTurns s) (setsWithin (sheetTurns s) limit) (fromPlan (sheetTurns s) limit) .best
-  pub first-most : FirstMost (sheetTurns s) (turnsIn s (x .lent)) (choice (sheetTurns s) ∷ setsWithin (sheetTurns s) limit)
-  pub costs : length (visitCosts (sheetTurns s) (sheetTurns s .count) 0 (noneTaken (sheetTurns s))) ≡ length (setsOf (sheetTurns s) (sheetTurns s .count))
-  pub cost-all : sum (λ c. c) (visitCosts (sheetTurns s) (sheetTurns s .count) 0 (noneTaken (sheetTurns s))) ≡ wholeVisits (sheetTurns s)
+  pub to-ceiling : x .answer .worth + x .answer .above ≡ ceiling T (steps T)
+  pub ceiling-caps : CapsShift T (x .answer .worth + x .answer .above)
+  -- compared are the planned set, then the sets without conflict, with a turn before without it, as far as the visits pay; only greater worth replaces
+  pub starts : boardChoice (plannedBoard s) ≡ choice T
+  pub sets : (U : List Bool) → ListedSet U (setsOf T (T .count)) ↔ SetOf T (T .count) U
+  pub ordered : SetsInOrder (setsOf T (T .count))
+  pub all : wholeVisits T ≤ limit → setsWithin T limit ≡ setsOf T (T .count)
+  pub worth-is : x .answer .worth ≡ comparedAll T (setsWithin T limit) (fromPlan T limit) .worth
+  pub best-is : S ≡ comparedAll T (setsWithin T limit) (fromPlan T limit) .best
+  pub first-most : FirstMost T S (choice T ∷ setsWithin T limit)
+  pub costs : length (visitCosts T (T .count) 0 (noneTaken T)) ≡ length (setsOf T (T .count))
+  pub cost-all : sum (λ c. c) (visitCosts T (T .count) 0 (noneTaken T)) ≡ wholeVisits T
   pub plan-kept : x .answer .worth ≤ boardWorth (plannedBoard s) → mapIn s (x .lent) ≡ boardMap (plannedBoard s)
-  pub found : x ≡ improvedFor (sheetTurns s) limit lent
-  pub map : mapIn s (x .lent) ≡ mapOf (turnsIn s (x .lent))
+  pub found : x ≡ improvedFor T limit lent
+  pub map : mapIn s (x .lent) ≡ mapOf S
   pub room : mapBytes (turnCount s) ≤ length lent
   pub behind : drop (mapBytes (turnCount s)) (x .lent) ≡ drop (mapBytes (turnCount s)) lent
 
@@ -263,54 +263,54 @@ pub record StandsSo (day : List Stint) (m : ℕ) (x : Standing) : Type 0 where
   pub turn : x .turn ≡ inHand (doingAt day m)
   pub minutes : x .working + x .driving + x .standing ≡ suc m
 
--- R-13. The groomers come back; each one's day has its chosen turns by start, each late by its delay, and every minute is working, driving over or standing
-pub record PlaysShift (s b delays : List ℕ) (lent : List Standing) (x : Outcome PlayAnswer (List Standing)) : Type 0 where
-  pub groomers : x .answer .groomers ≡ countsIn s .groomers
-  pub days : (g : ℕ) → DayIs (sheetTurns s) (boardChoice b) (delayIn delays) (suc g) (dayAt s b delays g)
-  pub doings : (g m : ℕ) → DoingIs (dayAt s b delays g) m (doingAt (dayAt s b delays g) m)
-  pub own : (g m u : ℕ) → doingAt (dayAt s b delays g) m ≡ works u → (has (boardChoice b) u ≡ true) × (sheetTurns s .groomer u ≡ suc g)
+-- R-13, of a list moved from minute 0 on: one minute a step, each groomer's standing after each minute, and after the last the list that comes back
+pub record MovesSo (n : ℕ) (day : ℕ → List Stint) (lent after : List Standing) (table : List ℕ) : Type 0 where
+  pub one-minute : (m : ℕ) → minutesFrom (suc m) 0 n lent table ≡ minuteOf n 0 (minutesFrom m 0 n lent table) table m
+  pub each-minute : (m : ℕ) → m < 960 → (g : ℕ) → g < n → StandsSo (day g) m (getD (minutesFrom (suc m) 0 n lent table) g freshOf)
+  pub behind : (m : ℕ) → m < 960 → drop n (minutesFrom (suc m) 0 n lent table) ≡ drop n lent
+  pub last : minutesFrom 960 0 n lent table ≡ after
+
+-- R-13. The number n of groomers comes back; each one's day has its chosen turns by start, each late by its delay, and every minute is working, driving over or standing
+pub record PlaysShift (T : Turns) (S : List Bool) (delay : ℕ → ℕ) (n : ℕ) (day : ℕ → List Stint) (lent : List Standing) (x : Outcome PlayAnswer (List Standing)) : Type 0 where
+  pub groomers : x .answer .groomers ≡ n
+  pub days : (g : ℕ) → DayIs T S delay (suc g) (day g)
+  pub doings : (g m : ℕ) → DoingIs (day g) m (doingAt (day g) m)
+  pub own : (g m u : ℕ) → doingAt (day g) m ≡ works u → (has S u ≡ true) × (T .groomer u ≡ suc g)
   -- after the shift the list has each one's standing; its three counts make 960
-  pub standings : (g : ℕ) → g < countsIn s .groomers → StandsSo (dayAt s b delays g) 959 (getD (x .lent) g freshOf)
-  pub whole : (g : ℕ) → g < countsIn s .groomers → getD (x .lent) g freshOf .working + getD (x .lent) g freshOf .driving + getD (x .lent) g freshOf .standing ≡ 960
-  pub behind : drop (countsIn s .groomers) (x .lent) ≡ drop (countsIn s .groomers) lent
+  pub standings : (g : ℕ) → g < n → StandsSo (day g) 959 (getD (x .lent) g freshOf)
+  pub whole : (g : ℕ) → g < n → totalOf (getD (x .lent) g freshOf) ≡ 960
+  pub behind : drop n (x .lent) ≡ drop n lent
   -- without delays each chosen turn is worked in exactly its planned minutes
-  pub on-time : ((u : ℕ) → delayIn delays u ≡ 0) → (u : ℕ) → has (boardChoice b) u ≡ true → (g : ℕ) × (g < countsIn s .groomers) × (sheetTurns s .groomer u ≡ suc g)
-      × ((m : ℕ) → (doingAt (dayAt s b delays g) m ≡ works u) ↔ ((sheetTurns s .start u ≤ m) × (m < sheetTurns s .end u)))
-  -- the list is moved by one minute a step, by any table of these days, and there is one
-  pub table-there : (table : List ℕ) × Days (sheetTurns s) (boardChoice b) (delayIn delays) table
-  pub one-minute : (table : List ℕ) → Days (sheetTurns s) (boardChoice b) (delayIn delays) table → (m : ℕ) →
-      minutesFrom (suc m) 0 (countsIn s .groomers) lent table ≡ minuteOf (countsIn s .groomers) 0 (minutesFrom m 0 (countsIn s .groomers) lent table) table m
-  pub each-minute : (table : List ℕ) → Days (sheetTurns s) (boardChoice b) (delayIn delays) table → (m : ℕ) → m < 960 → (g : ℕ) → g < countsIn s .groomers →
-      StandsSo (dayAt s b delays g) m (getD (minutesFrom (suc m) 0 (countsIn s .groomers) lent table) g freshOf)
-  pub minute-behind : (table : List ℕ) → Days (sheetTurns s) (boardChoice b) (delayIn delays) table → (m : ℕ) → m < 960 →
-      drop (countsIn s .groomers) (minutesFrom (suc m) 0 (countsIn s .groomers) lent table) ≡ drop (countsIn s .groomers) lent
-  pub last-minute : (table : List ℕ) → Days (sheetTurns s) (boardChoice b) (delayIn delays) table → minutesFrom 960 0 (countsIn s .groomers) lent table ≡ x .lent
+  pub on-time : ((u : ℕ) → delay u ≡ 0) → (u : ℕ) → has S u ≡ true → (g : ℕ) × (g < n) × (T .groomer u ≡ suc g) × ((m : ℕ) → (doingAt (day g) m ≡ works u) ↔ ((T .start u ≤ m) × (m < T .end u)))
+  -- the list is moved minute by minute by any table of these days, and there is one
+  pub table-there : (table : List ℕ) × Days T S delay table
+  pub moves : (table : List ℕ) → Days T S delay table → MovesSo n day lent (x .lent) table
 
 -- ---- prices
 
 -- P-1. Whatever the prices, no feasible set earns more than the limit
-pub record LimitsShift (s prices : List ℕ) (limit : ℕ) : Type 0 where
-  pub capped : CapsShift (sheetTurns s) limit
+pub record LimitsShift (s prices : List ℕ) (T : Turns) (most : ℕ → ℕ) (limit : ℕ) : Type 0 where
+  pub capped : CapsShift T limit
   -- it is the prices and, groomer by groomer, the most that a set without conflict by groomer counts for
-  pub parts : limit ≡ priceSum (sheetTurns s) (countsIn s .slopes) prices + sum (λ k. groomerWorth (pricedTurns (sheetTurns s) (countsIn s .slopes) prices) (k + 1)) (below (countsIn s .groomers))
-  pub attained : (g : ℕ) → (R : List ℕ) × GroomerSet (sheetTurns s) g R × (sum (countsFor (sheetTurns s) (countsIn s .slopes) prices) R ≡ groomerWorth (pricedTurns (sheetTurns s) (countsIn s .slopes) prices) g)
-  pub greatest : (g : ℕ) (R : List ℕ) → GroomerSet (sheetTurns s) g R → sum (countsFor (sheetTurns s) (countsIn s .slopes) prices) R ≤ groomerWorth (pricedTurns (sheetTurns s) (countsIn s .slopes) prices) g
+  pub parts : limit ≡ priceSum T (countsIn s .slopes) prices + sum (λ k. most (k + 1)) (below (countsIn s .groomers))
+  pub attained : (g : ℕ) → (R : List ℕ) × GroomerSet T g R × (sum (countsFor T (countsIn s .slopes) prices) R ≡ most g)
+  pub greatest : (g : ℕ) (R : List ℕ) → GroomerSet T g R → sum (countsFor T (countsIn s .slopes) prices) R ≤ most g
   -- at prices of 0 it is R-9's worth, where that entry refuses nothing
-  pub free : ((k : ℕ) → getD prices k 0 ≡ 0) → limit ≡ groomersWorth (sheetTurns s) (countsIn s .groomers)
+  pub free : ((k : ℕ) → getD prices k 0 ≡ 0) → limit ≡ groomersWorth T (countsIn s .groomers)
   pub free-best : ((k : ℕ) → getD prices k 0 ≡ 0) → (lent : List ℕ) → bestOf s lent .answer .refusal ≡ 0 → limit ≡ bestOf s lent .answer .worth
 
--- P-2, of the board b and the prices that were written. The board passes, with the planned steps and tally, and is worth what comes back, no less than the planned one
-pub record RefinesShift (s : List ℕ) (rounds : ℕ) (board prices b : List ℕ) (x : Refinement) : Type 0 where
+-- P-2, of the board b and the prices p that were written. The board passes, with the planned steps and tally, and is worth what comes back, no less than the planned one
+pub record RefinesShift (s : List ℕ) (rounds : ℕ) (board prices b p : List ℕ) (T : Turns) (x : Refinement) : Type 0 where
   pub passes : checkOf s b .refusal ≡ 0
   pub steps-same : writtenSteps b ≡ writtenSteps (plannedBoard s)
   pub tally-same : boardTally b ≡ boardTally (plannedBoard s)
   pub worth-is : boardWorth b ≡ x .worth
   pub no-less : boardWorth (plannedBoard s) ≤ x .worth
   -- the limit is P-1's at the written prices, so that no feasible set earns more; if it is the worth, none earns more than the board
-  pub limit-is : limitOf s (take (priceCount s) (x .prices)) ≡ limitIs (x .limit)
-  pub capped : CapsShift (sheetTurns s) (x .limit)
+  pub limit-is : limitOf s p ≡ limitIs (x .limit)
+  pub capped : CapsShift T (x .limit)
   pub worth-within : x .worth ≤ x .limit
-  pub best : x .limit ≡ x .worth → CapsShift (sheetTurns s) (boardWorth b)
+  pub best : x .limit ≡ x .worth → CapsShift T (boardWorth b)
   -- more rounds give no less worth and no higher limit, and as many the same, whatever is lent
   pub more-worth : (more : ℕ) (c q : List ℕ) → rounds ≤ more → refineOf s more c q .refusal ≡ 0 → x .worth ≤ refineOf s more c q .worth
   pub more-limit : (more : ℕ) (c q : List ℕ) → rounds ≤ more → refineOf s more c q .refusal ≡ 0 → refineOf s more c q .limit ≤ x .limit
@@ -320,25 +320,25 @@ pub record RefinesShift (s : List ℕ) (rounds : ℕ) (board prices b : List ℕ
   pub ended : (x .rounds ≡ rounds) ⊎ (x .limit ≡ x .worth)
   pub not-before : (k : ℕ) (c q : List ℕ) → k < x .rounds → refineOf s k c q .refusal ≡ 0 → refineOf s k c q .limit ≢ refineOf s k c q .worth
   -- the price of a turn without a driver is 0
-  pub driverless : (u : ℕ) → u < sheetTurns s .count → sheetTurns s .driver u ≡ 0 → turnPrice (countsIn s .slopes) (take (priceCount s) (x .prices)) u ≡ 0
+  pub driverless : (u : ℕ) → u < T .count → T .driver u ≡ 0 → turnPrice (countsIn s .slopes) p u ≡ 0
   pub board-behind : drop (x .bytes) (x .board) ≡ drop (x .bytes) board
   pub prices-behind : drop (priceCount s) (x .prices) ≡ drop (priceCount s) prices
 
 -- ---- the hall
 
--- R-14. The windows are allowed and of one kind, and earn the worth
-pub record ChargesHall (s lent : List ℕ) (H : Hall) (x : Charged) : Type 0 where
-  pub allowed : AllowedChoice H (turnsIn s (x .lent))
-  pub one-kind : ((t : ℕ) → has (turnsIn s (x .lent)) t ≡ true → isWide H t ≡ true) ⊎ ((t : ℕ) → has (turnsIn s (x .lent)) t ≡ true → isSmall H t ≡ true)
-  pub earns : worthIn H (turnsIn s (x .lent)) ≡ x .answer .worth
+-- R-14. The windows S are allowed and of one kind, and earn the worth
+pub record ChargesHall (s lent : List ℕ) (H : Hall) (S : List Bool) (x : Charged) : Type 0 where
+  pub allowed : AllowedChoice H S
+  pub one-kind : ((t : ℕ) → has S t ≡ true → isWide H t ≡ true) ⊎ ((t : ℕ) → has S t ≡ true → isSmall H t ≡ true)
+  pub earns : worthIn H S ≡ x .answer .worth
   -- they are the plan of greater worth, of the small draws on a tie, and no further window of the kind could be chosen
   pub covers-wide : worthIn H (wideChoice H) ≤ x .answer .worth
   pub covers-small : worthIn H (smallChoice H) ≤ x .answer .worth
-  pub wide-plan : worthIn H (smallChoice H) < worthIn H (wideChoice H) → turnsIn s (x .lent) ≡ wideChoice H
-  pub small-plan : worthIn H (wideChoice H) ≤ worthIn H (smallChoice H) → turnsIn s (x .lent) ≡ smallChoice H
+  pub wide-plan : worthIn H (smallChoice H) < worthIn H (wideChoice H) → S ≡ wideChoice H
+  pub small-plan : worthIn H (wideChoice H) ≤ worthIn H (smallChoice H) → S ≡ smallChoice H
   pub tie : worthIn H (wideChoice H) ≡ worthIn H (smallChoice H) → hallChoice H ≡ smallChoice H
-  pub wide-full : worthIn H (smallChoice H) < worthIn H (wideChoice H) → FullAmong H (isWide H) (turnsIn s (x .lent))
-  pub small-full : worthIn H (wideChoice H) ≤ worthIn H (smallChoice H) → FullAmong H (isSmall H) (turnsIn s (x .lent))
+  pub wide-full : worthIn H (smallChoice H) < worthIn H (wideChoice H) → FullAmong H (isWide H) S
+  pub small-full : worthIn H (wideChoice H) ≤ worthIn H (smallChoice H) → FullAmong H (isSmall H) S
   -- no allowed set is worth more than five times the plan and the units for each step of the small draws
   pub capped : CapsHall H (5 * x .answer .worth + H .units * length (smallSteps H))
   -- nor one of wide windows than twice their tally, nor one of small ones than three times theirs and the units for each step; each plan covers its tally
@@ -346,7 +346,7 @@ pub record ChargesHall (s lent : List ℕ) (H : Hall) (x : Charged) : Type 0 whe
   pub wide-covered : tally (wideSteps H) ≤ worthIn H (wideChoice H)
   pub small-capped : (R : List ℕ) → Allowed H R → All (λ t. isSmall H t ≡ true) R → sum (H .windows .worth) R ≤ 3 * tally (smallSteps H) + H .units * length (smallSteps H)
   pub small-covered : tally (smallSteps H) ≤ worthIn H (smallChoice H)
-  pub map : mapIn s (x .lent) ≡ mapOf (turnsIn s (x .lent))
+  pub map : mapIn s (x .lent) ≡ mapOf S
   pub behind : drop (mapBytes (turnCount s)) (x .lent) ≡ drop (mapBytes (turnCount s)) lent
 
 -- P-3. Whatever the prices, no allowed set earns more than the limit
@@ -358,17 +358,17 @@ pub record LimitsHall (s prices : List ℕ) (H : Hall) (limit : ℕ) : Type 0 wh
   pub attained : (v : ℕ) → (vehicleBest H prices v .worth ≡ 0) ⊎ ((t : ℕ) × (t < windowCount H) × (vehicle H t ≡ v) × (windowCounts H prices t ≡ vehicleBest H prices v .worth))
   pub free : ((k : ℕ) → getD prices k 0 ≡ 0) → limit ≡ sum (λ k. richestOf H (H .windows .worth) (k + 1) (turnCount s) .worth) (below (countsIn s .slopes))
 
--- P-3, by rounds. The windows written are allowed and worth what comes back, no less than R-14's plan
-pub record RefinesHall (s : List ℕ) (rounds : ℕ) (map prices : List ℕ) (H : Hall) (x : ChargeRefinement) : Type 0 where
-  pub allowed : AllowedChoice H (turnsIn s (x .map))
-  pub map-is : mapIn s (x .map) ≡ mapOf (turnsIn s (x .map))
-  pub worth-is : worthIn H (turnsIn s (x .map)) ≡ x .worth
+-- P-3, by rounds. The windows S written are allowed and worth what comes back, no less than R-14's plan
+pub record RefinesHall (s : List ℕ) (rounds : ℕ) (map prices : List ℕ) (H : Hall) (S : List Bool) (x : ChargeRefinement) : Type 0 where
+  pub allowed : AllowedChoice H S
+  pub map-is : mapIn s (x .map) ≡ mapOf S
+  pub worth-is : worthIn H S ≡ x .worth
   pub no-less : chargeOf s map .answer .worth ≤ x .worth
   -- the rest as in P-2
   pub limit-is : chargeLimitOf s (take 960 (x .prices)) ≡ limitIs (x .limit)
   pub capped : CapsHall H (x .limit)
   pub worth-within : x .worth ≤ x .limit
-  pub best : x .limit ≡ x .worth → CapsHall H (worthIn H (turnsIn s (x .map)))
+  pub best : x .limit ≡ x .worth → CapsHall H (worthIn H S)
   pub more-worth : (more : ℕ) (c q : List ℕ) → rounds ≤ more → chargeRefineOf s more c q .refusal ≡ 0 → x .worth ≤ chargeRefineOf s more c q .worth
   pub more-limit : (more : ℕ) (c q : List ℕ) → rounds ≤ more → chargeRefineOf s more c q .refusal ≡ 0 → chargeRefineOf s more c q .limit ≤ x .limit
   pub places-apart : (c q : List ℕ) → chargeRefineOf s rounds c q .refusal ≡ 0 →
@@ -394,26 +394,37 @@ pub record Promised : Type 0 where
   -- R-12: kept and restored, or restored and kept, the very bytes come back
   pub keep-back : {s : List ℕ} → Bytes s → (lent other : List ℕ) → keepOf s lent .answer .refusal ≡ 0 → length s ≤ length other → restoreOf (writtenPart (keepOf s lent)) other ≡ wrote s other
   pub restore-back : {k : List ℕ} → Bytes k → (lent other : List ℕ) → restoreOf k lent .answer .refusal ≡ 0 → length k ≤ length other → keepOf (writtenPart (restoreOf k lent)) other ≡ wrote k other
+  -- 01, the board: opening accepts exactly a board; then the count is that of its chosen turns, a turn is chosen exactly if its bit stands, and the steps are a part of the bytes
+  pub opens : (b : List ℕ) → (openOf b ≡ 0) ↔ WellFormed b (boardTurns b) (boardSteps b)
+  pub count : (b : List ℕ) → openOf b ≡ 0 → countOf b .turns ≡ chosen (boardTurns b) (boardChoice b) (λ t. 1)
+  pub is-chosen : (b : List ℕ) → openOf b ≡ 0 → (t : ℕ) → turnChosen b t ≡ has (boardChoice b) t
+  pub steps : (b : List ℕ) → take (stepsPartAt b .length) (drop (stepsPartAt b .start) b) ≡ stepsPart b
   pub check : (s b : List ℕ) → Bytes s → Checks s b
   pub plan : {s : List ℕ} → Bytes s → (lent : List ℕ) → planOf s lent .answer .refusal ≡ 0 → Plans s (writtenPart (planOf s lent))
   -- 01: the planner accepts exactly an accepted sheet with room for a board with a step a turn; its board stands in front, behind it what was there
   pub plan-accepts : {s : List ℕ} → Bytes s → (lent : List ℕ) → (planOf s lent .answer .refusal ≡ 0) ↔ (Accepted s × (15 + (turnCount s + 7) / 8 + 4 * turnCount s ≤ length lent))
   pub plan-writes : {s : List ℕ} → Bytes s → (lent : List ℕ) → planOf s lent .answer .refusal ≡ 0 → planOf s lent ≡ wrote (plannedBoard s) lent
-  pub list : (s lent place : List ℕ) → listOf s lent .answer .refusal ≡ 0 → planOf s place .answer .refusal ≡ 0 → ListsBoard s (writtenPart (planOf s place)) lent (listOf s lent)
-  pub assign : (s lent : List ℕ) → assignOf s lent .answer .refusal ≡ 0 → AssignsAll s lent (assignOf s lent)
-  pub best : (s lent : List ℕ) → bestOf s lent .answer .refusal ≡ 0 → FindsBest s lent (bestOf s lent)
-  pub improve : (s : List ℕ) (limit : ℕ) (lent : List ℕ) → improveOf s limit lent .answer .refusal ≡ 0 → Searches s limit lent (improveOf s limit lent)
-  pub play : (s b delays : List ℕ) (lent : List Standing) → playOf s b delays lent .answer .refusal ≡ 0 → PlaysShift s b delays lent (playOf s b delays lent)
+  pub list : (s lent place : List ℕ) → listOf s lent .answer .refusal ≡ 0 → planOf s place .answer .refusal ≡ 0 →
+      ListsBoard s (writtenPart (planOf s place)) lent (sheetTurns s) (boardChoice (writtenPart (planOf s place))) (listOf s lent)
+  pub assign : (s lent : List ℕ) → assignOf s lent .answer .refusal ≡ 0 → AssignsAll (sheetTurns s) (take (turnCount s) (assignOf s lent .lent)) (assignOf s lent .answer .groomers)
+  pub assign-behind : (s lent : List ℕ) → assignOf s lent .answer .refusal ≡ 0 → drop (turnCount s) (assignOf s lent .lent) ≡ drop (turnCount s) lent
+  pub best : (s lent : List ℕ) → bestOf s lent .answer .refusal ≡ 0 → FindsBest s lent (sheetTurns s) (turnsIn s (bestOf s lent .lent)) (bestOf s lent)
+  pub improve : (s : List ℕ) (limit : ℕ) (lent : List ℕ) → improveOf s limit lent .answer .refusal ≡ 0 → Searches s limit lent (sheetTurns s) (turnsIn s (improveOf s limit lent .lent)) (improveOf s limit lent)
+  -- R-10: with no visits allowed and a turn to visit, the planned board's worth and map come back
+  pub improve-none : (s lent : List ℕ) → improveOf s 0 lent .answer .refusal ≡ 0 → turnCount s ≢ 0 → (improveOf s 0 lent .answer .worth ≡ boardWorth (plannedBoard s)) × (mapIn s (improveOf s 0 lent .lent) ≡ boardMap (plannedBoard s))
+  pub play : (s b delays : List ℕ) (lent : List Standing) → playOf s b delays lent .answer .refusal ≡ 0 →
+      PlaysShift (sheetTurns s) (boardChoice b) (delayIn delays) (countsIn s .groomers) (dayAt s b delays) lent (playOf s b delays lent)
   -- R-13: what the list held plays no part
   pub play-answer : (s b delays : List ℕ) (lent other : List Standing) → (countsIn s .groomers ≤ length lent) ↔ (countsIn s .groomers ≤ length other) → playOf s b delays lent .answer ≡ playOf s b delays other .answer
   pub play-list : (s b delays : List ℕ) (lent other : List Standing) → (countsIn s .groomers ≤ length lent) ↔ (countsIn s .groomers ≤ length other) → playOf s b delays lent .answer .refusal ≡ 0 →
       take (countsIn s .groomers) (playOf s b delays lent .lent) ≡ take (countsIn s .groomers) (playOf s b delays other .lent)
-  pub limit : (s prices : List ℕ) → limitOf s prices .refusal ≡ 0 → LimitsShift s prices (limitOf s prices .limit)
+  pub limit : (s prices : List ℕ) → limitOf s prices .refusal ≡ 0 → LimitsShift s prices (sheetTurns s) (groomerWorth (pricedTurns (sheetTurns s) (countsIn s .slopes) prices)) (limitOf s prices .limit)
   pub refine : (s : List ℕ) (rounds : ℕ) (board prices : List ℕ) → refineOf s rounds board prices .refusal ≡ 0 →
-      RefinesShift s rounds board prices (take (refineOf s rounds board prices .bytes) (refineOf s rounds board prices .board)) (refineOf s rounds board prices)
-  pub charge : (s lent : List ℕ) → chargeOf s lent .answer .refusal ≡ 0 → ChargesHall s lent (hallOf s) (chargeOf s lent)
+      RefinesShift s rounds board prices (take (refineOf s rounds board prices .bytes) (refineOf s rounds board prices .board)) (take (priceCount s) (refineOf s rounds board prices .prices)) (sheetTurns s) (refineOf s rounds board prices)
+  pub charge : (s lent : List ℕ) → chargeOf s lent .answer .refusal ≡ 0 → ChargesHall s lent (hallOf s) (turnsIn s (chargeOf s lent .lent)) (chargeOf s lent)
   pub charge-limit : (s prices : List ℕ) → chargeLimitOf s prices .refusal ≡ 0 → LimitsHall s prices (hallOf s) (chargeLimitOf s prices .limit)
-  pub charge-refine : (s : List ℕ) (rounds : ℕ) (map prices : List ℕ) → chargeRefineOf s rounds map prices .refusal ≡ 0 → RefinesHall s rounds map prices (hallOf s) (chargeRefineOf s rounds map prices)
+  pub charge-refine : (s : List ℕ) (rounds : ℕ) (map prices : List ℕ) → chargeRefineOf s rounds map prices .refusal ≡ 0 →
+      RefinesHall s rounds map prices (hallOf s) (turnsIn s (chargeRefineOf s rounds map prices .map)) (chargeRefineOf s rounds map prices)
   -- 01, first demand: a refusal is given exactly where its cause is the first, and leaves all that is lent as it was
   pub read-refuses : {s : List ℕ} → Bytes s → (lent : List ℕ) → Refuses (FirstReadCause s (length lent)) (readOf s lent .answer .refusal) (readOf s lent) (λ k. beside (readRefused k) lent)
   pub short-refuses : {s : List ℕ} → Bytes s → (lent : List ℕ) → Refuses (FirstShortCause s (length lent)) (readShortOf s lent .answer .refusal) (readShortOf s lent) (λ k. beside (readRefused k) lent)
