@@ -10,27 +10,38 @@ use Rattle.sheet.specs.Kind.{garage, withTurns}
 use Rattle.sheet.specs.Record.{widthOf, field, turnFrom}
 use Rattle.sheet.proofs.Accepting.{read-accepted-iff}
 use Rattle.sheet.specs.Screen.{liftDesk}
+use Rattle.sheet.proofs.Limits.{short-accepted-iff}
 use Rattle.archive_spec.specs.Kept.{archive}
 use Rattle.choice_map.specs.Choice.{bitOf, chosenIn}
+use Rattle.archive_spec.proofs.KeptCauses.{keep-accepted-iff, restore-accepted-iff}
 use Rattle.instance_spec.specs.Problem.{problemOf, sheetTurns}
 use Rattle.plan_spec.proofs.PlanCauses.{plan-accepted-iff}
+use Rattle.listing_spec.proofs.Listed.{list-accepted-iff}
+use Rattle.assign_spec.proofs.AssignCauses.{assign-accepted-iff}
+use Rattle.best_spec.proofs.BestCauses.{best-accepted-iff}
+use Rattle.search_spec.proofs.ImproveCauses.{improve-accepted-iff, too-many-iff}
+use Rattle.play_spec.proofs.PlayCauses.{play-accepted-iff}
 use Rattle.draw_spec.specs.Draw.{nextDraw, turnDrawn}
-use Rattle.draw_spec.proofs.Draws.{ten-thousandth}
-use Rattle.draw_spec.proofs.Draws.{length-first, length-second, length-third, length-fourth}
+use Rattle.draw_spec.proofs.DrawCauses.{draw-accepted-iff}
+use Rattle.draw_spec.proofs.Draws.{ten-thousandth, length-first, length-second, length-third, length-fourth}
 use Rattle.hall_spec.specs.Hall.{isWide, wideDraw}
 use Rattle.hall_spec.specs.Plan.{roundedUp, smallTakes}
 use Rattle.hall_spec.specs.Charge.{chargingSheet}
 use Rattle.limit_spec.specs.Prices.{slopePrice, turnPrice}
 use Rattle.limit_spec.proofs.LimitCauses.{limit-accepted-iff}
 use Rattle.refine_spec.specs.Rounds.{startFrom, firstChange, nextChange}
-use Rattle.refine_spec.specs.Shift.{movedPrice, turnChange, shiftStart}
+use Rattle.refine_spec.specs.Shift.{movedPrice, turnChange, shiftStart, shiftRule}
 use Rattle.hall_by_prices_spec.specs.Prices.{minutePrice, windowPays, supplyCost}
-use Rattle.hall_by_prices_spec.specs.Hall.{movedMinute, hallStart}
+use Rattle.hall_by_prices_spec.specs.Hall.{movedMinute, hallStart, hallRule}
+use Rattle.hall_spec.proofs.ChargeCauses.{charge-accepted-iff}
+use Rattle.refine_spec.specs.Selection.{poorerFirst, choiceFrom}
+use Rattle.refine_spec.proofs.RefineCauses.{refine-accepted-iff}
+use Rattle.hall_by_prices_spec.proofs.RefineCauses.{charge-refine-accepted-iff}
 use Rattle.hall_by_prices_spec.proofs.LimitCauses.{charge-limit-accepted-iff}
 use Rattle.figures.specs.Figures.{Figures}
 
 pub figures : Figures
-unfolding outsideRange bitOf chosenIn garage withTurns widthOf field turnFrom liftDesk archive problemOf sheetTurns nextDraw turnDrawn isWide wideDraw roundedUp smallTakes chargingSheet startFrom firstChange nextChange movedPrice turnChange shiftStart windowPays supplyCost movedMinute hallStart slopePrice turnPrice minutePrice
+unfolding outsideRange bitOf chosenIn garage withTurns widthOf field turnFrom liftDesk archive problemOf sheetTurns nextDraw turnDrawn isWide wideDraw roundedUp smallTakes chargingSheet startFrom firstChange nextChange movedPrice turnChange shiftStart windowPays supplyCost movedMinute hallStart slopePrice turnPrice minutePrice poorerFirst choiceFrom shiftRule hallRule
 figures =
     record {
       groomers = refl;
@@ -85,6 +96,25 @@ figures =
       map-bit = λ map t. refl;
       board-bytes = λ n m. refl;
       planner-need = plan-accepted-iff;
+      short-reader-need = short-accepted-iff;
+      draw-need = λ seed counts turns lent. let q = draw-accepted-iff seed counts turns lent in (
+        λ e. let (d, l, r) = q .0 e in ((d .from, d .to), l, r),
+        λ (d, l, r). q .1 (record { from = d .0; to = d .1 }, l, r),
+      );
+      keep-need = keep-accepted-iff;
+      restore-need = restore-accepted-iff;
+      list-need = list-accepted-iff;
+      assign-need = assign-accepted-iff;
+      best-need = best-accepted-iff;
+      improve-need = improve-accepted-iff;
+      improve-many = too-many-iff;
+      play-need = λ {s} y b delays lent. let q = play-accepted-iff s b delays lent y in (
+        λ e. let (a, k, d, l) = q .0 e in (a, k, (d .each, d .within), l),
+        λ (a, k, d, l). q .1 (a, k, record { each = d .0; within = d .1 }, l),
+      );
+      charge-need = charge-accepted-iff;
+      refine-need = refine-accepted-iff;
+      charge-refine-need = charge-refine-accepted-iff;
       screen = refl;
       searched = refl;
       delay = refl;
@@ -126,6 +156,9 @@ figures =
       lower-minute = λ change units drawn price l. rw (le-ltb units drawn l);
       empty-worth = λ T. refl;
       added-worth = λ T t R. refl;
+      shift-chooses = λ T groomers slopes prices. refl;
+      hall-chooses = λ H vehicles prices. refl;
+      by-worth = λ T x y. refl;
       factor = λ p. p .twice;
       driven-factor = λ p. p .thrice;
       driven-one-turn = λ p. p .twice-one-turn;

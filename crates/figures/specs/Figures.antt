@@ -1,13 +1,13 @@
 -- The numbers that the format's description fixes, on one page: each is said of a definition with a literal, mostly as an equation (documents 01, 02 and 03). Assumes nothing.
 use Prim.Native.Nat.{ℕ, _+_, _-_, _*_, _/_, _%_, _^_, _≤_, _<_, max, min}
 use mathlib.Core.Path.{_≡_}
-use mathlib.Core.Bool.{Bool, true, false}
+use mathlib.Core.Bool.{Bool, true, false, _&&_, _||_}
 use mathlib.Core.Logic.{_↔_}
 use mathlib.Core.List.{List, [], _∷_}
-use lib.Dec.{ltb, eqb}
-use lib.ListN.{length, getD}
+use lib.Dec.{ltb, eqb, leb}
+use lib.ListN.{length, getD, replicate}
 use lib.IntN.{pos, negℤ}
-use Rattle.lists.specs.Lists.{sum, below}
+use Rattle.lists.specs.Lists.{sum, below, keep}
 use Rattle.refusal.specs.Number.{truncated, badMagic, badCounts, tooManyTurns, badMap, badSlope, badGroomer, badTime, badWorth, trailingBytes, bufferTooSmall, malformedBoard, chosenConflict, notMaximal, wrongStep, turnLeftOpen, wrongSums, partialTurn, badDriver, tooManyForScreen, notSingleTurns, tooManyToSearch, badSeed, badDelays, badDraw, badPrices}
 use Rattle.wire.specs.Number.{valueAt, Bytes}
 use Rattle.wire.specs.Mark.{sheetMark, boardMark, keptMark, chargingMark}
@@ -17,31 +17,44 @@ use Rattle.turn.specs.Turn.{shiftMinutes, mostWorth, mostDriver, rowNumbers, ou
 use Rattle.sheet.specs.Kind.{firstMap, fullMap, mostGroomers, mostSlopes, mostTurns, garage}
 use Rattle.sheet.specs.Record.{widthOf, turnFrom}
 use Rattle.sheet.specs.Read.{headerBytes, countsIn, turnCount, readOf}
-use Rattle.sheet.specs.Accepted.{Accepted}
-use Rattle.sheet.specs.Screen.{screenTurns, liftDesk}
+use Rattle.sheet.specs.Accepted.{Legal, Accepted}
+use Rattle.sheet.specs.Screen.{screenTurns, liftDesk, readShortOf, AcceptedShort}
 use Rattle.archive_spec.specs.Kept.{archive}
 use Rattle.choice_map.specs.Choice.{mapBytes, chosenIn}
+use Rattle.archive_spec.specs.AcceptedKept.{AcceptedKept}
+use Rattle.archive_spec.specs.Archive.{keepOf, restoreOf}
 use Rattle.board.specs.Board.{turnsPlace, stepCountPlace, tallyPlace, worthPlace, boardHeader, stepSize, boardLength}
 use Rattle.instance_spec.specs.Problem.{shiftGap, sheetTurns}
 use Rattle.model.specs.Turns.{Turns, NoDrivers}
+use Rattle.model.specs.Choice.{has, fits, chooseEach}
 use Rattle.model.specs.Feasible.{Feasible, worthOf, OneTurnASlope}
 use Rattle.model.specs.Promises.{Promises}
 use Rattle.local_ratio.specs.Bounds.{leastResidual}
 use Rattle.plan_spec.specs.Plan.{planOf}
-use Rattle.search_spec.specs.Improve.{mostSearched}
+use Rattle.check_spec.specs.Check.{BoardKeeps}
+use Rattle.listing_spec.specs.List.{sheetListing, listOf}
+use Rattle.assign_spec.specs.Assign.{assignOf}
+use Rattle.best_spec.specs.Best.{bestOf}
+use Rattle.search_spec.specs.Improve.{mostSearched, improveOf}
 use Rattle.draw_spec.specs.Draw.{mostDraw, nextDraw, drawNumber, turnDraws, turnDrawn}
+use Rattle.draw_spec.specs.DrawnSheet.{drawnSheet, drawOf}
 use Rattle.play_spec.specs.Day.{overMinutes, mostDelay}
+use Rattle.play_spec.specs.declared.Standing.{Standing}
 use Rattle.play_spec.specs.Standing.{noTurnInHand}
-use Rattle.hall_spec.specs.Hall.{mostUnits, mostVehicles, hallGap, Hall, windowCount, draw, sameVehicle, shareMinute, isWide, Allowed}
+use Rattle.play_spec.specs.Play.{playOf}
+use Rattle.hall_spec.specs.Hall.{mostUnits, mostVehicles, hallGap, Hall, windowCount, draw, sameVehicle, shareMinute, isWide, staysAllowed, Allowed}
 use Rattle.hall_spec.specs.Plan.{smallTakes, smallSteps, hallWorth}
 use Rattle.hall_spec.specs.Promises.{worthOfWindows, HallPromises}
-use Rattle.hall_spec.specs.Charge.{chargingSheet, AcceptedCharging}
+use Rattle.hall_spec.specs.Charge.{chargingSheet, AcceptedCharging, chargeOf}
 use Rattle.limit_spec.specs.Prices.{slopePrice, turnPrice}
 use Rattle.limit_spec.specs.Limit.{limitOf}
 use Rattle.refine_spec.specs.Rounds.{nextChange, greatestOf}
-use Rattle.refine_spec.specs.Shift.{movedPrice, turnChange, greatestWorth, shiftStart}
-use Rattle.hall_by_prices_spec.specs.Prices.{minutesCost, windowPays, minutePrice, supplyCost}
-use Rattle.hall_by_prices_spec.specs.Hall.{movedMinute, hallStart}
+use Rattle.refine_spec.specs.Selection.{poorerFirst, byWorth}
+use Rattle.refine_spec.specs.Shift.{relaxedSet, movedPrice, turnChange, shiftRule, greatestWorth, shiftStart}
+use Rattle.refine_spec.specs.Refine.{refineOf}
+use Rattle.hall_by_prices_spec.specs.Prices.{minutesCost, windowPays, minutePrice, supplyCost, hallRelaxed}
+use Rattle.hall_by_prices_spec.specs.Hall.{movedMinute, hallRule, hallStart}
+use Rattle.hall_by_prices_spec.specs.Refine.{chargeRefineOf}
 use Rattle.hall_by_prices_spec.specs.Limit.{chargeLimitOf}
 
 pub record Figures : Type 0 where
@@ -137,6 +150,45 @@ pub record Figures : Type 0 where
   pub board-bytes : (n m : ℕ) → boardLength n m ≡ 15 + (n + 7) / 8 + 4 * m
   -- the planner needs the bytes of a board with as many steps as turns
   pub planner-need : {s : List ℕ} → Bytes s → (lent : List ℕ) → (planOf s lent .answer .refusal ≡ 0) ↔ (Accepted s × (15 + (turnCount s + 7) / 8 + 4 * turnCount s ≤ length lent))
+  -- ---- what the other entries accept, and how long a lent place must be
+
+  -- the lift desk's reader: as the garage's
+  pub short-reader-need : {s : List ℕ} → Bytes s → (lent : List ℕ) → (readShortOf s lent .answer .refusal ≡ 0) ↔ (AcceptedShort s × (6 * turnCount s ≤ length lent))
+  -- drawing: a seed from 1 to 2,147,483,646, counts of a header, and the bytes of the sheet
+  pub draw-need :
+      (seed : ℕ) (counts : Counts) (turns : ℕ) (lent : List ℕ)
+      → (drawOf seed counts turns lent .answer .refusal ≡ 0) ↔ (((1 ≤ seed) × (seed ≤ 2147483646)) × Legal garage counts turns × (length (drawnSheet seed counts turns) ≤ length lent))
+  -- keeping by column and restoring: as many bytes as are given
+  pub keep-need : {s : List ℕ} → Bytes s → (lent : List ℕ) → (keepOf s lent .answer .refusal ≡ 0) ↔ (Accepted s × (length s ≤ length lent))
+  pub restore-need : {k : List ℕ} → Bytes k → (lent : List ℕ) → (restoreOf k lent .answer .refusal ≡ 0) ↔ (AcceptedKept k × (length k ≤ length lent))
+  -- the listing: its own bytes
+  pub list-need : {s : List ℕ} → Bytes s → (lent : List ℕ) → (listOf s lent .answer .refusal ≡ 0) ↔ (Accepted s × (length (sheetListing s) ≤ length lent))
+  -- numbering all turns: a place a turn
+  pub assign-need : {s : List ℕ} → Bytes s → (lent : List ℕ) → (assignOf s lent .answer .refusal ≡ 0) ↔ (Accepted s × (turnCount s ≤ length lent))
+  -- the best worth: one turn a slope, no drivers, and a bit a turn
+  pub best-need :
+      {s : List ℕ} → Bytes s → (lent : List ℕ)
+      → (bestOf s lent .answer .refusal ≡ 0) ↔ (Accepted s × NoDrivers (sheetTurns s) × OneTurnASlope (sheetTurns s) × ((turnCount s + 7) / 8 ≤ length lent))
+  -- the search: at most 64 turns, and a bit a turn; 22 exactly for more turns
+  pub improve-need :
+      {s : List ℕ} → Bytes s → (lent : List ℕ) (limit : ℕ)
+      → (improveOf s limit lent .answer .refusal ≡ 0) ↔ (Accepted s × (turnCount s ≤ 64) × ((turnCount s + 7) / 8 ≤ length lent))
+  pub improve-many : {s : List ℕ} → Bytes s → Accepted s → (lent : List ℕ) (limit : ℕ) → (improveOf s limit lent .answer .refusal ≡ 22) ↔ (64 < turnCount s)
+  -- playing: a board that keeps the rules, for each turn a delay of at most 120 and no further number, and a place a groomer
+  pub play-need :
+      {s : List ℕ} → Bytes s → (b delays : List ℕ) (lent : List Standing)
+      → (playOf s b delays lent .answer .refusal ≡ 0)
+      ↔ (Accepted s × BoardKeeps s b × ((length delays ≡ turnCount s) × ((u : ℕ) → u < turnCount s → getD delays u 0 ≤ 120)) × (valueAt s 3 1 ≤ length lent))
+  -- the hall: a bit a window
+  pub charge-need : {s : List ℕ} → Bytes s → (lent : List ℕ) → (chargeOf s lent .answer .refusal ≡ 0) ↔ (AcceptedCharging s × ((turnCount s + 7) / 8 ≤ length lent))
+  -- rounds: the planner's bytes and a number for each slope and each turn; in a hall a bit a window and 960 numbers
+  pub refine-need :
+      {s : List ℕ} → Bytes s → (rounds : ℕ) (board prices : List ℕ)
+      → (refineOf s rounds board prices .refusal ≡ 0)
+      ↔ (Accepted s × (15 + (turnCount s + 7) / 8 + 4 * turnCount s ≤ length board) × (valueAt s 4 1 + valueAt s 5 2 ≤ length prices))
+  pub charge-refine-need :
+      {s : List ℕ} → Bytes s → (rounds : ℕ) (map prices : List ℕ)
+      → (chargeRefineOf s rounds map prices .refusal ≡ 0) ↔ (AcceptedCharging s × ((turnCount s + 7) / 8 ≤ length map) × (960 ≤ length prices))
   -- ---- the other parts
 
   -- the lift desk's screen shows 96 turns; 64 turns are searched
@@ -199,6 +251,16 @@ pub record Figures : Type 0 where
   pub highest-price : (change k price : ℕ) → 2 ≤ k → movedPrice change k price ≡ min 60000 (price + (k - 1) * change)
   pub highest-minute : (change units drawn price : ℕ) → units < drawn → movedMinute change units drawn price ≡ min 65535 (price + (change * (drawn - units) + (units - 1)) / units)
   pub lower-minute : (change units drawn price : ℕ) → drawn ≤ units → movedMinute change units drawn price ≡ price - change * (units - drawn) / units
+  -- a look's choice goes by the sheet's worths: first the relaxed set, then all, each from the greatest worth down (`byWorth` from its end) wherever it fits
+  pub shift-chooses :
+      (T : Turns) (groomers slopes : ℕ) (prices : List ℕ)
+      → shiftRule T groomers slopes .choice prices ≡ chooseEach (fits T) (byWorth T) (chooseEach (fits T) (keep (has (relaxedSet T slopes prices)) (byWorth T)) (replicate (T .count) false))
+  pub hall-chooses :
+      (H : Hall) (vehicles : ℕ) (prices : List ℕ)
+      → hallRule H vehicles .choice prices
+      ≡ chooseEach (staysAllowed H) (byWorth (H .windows)) (chooseEach (staysAllowed H) (keep (has (hallRelaxed H prices)) (byWorth (H .windows))) (replicate (windowCount H) false))
+  -- a turn stands in that order before another exactly if it is worth less, or as much and has no lower number
+  pub by-worth : (T : Turns) (x y : ℕ) → poorerFirst T x y ≡ (ltb (T .worth x) (T .worth y) || (eqb (T .worth x) (T .worth y) && leb y x))
   -- ---- the factors in the promises
 
   -- the worth of a set is the sum of its turns' worths, and 0 of the empty set

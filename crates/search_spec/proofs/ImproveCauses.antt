@@ -1,16 +1,16 @@
 -- The entry's number: exactly the first cause in the order gives it, and 0 is given exactly where there is none. Assumes nothing.
 use Prim.Native.Nat.{ℕ, _≤_, _<_}
 use mathlib.Core.Path.{_≡_, refl, sym, _∙_}
-use mathlib.Core.List.{List}
+use mathlib.Core.List.{List, [], _∷_}
 use mathlib.Core.Logic.{_↔_}
-use mathlib.Core.Bool.{true}
+use mathlib.Core.Bool.{Bool, true, false, cond}
 use native.Mathlib.Omega.{arith}
 use lib.Dec.{ltb}
 use lib.ListN.{length}
 use borrow.Author.Tests.{ltb-true, ltb-false, lt-ltb, le-ltb}
-use Rattle.refusal.specs.Number.{tooManyToSearch}
-use Rattle.refusal.specs.Cause.{firstOf}
-use Rattle.refusal.proofs.Order.{numbered, numbered-append, clear-last}
+use Rattle.refusal.specs.Number.{bufferTooSmall, tooManyToSearch}
+use Rattle.refusal.specs.Cause.{firstOf, _when_}
+use Rattle.refusal.proofs.Order.{numbered, numbered-append, first-stops, first-goes, clear-last}
 use Rattle.wire.specs.Number.{Bytes}
 use Rattle.sheet.specs.Read.{turnCount, sheetCauses}
 use Rattle.sheet.specs.Accepted.{placeOf, Accepted}
@@ -73,3 +73,26 @@ improve-accepted-iff {s} b lent limit = (
   λ e. let (z, f, l) = clear-iff s (length lent) .0 (sym (improve-number s lent limit) ∙ e) in (accepted-iff b .0 z, f, l),
   λ (a, f, l). improve-number s lent limit ∙ clear-iff s (length lent) .1 (accepted-iff b .1 a, f, l),
 )
+
+-- an accepted sheet is refused with 22 just if it has more turns than are searched, whatever is lent
+pub too-many-iff : {s : List ℕ} → Bytes s → Accepted s → (lent : List ℕ) (limit : ℕ) → (improveOf s limit lent .answer .refusal ≡ tooManyToSearch) ↔ (mostSearched < turnCount s)
+unfolding improveCauses searchCauses firstOf
+too-many-iff {s} b a lent limit = (λ e. go (ltb mostSearched (turnCount s)) refl (sym (improve-number s lent limit) ∙ e), many)
+  where
+    z : firstOf (sheetCauses s) ≡ 0
+    z = accepted-iff b .1 a
+
+    many : mostSearched < turnCount s → improveOf s limit lent .answer .refusal ≡ tooManyToSearch
+    many h =
+        improve-number s lent limit
+        ∙ first-stops (searchCauses s) _ tooManyToSearch (first-goes (sheetCauses s) _ (sheet-numbered s) z ∙ rw (lt-ltb mostSearched (turnCount s) h)) (omega arith)
+
+    other : (t : Bool) → cond t bufferTooSmall 0 ≡ tooManyToSearch → ⊥
+    other true e = omega (arith, e)
+    other false e = omega (arith, e)
+
+    go : (t : Bool) → ltb mostSearched (turnCount s) ≡ t → firstOf (improveCauses s (length lent)) ≡ tooManyToSearch → mostSearched < turnCount s
+    go true q e = ltb-true mostSearched (turnCount s) q
+    go false q e =
+        absurd (other (ltb (length lent) (mapBytes (turnCount s)))
+        (sym (first-goes (searchCauses s) _ (search-numbered s) (clear-last (sheetCauses s) tooManyToSearch _ (sheet-numbered s) (omega arith) .1 (z, q))) ∙ e))
