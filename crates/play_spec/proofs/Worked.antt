@@ -16,7 +16,7 @@ use Rattle.model.specs.Rules.{independent, maximal, noEarlier, right, allRight,
 use Rattle.choice_map.specs.Choice.{bitOf, chosenIn, choiceIn, clearPast}
 use Rattle.board.specs.Board.{boardMap, boardChoice, stepsIn, writtenSteps}
 use Rattle.board_open.specs.Open.{badSizes, malformed}
-use Rattle.check_spec.specs.Check.{choiceCauses, stepCauses, ruleCauses, sumCauses, boardCauses, checkCauses}
+use Rattle.check_spec.specs.Check.{choiceCauses, afterRight, stepCauses, ruleCauses, sumCauses, boardCauses, checkCauses}
 use Rattle.lists.specs.Order.{byValue, orderBy}
 use Rattle.instance_spec.specs.ByStart.{orderByStart}
 use Rattle.play_spec.specs.Day.{delaysFit, stintOf, stintsFrom, takes, takenOf, dayOf, doingAt}
@@ -26,7 +26,7 @@ use Rattle.play_spec.specs.Cases.{PlayCases}
 use Rattle.refusal.specs.Outcome.{unless}
 
 pub worked-playing : PlayCases
-unfolding firstOf opensWith outsideRange pastShift turnCauses garage widthOf field turnFrom badMapFor endAt turnAt cursorAfter recordCauses firstCursor countCauses headerCauses recordsCauses turnsFrom causesFor sheetCauses turnsOf insertBy sortBy every tab overlapping overlap bySlope oneGroomer byGroomer oneDriver byDriver conflict problemOf sheetTurns isOpen left initial touches lessened change afterStepBy conflictTakes afterStep afterSteps tally chosen fits independent maximal noEarlier right allRight noneOpen sums bitOf chosenIn choiceIn clearPast boardMap boardChoice stepsIn writtenSteps badSizes malformed choiceCauses stepCauses ruleCauses sumCauses boardCauses checkCauses delaysFit servesFor lentCauses playCauses byValue orderBy orderByStart stintOf stintsFrom takes takenOf dayOf dayAt doingAt movedBy standingAfter playOf standingsOf unless
+unfolding firstOf opensWith outsideRange pastShift turnCauses garage widthOf field turnFrom badMapFor endAt turnAt cursorAfter recordCauses firstCursor countCauses headerCauses recordsCauses turnsFrom causesFor sheetCauses turnsOf insertBy sortBy every tab overlapping overlap bySlope oneGroomer byGroomer oneDriver byDriver conflict problemOf sheetTurns isOpen left initial touches lessened change afterStepBy conflictTakes afterStep afterSteps tally chosen fits independent maximal noEarlier right allRight noneOpen sums bitOf chosenIn choiceIn clearPast boardMap boardChoice stepsIn writtenSteps badSizes malformed choiceCauses afterRight stepCauses ruleCauses sumCauses boardCauses checkCauses delaysFit servesFor lentCauses playCauses byValue orderBy orderByStart stintOf stintsFrom takes takenOf dayOf dayAt doingAt movedBy standingAfter playOf standingsOf unless
 worked-playing =
     record {
       late = refl;
