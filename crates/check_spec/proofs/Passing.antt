@@ -16,6 +16,9 @@ use Rattle.model.specs.Steps.{Step, initial, afterStep, afterSteps}
 use Rattle.model.specs.Rules.{independent, maximal, right, allRight, noneOpen, sums}
 use Rattle.model.specs.Ceiling.{ceiling}
 use Rattle.model.specs.Promises.{Promises}
+use Rattle.model.specs.Choice.{members}
+use Rattle.model.specs.Feasible.{Feasible, worthOf}
+use Rattle.model.proofs.Members.{chosen-members, members-feasible}
 use Rattle.lists.proofs.Bools.{and-1, and-2, or-false-1, or-false-2}
 use Rattle.model.proofs.Readings.{keeps-is}
 use Rattle.model.proofs.Promised.{keeps-promises}
@@ -130,6 +133,13 @@ module _ (s b : List ℕ) where
   pub passes-answer : Passes s b → checkOf s b ≡ checked 0 (boardTally b) (boardWorth b) (ceiling (sheetTurns s) (writtenSteps b))
   unfolding checkOf
   passes-answer = number-none (checkCauses s b) _ _ (λ (x : CheckAnswer). x .refusal) refl (λ k. refl)
+
+  -- the chosen turns of a board that passes are a feasible set, worth what the board says
+  pub passes-feasible : Passes s b → (R : List ℕ) × Feasible (sheetTurns s) R × (worthOf (sheetTurns s) R ≡ boardWorth b)
+  passes-feasible p =
+      let T = sheetTurns s in
+      let k = passes-parts p .1 .rules in
+      (members (T .count) (boardChoice b), members-feasible T (boardChoice b) (k .apart), sym (k .worth-is ∙ chosen-members (T .count) (boardChoice b) (T .worth)))
 
   -- whoever made the board, and for every list of numbers: what passes binds every feasible set, by the ceiling that the check returns among others
   pub passes-promises : Passes s b → Promises (sheetTurns s) (boardChoice b) (boardTally b) (boardWorth b) (checkOf s b .ceiling)
