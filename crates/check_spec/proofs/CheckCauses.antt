@@ -1,6 +1,6 @@
 -- The check gives exactly the number of the first cause in its order, and passes a board exactly where none is there. Assumes nothing.
 use Prim.Native.Nat.{ℕ, _<_, _≤_}
-use mathlib.Core.Path.{_≡_, refl, sym, _∙_, ap}
+use mathlib.Core.Path.{_≡_, refl, sym, _∙_, ap, subst}
 use mathlib.Core.Logic.{_↔_, _⊎_, inl, inr, _≢_}
 use mathlib.Core.List.{List, [], _∷_, _++_}
 use mathlib.Core.Bool.{Bool, true, false, not, _&&_, _||_}
@@ -8,6 +8,7 @@ use native.Mathlib.Omega.{arith}
 use native.Mathlib.Decide.{ℕ-discrete, decLt}
 use lib.Dec.{eqb}
 use lib.IntN.{ℤ}
+use lib.ListN.{length, getD}
 use borrow.Author.Tests.{eqb-false, ne-eqb, not-true, not-false}
 use Rattle.refusal.specs.Cause.{firstOf, There, here, later}
 use Rattle.refusal.proofs.Order.{first-goes}
@@ -17,7 +18,7 @@ use Rattle.model.specs.Steps.{Step, isOpen, initial, afterStep, afterSteps, tal
 use Rattle.lists.specs.Lists.{every}
 use Rattle.model.specs.Choice.{has, chosen, fits}
 use Rattle.model.specs.Rules.{independent, maximal, right, allRight, noneOpen, sums, Right, Each, done, step}
-use Rattle.lists.proofs.Bools.{and-1, and-2, or-cases, or-1, or-2, or-false-1, or-false-2, not-both, every-not, refuted}
+use Rattle.lists.proofs.Bools.{and-1, and-2, or-cases, or-1, or-2, or-false-1, or-false-2, not-both, every-not, fails, refuted}
 use Rattle.model.proofs.Minutes.{conflict-is}
 use Rattle.model.proofs.Filled.{fits-apart}
 use Rattle.model.proofs.Readings.{independent-is, maximal-is, right-is, allRight-is, noneOpen-is, sums-is}
@@ -32,7 +33,7 @@ use Rattle.board_open.proofs.Openings.{open-refused, shut}
 use Rattle.board_open.proofs.OpenCauses.{open-refused-iff}
 use Rattle.instance_spec.specs.Problem.{sheetTurns}
 use Rattle.instance_spec.proofs.SheetTurns.{sheet-lengths}
-use Rattle.check_spec.specs.Check.{choiceCauses, stepCauses, ruleCauses, sumCauses, boardCauses, checkCauses, checkOf, OneWrong, BoardCause, no-board, other-count, two-conflict, room-left, step-wrong, turn-open, sums-differ, CheckCause, FirstCheckCause, Passes, BoardKeeps}
+use Rattle.check_spec.specs.Check.{choiceCauses, afterRight, stepCauses, ruleCauses, sumCauses, boardCauses, checkCauses, checkOf, OneWrong, UntilWrong, BoardCause, no-board, other-count, two-conflict, room-left, step-wrong, turn-open, sums-differ, CheckCause, FirstCheckCause, Passes, BoardKeeps}
 use Rattle.check_spec.proofs.Passing.{check-number, board-numbered, passes-parts, parts-pass}
 use Rattle.refusal.proofs.Words.{Within, Tells, tells-none, says-tells, then-within, then-tells}
 use Rattle.refusal.proofs.Outcome.{number-iff}
@@ -61,6 +62,33 @@ module _ (T : Turns) where
       go true f ih =
           let w = ih (rw f at e) in
           record { before = x ∷ w .before; wrong = w .wrong; behind = w .behind; steps = ap (λ (ys : List Step). x ∷ ys) (w .steps); before-right = step (right-is T s x .0 f) (w .before-right); not-right = w .not-right }
+
+  -- the steps that take their amounts, and the residuals after them, from a state on
+  record TakingFrom (s : List ℤ) (xs : List Step) : Type 0 where
+    taking : List Step
+    rest : List Step
+    steps : xs ≡ taking ++ rest
+    taking-right : Each (afterStep T) (Right T) s taking
+    stops : (x : Step) (ys : List Step) → rest ≡ x ∷ ys → Right T (afterSteps T s taking) x → ⊥
+    after : afterRight T s xs ≡ afterSteps T s taking
+
+  taking-from : (s : List ℤ) (xs : List Step) → TakingFrom s xs
+  unfolding afterRight afterSteps
+  taking-from s [] = record { taking = []; rest = []; steps = refl; taking-right = done; stops = λ x ys e p. omega (arith, ap (λ (l : List Step). length l) e); after = refl }
+  taking-from s (x ∷ xs) = go (right T s x) refl (taking-from (afterStep T s x) xs)
+    where
+      go : (r : Bool) → right T s x ≡ r → TakingFrom (afterStep T s x) xs → TakingFrom s (x ∷ xs)
+      go false f w = record { taking = []; rest = x ∷ xs; steps = refl; taking-right = done; stops = λ y ys e p. not-both (right-is T s x .1 (subst (λ (z : Step). Right T s z) (sym (ap (λ (l : List Step). getD l 0 x) e)) p)) f; after = rw f }
+      go true f w =
+          record { taking = x ∷ w .taking; rest = w .rest; steps = ap (λ (ys : List Step). x ∷ ys) (w .steps); taking-right = step (right-is T s x .0 f) (w .taking-right); stops = w .stops; after = rw f (w .after) }
+
+  -- no other steps take theirs
+  taking-only : (s : List ℤ) (taking rest : List Step) → Each (afterStep T) (Right T) s taking → ((x : Step) (ys : List Step) → rest ≡ x ∷ ys → Right T (afterSteps T s taking) x → ⊥)
+      → afterRight T s (taking ++ rest) ≡ afterSteps T s taking
+  unfolding afterRight afterSteps
+  taking-only s [] [] r n = refl
+  taking-only s [] (x ∷ rest) r n = rw (fails (right T s x) (λ e. n x rest refl (right-is T s x .0 e)))
+  taking-only s (x ∷ taking) rest (step p ps) n = rw (right-is T s x .1 p) (taking-only (afterStep T s x) taking rest ps n)
 
   -- each step of a run that is right throughout is right where it stands
   right-there : (s : List ℤ) (xs : List Step) (x : Step) (ys : List Step) → Each (afterStep T) (Right T) s (xs ++ (x ∷ ys)) → Right T (afterSteps T s xs) x
@@ -112,12 +140,20 @@ module _ (T : Turns) (lengths : PositiveLengths T) (b : List ℕ) where
           let g : fits T S t ≡ true = not-false (fits T S t) (or-false-2 (has S t) (not (fits T S t)) f) in
           room-left t l (or-false-1 (has S t) (not (fits T S t)) f) (λ u m h c. not-both (conflict-is T lengths u t m l .1 c) (fits-apart T S t g u m h))
 
-  open-cause : not (noneOpen T (afterSteps T (initial T) (writtenSteps b))) ≡ true → BoardCause T b 16 4
+  open-cause : not (noneOpen T (afterRight T (initial T) (writtenSteps b))) ≡ true → BoardCause T b 16 4
   unfolding noneOpen
-  open-cause e = outer (every-not _ (T .count) (not-true (noneOpen T (afterSteps T (initial T) (writtenSteps b))) e))
+  open-cause e = outer (every-not _ (T .count) (not-true (noneOpen T (afterRight T (initial T) (writtenSteps b))) e))
     where
-      outer : (t : ℕ) × (t < T .count) × (not (isOpen (afterSteps T (initial T) (writtenSteps b)) t) ≡ false) → BoardCause T b 16 4
-      outer (t, l, f) = turn-open t l (not-false (isOpen (afterSteps T (initial T) (writtenSteps b)) t) f)
+      w : TakingFrom T (initial T) (writtenSteps b)
+      w = taking-from T (initial T) (writtenSteps b)
+
+      outer : (t : ℕ) × (t < T .count) × (not (isOpen (afterRight T (initial T) (writtenSteps b)) t) ≡ false) → BoardCause T b 16 4
+      outer (t, l, f) =
+          turn-open (w .taking) (record { rest = w .rest; steps = w .steps; taking-right = w .taking-right; stops = w .stops }) t l
+          (rw (w .after) at (not-false (isOpen (afterRight T (initial T) (writtenSteps b)) t) f))
+
+  cause-open : (taking : List Step) → UntilWrong T (writtenSteps b) taking → afterRight T (initial T) (writtenSteps b) ≡ afterSteps T (initial T) taking
+  cause-open taking w = ap (afterRight T (initial T)) (w .steps) ∙ taking-only T (initial T) taking (w .rest) (w .taking-right) (w .stops)
 
   wrong-cause : not (allRight T (initial T) (writtenSteps b)) ≡ true → BoardCause T b 15 3
   wrong-cause e =
@@ -154,7 +190,8 @@ module _ (T : Turns) (lengths : PositiveLengths T) (b : List ℕ) where
   cause-board (two-conflict x y l m d p q c) = later (here (refuted _ (λ e. independent-is T (boardChoice b) lengths .0 e x y l m d p q c)))
   cause-board (room-left t l h n) = later (later (here (refuted _ (λ e. let w = maximal-is T (boardChoice b) lengths .0 e t l h in n (w .0) (w .1) (w .2) (w .3)))))
   cause-board (step-wrong w) = later (later (later (here (refuted _ (cause-wrong w)))))
-  cause-board (turn-open t l o) = later (later (later (later (here (refuted _ (λ e. not-both o (noneOpen-is T (afterSteps T (initial T) (writtenSteps b)) .0 e t l)))))))
+  cause-board (turn-open taking w t l o) =
+      later (later (later (later (here (refuted (noneOpen T (afterRight T (initial T) (writtenSteps b))) (λ e. not-both o (noneOpen-is T (afterSteps T (initial T) taking) .0 (rw (cause-open taking w) at e) t l)))))))
   cause-board (sums-differ d) = later (later (later (later (later (here (refuted _ (λ e. differ d (sums-is T (boardChoice b) (writtenSteps b) (boardTally b) (boardWorth b) .0 e))))))))
     where
       differ : (boardTally b ≢ tally (writtenSteps b)) ⊎ (boardWorth b ≢ chosen (T .count) (boardChoice b) (T .worth)) ⊎ (boardWorth b < boardTally b)
@@ -172,7 +209,7 @@ board-within T b k r (other-count n) = omega arith
 board-within T b k r (two-conflict x y l m d p q c) = omega arith
 board-within T b k r (room-left t l h n) = omega arith
 board-within T b k r (step-wrong n) = omega arith
-board-within T b k r (turn-open t l o) = omega arith
+board-within T b k r (turn-open xs w t l o) = omega arith
 board-within T b k r (sums-differ d) = omega arith
 
 module _ (s b : List ℕ) where

@@ -2,20 +2,24 @@
 use Prim.Native.Nat.{ℕ}
 use mathlib.Core.Path.{_≡_, refl, sym, _∙_}
 use mathlib.Core.Logic.{_↔_}
-use mathlib.Core.List.{List}
+use mathlib.Core.List.{List, [], _∷_}
 use mathlib.Core.Bool.{true, false, not}
 use native.Mathlib.Omega.{arith}
 use lib.Dec.{eqb}
+use lib.IntN.{ℤ}
 use borrow.Author.Tests.{eqb-true, eq-eqb, not-false}
 use Rattle.refusal.specs.Cause.{firstOf}
 use Rattle.refusal.proofs.Order.{numbered, numbered-append, first-goes, clear-cons, clear-append}
 use Rattle.wire.specs.Number.{Bytes}
 use Rattle.model.specs.Turns.{Turns}
-use Rattle.model.specs.Steps.{initial, afterSteps}
-use Rattle.model.specs.Rules.{independent, maximal, allRight, noneOpen, sums}
+use Rattle.model.specs.Steps.{Step, initial, afterStep, afterSteps}
+use Rattle.model.specs.Rules.{independent, maximal, right, allRight, noneOpen, sums}
 use Rattle.model.specs.Ceiling.{ceiling}
 use Rattle.model.specs.Promises.{Promises}
-use Rattle.lists.proofs.Bools.{or-false-1, or-false-2}
+use Rattle.model.specs.Choice.{members}
+use Rattle.model.specs.Feasible.{Feasible, worthOf}
+use Rattle.model.proofs.Members.{chosen-members, members-feasible}
+use Rattle.lists.proofs.Bools.{and-1, and-2, or-false-1, or-false-2}
 use Rattle.model.proofs.Readings.{keeps-is}
 use Rattle.model.proofs.Promised.{keeps-promises}
 use Rattle.sheet.specs.Read.{sheetCauses}
@@ -28,7 +32,7 @@ pub use Rattle.board_open.proofs.OpenCauses.{formed-board}
 use Rattle.board_open.proofs.OpenCauses.{board-formed}
 use Rattle.instance_spec.specs.Problem.{sheetTurns}
 use Rattle.instance_spec.proofs.SheetTurns.{sheet-count, sheet-lengths}
-use Rattle.check_spec.specs.Check.{choiceCauses, stepCauses, ruleCauses, sumCauses, boardCauses, checkCauses, checkOf, checked, Passes, BoardKeeps}
+use Rattle.check_spec.specs.Check.{choiceCauses, afterRight, stepCauses, ruleCauses, sumCauses, boardCauses, checkCauses, checkOf, checked, Passes, BoardKeeps}
 use Rattle.refusal.proofs.Outcome.{number-first, number-none}
 use Rattle.check_spec.specs.declared.CheckAnswer.{CheckAnswer}
 
@@ -47,6 +51,15 @@ board-numbered T b = refl
 pub check-numbered : (s b : List ℕ) → numbered (checkCauses s b) ≡ true
 unfolding checkCauses
 check-numbered s b = numbered-append (sheetCauses s) (boardCauses (sheetTurns s) b) (sheet-numbered s) (board-numbered (sheetTurns s) b)
+
+-- ---- the steps that take their amounts
+
+-- where all steps are right, all take their amounts
+pub after-right : (T : Turns) (s : List ℤ) (xs : List Step) → allRight T s xs ≡ true → afterRight T s xs ≡ afterSteps T s xs
+unfolding allRight afterRight afterSteps
+after-right T s [] e = refl
+after-right T s (x ∷ xs) e =
+    rw (and-1 (right T s x) (allRight T (afterStep T s x) xs) e) (after-right T (afterStep T s x) xs (and-2 (right T s x) (allRight T (afterStep T s x) xs) e))
 
 -- ---- a board without a cause
 
@@ -76,13 +89,13 @@ module _ (T : Turns) (b : List ℕ) where
         apart = not-false (independent T (boardChoice b)) (c₂ .0);
         full = not-false (maximal T (boardChoice b)) (c₃ .0);
         all-right = not-false (allRight T (initial T) (writtenSteps b)) (c₄ .0);
-        closed = not-false (noneOpen T (afterSteps T (initial T) (writtenSteps b))) (c₅ .0);
+        closed = rw (after-right T (initial T) (writtenSteps b) (not-false (allRight T (initial T) (writtenSteps b)) (c₄ .0))) at (not-false (noneOpen T (afterRight T (initial T) (writtenSteps b))) (c₅ .0));
         summed = not-false (sums T (boardChoice b) (writtenSteps b) (boardTally b) (boardWorth b)) (c₆ .0);
       }
 
   pub clear-board : Clear T b → firstOf (boardCauses T b) ≡ 0
   unfolding boardCauses ruleCauses choiceCauses stepCauses sumCauses firstOf
-  clear-board c = rw (c .formed, eq-eqb (boardTurns b) (T .count) (c .counted), c .apart, c .full, c .all-right, c .closed, c .summed)
+  clear-board c = rw (c .formed, eq-eqb (boardTurns b) (T .count) (c .counted), c .apart, c .full, c .all-right, after-right T (initial T) (writtenSteps b) (c .all-right), c .closed, c .summed)
 
 -- ---- the check passes
 
@@ -120,6 +133,13 @@ module _ (s b : List ℕ) where
   pub passes-answer : Passes s b → checkOf s b ≡ checked 0 (boardTally b) (boardWorth b) (ceiling (sheetTurns s) (writtenSteps b))
   unfolding checkOf
   passes-answer = number-none (checkCauses s b) _ _ (λ (x : CheckAnswer). x .refusal) refl (λ k. refl)
+
+  -- the chosen turns of a board that passes are a feasible set, worth what the board says
+  pub passes-feasible : Passes s b → (R : List ℕ) × Feasible (sheetTurns s) R × (worthOf (sheetTurns s) R ≡ boardWorth b)
+  passes-feasible p =
+      let T = sheetTurns s in
+      let k = passes-parts p .1 .rules in
+      (members (T .count) (boardChoice b), members-feasible T (boardChoice b) (k .apart), sym (k .worth-is ∙ chosen-members (T .count) (boardChoice b) (T .worth)))
 
   -- whoever made the board, and for every list of numbers: what passes binds every feasible set, by the ceiling that the check returns among others
   pub passes-promises : Passes s b → Promises (sheetTurns s) (boardChoice b) (boardTally b) (boardWorth b) (checkOf s b .ceiling)

@@ -2,15 +2,16 @@
 use Prim.Native.Nat.{ℕ, _<_}
 use mathlib.Core.Path.{_≡_}
 use mathlib.Core.List.{List, [], _∷_, _++_}
-use mathlib.Core.Bool.{Bool, true, false, not, _||_}
+use mathlib.Core.Bool.{Bool, true, false, not, cond, _||_}
 use mathlib.Core.Logic.{_≢_, _⊎_}
 use lib.Dec.{eqb}
+use lib.IntN.{ℤ}
 use Rattle.refusal.specs.Number.{malformedBoard, chosenConflict, notMaximal, wrongStep, turnLeftOpen, wrongSums}
 use Rattle.refusal.specs.Cause.{Cause, _when_}
 use Rattle.model.specs.Turns.{Turns, Conflict}
 use Rattle.model.specs.Steps.{Step, isOpen, initial, afterStep, afterSteps, tally}
 use Rattle.model.specs.Choice.{has, chosen}
-use Rattle.model.specs.Rules.{independent, maximal, allRight, noneOpen, sums, Right, Each, KeepsRules}
+use Rattle.model.specs.Rules.{independent, maximal, right, allRight, noneOpen, sums, Right, Each, KeepsRules}
 use Rattle.model.specs.Ceiling.{ceiling}
 use Rattle.sheet.specs.Read.{turnCount, sheetCauses}
 use Rattle.sheet.specs.Accepted.{SheetCause, placeOf, FirstAmong}
@@ -25,9 +26,14 @@ use Rattle.refusal.specs.Words.{Then}
 unfoldable pub choiceCauses : Turns → List Bool → List Cause
 choiceCauses T S = chosenConflict when not (independent T S) ∷ notMaximal when not (maximal T S) ∷ []
 
--- the residuals after the last step are asked only where every step is right, since a wrong step is given before
+-- the residuals after the steps up to the first that is not right: each of these takes its amount, that one and those after it take none
+unfoldable pub afterRight : Turns → List ℤ → List Step → List ℤ
+afterRight T s [] = s
+afterRight T s (x ∷ xs) = cond (right T s x) (afterRight T (afterStep T s x) xs) s
+
+-- what may be wrong with steps: one is not right, or a turn is open once those before it have taken their amounts
 unfoldable pub stepCauses : Turns → List Step → List Cause
-stepCauses T xs = wrongStep when not (allRight T (initial T) xs) ∷ turnLeftOpen when not (noneOpen T (afterSteps T (initial T) xs)) ∷ []
+stepCauses T xs = wrongStep when not (allRight T (initial T) xs) ∷ turnLeftOpen when not (noneOpen T (afterRight T (initial T) xs)) ∷ []
 
 -- the choice is judged before the steps
 unfoldable pub ruleCauses : Turns → List Bool → List Step → List Cause
@@ -79,6 +85,13 @@ pub record OneWrong (T : Turns) (xs : List Step) : Type 0 where
   pub before-right : Each (afterStep T) (Right T) (initial T) before
   pub not-right : Right T (afterSteps T (initial T) before) wrong → ⊥
 
+-- the steps of xs that take their amounts: in order, each right where it stands, until one is not or none is left
+pub record UntilWrong (T : Turns) (xs taking : List Step) : Type 0 where
+  pub rest : List Step
+  pub steps : xs ≡ taking ++ rest
+  pub taking-right : Each (afterStep T) (Right T) (initial T) taking
+  pub stops : (x : Step) (ys : List Step) → rest ≡ x ∷ ys → Right T (afterSteps T (initial T) taking) x → ⊥
+
 -- a cause to refuse b as a board for these turns is there: its number, and its place in the order
 pub data BoardCause (T : Turns) (b : List ℕ) : ℕ → ℕ → Type 0 where
   -- 12: it does not open, or is for another number of turns
@@ -90,8 +103,8 @@ pub data BoardCause (T : Turns) (b : List ℕ) : ℕ → ℕ → Type 0 where
   room-left : (t : ℕ) → t < T .count → has (boardChoice b) t ≡ false → ((u : ℕ) → u < T .count → has (boardChoice b) u ≡ true → Conflict T u t → ⊥) → BoardCause T b notMaximal 2
   -- 15
   step-wrong : OneWrong T (writtenSteps b) → BoardCause T b wrongStep 3
-  -- 16: after all written steps. Where one of them is not right, 15 is given before; so where 16 is given, each step that took its amount is right
-  turn-open : (t : ℕ) → t < T .count → isOpen (afterSteps T (initial T) (writtenSteps b)) t ≡ true → BoardCause T b turnLeftOpen 4
+  -- 16: after the written steps, as far as they take their amounts
+  turn-open : (taking : List Step) → UntilWrong T (writtenSteps b) taking → (t : ℕ) → t < T .count → isOpen (afterSteps T (initial T) taking) t ≡ true → BoardCause T b turnLeftOpen 4
   -- 17
   sums-differ : (boardTally b ≢ tally (writtenSteps b)) ⊎ (boardWorth b ≢ chosen (T .count) (boardChoice b) (T .worth)) ⊎ (boardWorth b < boardTally b) → BoardCause T b wrongSums 5
 

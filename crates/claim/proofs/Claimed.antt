@@ -65,7 +65,7 @@ module _ (s lent : List ℕ) (z : planOf s lent .answer .refusal ≡ 0) where
 -- ---- the method
 
 module _ (s : List ℕ) (e : firstOf (sheetCauses s) ≡ 0) where
-  made : {S : List Bool} {xs : List Step} → Selects (sheetTurns s) S xs → ByMethod s S xs
+  made : {S : List Bool} {xs : List Step} → Selects (sheetTurns s) S xs → ByMethod s (plannedBoard s) S xs
   made {S} d =
       let r = planned-back s e in
       let u = selection-unique (sheetTurns s) (sheet-lengths s e) d in
@@ -94,5 +94,7 @@ claim s b y =
       writes = plan-written s;
       method-returns = λ a. (goBack (sheetTurns s) (steps (sheetTurns s)), steps (sheetTurns s), selection-exists (sheetTurns s) (sheet-lengths s (accepted-iff y .1 a)));
       method = λ a S xs d. made s (accepted-iff y .1 a) d;
+      ours-left = λ lent z. rw (plan-front s lent z) (planned-passes s (plan-accepted s lent z));
+      method-left = λ lent z S xs d. rw (plan-front s lent z) (made s (plan-accepted s lent z) d);
       promises = passes-promises s b;
     }

@@ -22,7 +22,7 @@ use Rattle.model.specs.Rules.{independent, maximal, noEarlier, right, allRight,
 use Rattle.choice_map.specs.Choice.{bitOf, chosenIn, choiceIn, clearPast, byteOf, mapOf}
 use Rattle.board.specs.Board.{boardMap, boardChoice, stepsIn, writtenSteps, stepBytes, boardOf}
 use Rattle.board_open.specs.Open.{badSizes, malformed, openOf, stepsPart}
-use Rattle.check_spec.specs.Check.{choiceCauses, stepCauses, ruleCauses, sumCauses, boardCauses, checkCauses, checkOf}
+use Rattle.check_spec.specs.Check.{choiceCauses, afterRight, stepCauses, ruleCauses, sumCauses, boardCauses, checkCauses, checkOf}
 use Rattle.plan_spec.specs.Plan.{boardFor, plannedBoard, planCauses, planOf}
 use Rattle.text.specs.Decimal.{decimalIn, decimal}
 use Rattle.listing_spec.specs.Round.{startsAt, startsBelow, roundFrom, roundOf}
@@ -32,7 +32,7 @@ use Rattle.claim.specs.Cases.{WorkedCases}
 use Rattle.refusal.specs.Outcome.{unless}
 
 pub worked-cases : WorkedCases
-unfolding insertBy sortBy numbersAtMost turnAtMost sortedTurns firstOf opensWith widthOf field turnFrom badMapFor endAt turnAt cursorAfter recordCauses firstCursor countCauses headerCauses recordsCauses turnsFrom rows garage causesFor sheetCauses turnsOf tableOf readCausesFor readFor readOf outsideRange pastShift turnCauses writtenUnless recordOf mapFor recordsOf sheetOf turnsOfTable turnsCauses tableCauses writeCauses writeOf problemOf sheetTurns overlapping overlap bySlope oneGroomer byGroomer oneDriver byDriver conflict every tab isOpen left initial touches lessened change afterStepBy conflictTakes inGroups holdAll fewestGroups stepCost ceiling afterStep afterSteps tally sooner better best pick nextStep planBy plan steps chosen fits choose chooseEach back fill goBack choice bitOf chosenIn choiceIn clearPast byteOf mapOf boardMap boardChoice stepsIn writtenSteps stepBytes boardOf badSizes malformed openOf stepsPart boardFor plannedBoard planCauses planOf decimalIn decimal startsAt startsBelow roundFrom roundOf labelled twoLabelled headingOf lineOf linesOf groomerText groomersFrom sumsLine listingOf sumsFor listingFor sheetListing listCauses listOf independent maximal noEarlier right allRight noneOpen sums choiceCauses stepCauses ruleCauses sumCauses boardCauses checkCauses checkOf unless
+unfolding insertBy sortBy numbersAtMost turnAtMost sortedTurns firstOf opensWith widthOf field turnFrom badMapFor endAt turnAt cursorAfter recordCauses firstCursor countCauses headerCauses recordsCauses turnsFrom rows garage causesFor sheetCauses turnsOf tableOf readCausesFor readFor readOf outsideRange pastShift turnCauses writtenUnless recordOf mapFor recordsOf sheetOf turnsOfTable turnsCauses tableCauses writeCauses writeOf problemOf sheetTurns overlapping overlap bySlope oneGroomer byGroomer oneDriver byDriver conflict every tab isOpen left initial touches lessened change afterStepBy conflictTakes inGroups holdAll fewestGroups stepCost ceiling afterStep afterSteps tally sooner better best pick nextStep planBy plan steps chosen fits choose chooseEach back fill goBack choice bitOf chosenIn choiceIn clearPast byteOf mapOf boardMap boardChoice stepsIn writtenSteps stepBytes boardOf badSizes malformed openOf stepsPart boardFor plannedBoard planCauses planOf decimalIn decimal startsAt startsBelow roundFrom roundOf labelled twoLabelled headingOf lineOf linesOf groomerText groomersFrom sumsLine listingOf sumsFor listingFor sheetListing listCauses listOf independent maximal noEarlier right allRight noneOpen sums choiceCauses afterRight stepCauses ruleCauses sumCauses boardCauses checkCauses checkOf unless
 worked-cases =
     record {
       shift-read = refl;

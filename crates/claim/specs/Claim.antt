@@ -5,7 +5,7 @@ use mathlib.Core.Bool.{Bool}
 use mathlib.Core.List.{List}
 use lib.ListN.{length}
 use Prim.Native.Nat.{ℕ, _≤_}
-use Rattle.refusal.specs.Written.{wrote}
+use Rattle.refusal.specs.Written.{wrote, writtenPart}
 use Rattle.model.specs.Steps.{Step, tally}
 use Rattle.model.specs.Choice.{chosen, fits, fill}
 use Rattle.model.specs.Filling.{FilledUp}
@@ -25,17 +25,17 @@ pub record ReadsAs (s : List ℕ) (a : Accepted s) : Type 0 where
   pub turns : turnsOf s ≡ a .turns
   pub count : turnCount s ≡ length (a .turns)
 
--- the planner's board of s is that of a run of the published algorithm that returns S and makes the steps xs
-pub record ByMethod (s : List ℕ) (S : List Bool) (xs : List Step) : Type 0 where
+-- b is the board of a run of the published algorithm, for the turns of s, that returns S and makes the steps xs
+pub record ByMethod (s b : List ℕ) (S : List Bool) (xs : List Step) : Type 0 where
   -- its choice is S, filled up
-  pub choice : boardChoice (plannedBoard s) ≡ fill (fits (sheetTurns s)) (sheetTurns s .count) S
-  -- the same in words: besides S just the turns, in turn order, that conflict with none chosen
-  pub filled : FilledUp (sheetTurns s) S (boardChoice (plannedBoard s))
+  pub choice : boardChoice b ≡ fill (fits (sheetTurns s)) (sheetTurns s .count) S
+  -- the same in words: besides S exactly the turns, in turn order, that conflict with none chosen
+  pub filled : FilledUp (sheetTurns s) S (boardChoice b)
   -- its steps are xs, and its tally is their sum
-  pub steps : writtenSteps (plannedBoard s) ≡ xs
-  pub tally-is : boardTally (plannedBoard s) ≡ tally xs
+  pub steps : writtenSteps b ≡ xs
+  pub tally-is : boardTally b ≡ tally xs
   -- its worth is that of its choice
-  pub worth-is : boardWorth (plannedBoard s) ≡ chosen (sheetTurns s .count) (boardChoice (plannedBoard s)) (sheetTurns s .worth)
+  pub worth-is : boardWorth b ≡ chosen (sheetTurns s .count) (boardChoice b) (sheetTurns s .worth)
 
 -- the third demand, of any two strings of bytes; and of the second, that the planner's board is the method's, filled up
 pub record Claim (s b : List ℕ) : Type 0 where
@@ -59,6 +59,9 @@ pub record Claim (s b : List ℕ) : Type 0 where
   pub writes : (lent : List ℕ) → planOf s lent .answer .refusal ≡ 0 → planOf s lent ≡ wrote (plannedBoard s) lent
   -- the published algorithm returns a choice and makes steps, and whatever these are, the planner's board is theirs
   pub method-returns : Accepted s → (S : List Bool) × (xs : List Step) × Selects (sheetTurns s) S xs
-  pub method : Accepted s → (S : List Bool) (xs : List Step) → Selects (sheetTurns s) S xs → ByMethod s S xs
+  pub method : Accepted s → (S : List Bool) (xs : List Step) → Selects (sheetTurns s) S xs → ByMethod s (plannedBoard s) S xs
+  -- of the lent bytes themselves: where the planner refuses nothing, as many of them as it returns pass the check, and are the method's board, filled up
+  pub ours-left : (lent : List ℕ) → planOf s lent .answer .refusal ≡ 0 → Passes s (writtenPart (planOf s lent))
+  pub method-left : (lent : List ℕ) → planOf s lent .answer .refusal ≡ 0 → (S : List Bool) (xs : List Step) → Selects (sheetTurns s) S xs → ByMethod s (writtenPart (planOf s lent)) S xs
   -- whenever b passes, whoever made it, it binds every feasible set of the sheet's turns: among others, none is worth more than the ceiling that the check returns
   pub promises : Passes s b → Promises (sheetTurns s) (boardChoice b) (boardTally b) (boardWorth b) (checkOf s b .ceiling)

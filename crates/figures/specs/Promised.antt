@@ -46,7 +46,6 @@ use Rattle.check_spec.specs.Check.{BoardKeeps, BoardCause, CheckCause, FirstChe
 use Rattle.listing_spec.specs.Round.{roundOf, Rising}
 use Rattle.listing_spec.specs.Text.{listingOf}
 use Rattle.listing_spec.specs.List.{listOf, FirstListCause}
-use Rattle.assign_spec.specs.declared.AssignAnswer.{AssignAnswer}
 use Rattle.assign_spec.specs.Numbering.{numberIn, GreedyNumbers, Assignment, different, heldTogether}
 use Rattle.assign_spec.specs.Assign.{assignRefused, assignOf, FirstAssignCause}
 use Rattle.best_spec.specs.Table.{bestChoice, isAmong, Later}

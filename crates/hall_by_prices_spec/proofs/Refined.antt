@@ -2,8 +2,9 @@
 use Prim.Native.Nat.{ℕ, _≤_}
 use mathlib.Core.Path.{_≡_, sym, ap, _∙_, refl}
 use mathlib.Core.List.{List}
-use lib.ListN.{length, drop}
+use lib.ListN.{length, drop, replicate}
 use lib.Seq.{take-at, drop-at}
+use Rattle.refine_spec.proofs.Kept.{lowest-kept, best-kept}
 use Rattle.refine_spec.proofs.Rounds.{Given, given-made, given-ended, given-more-worth, given-more-limit, given-not-before, given-same}
 use Rattle.refusal.specs.Cause.{firstOf}
 use Rattle.refusal.proofs.Outcome.{enough-iff}
@@ -15,16 +16,16 @@ use Rattle.refusal.specs.Written.{atFront}
 use Rattle.choice_map.specs.Choice.{mapBytes, mapOf, choiceIn}
 use Rattle.choice_map.proofs.Clean.{map-length, map-choice}
 use Rattle.hall_spec.specs.Hall.{Hall, Allowed}
-use Rattle.hall_spec.specs.Plan.{hallWorth}
+use Rattle.hall_spec.specs.Plan.{hallWorth, hallChoice}
 use Rattle.hall_spec.specs.Promises.{worthOfWindows}
 use Rattle.limit_spec.specs.Limit.{limitIs}
 use Rattle.hall_spec.specs.Charge.{chargingSheet, hallOf, Charged, chargeCauses, chargeOf}
 use Rattle.hall_spec.proofs.ChargeCauses.{charge-number, charge-answers}
-use Rattle.refine_spec.specs.Rounds.{Stage, startFrom}
+use Rattle.refine_spec.specs.Rounds.{Stage, startFrom, LowestKept, BestKept}
 use Rattle.hall_by_prices_spec.specs.Hall.{hallRefined, hallRule, hallStart}
 use Rattle.hall_by_prices_spec.specs.Limit.{sheetHallLimit, chargeLimitOf}
 use Rattle.hall_by_prices_spec.specs.Refine.{ChargeRefinement, chargeRefineCauses, chargeRefinement, chargeRefineOf}
-use Rattle.hall_by_prices_spec.specs.Promises.{refinedMap, refinedWindows, refinedMinutes, ChargeRefinePromised}
+use Rattle.hall_by_prices_spec.specs.Promises.{refinedMap, refinedWindows, refinedMinutes, sheetRule, sheetChange, ChargeRefinePromised}
 use Rattle.hall_by_prices_spec.proofs.LimitCauses.{charge-limit-is}
 use Rattle.hall_by_prices_spec.proofs.Promised.{window-count, vehicle-numbers}
 use Rattle.hall_by_prices_spec.proofs.RefineCauses.{clear-iff, charge-refine-number, charge-refine-answers}
@@ -113,6 +114,19 @@ module _ (s : List ℕ) (rounds : ℕ) (map prices : List ℕ) (e : chargeRefine
   all-within : (R : List ℕ) → Allowed H R → worthOfWindows H R ≤ chargeRefineOf s rounds map prices .limit
   all-within R a = rw (given s rounds map prices e .limit-is) (rounds-within H vehicles rounds (vehicle-numbers s sound) R a)
 
+  -- ---- what is kept
+
+  prices-first : LowestKept (sheetRule s) (sheetChange s) (replicate shiftMinutes 0) (chargeRefineOf s rounds map prices .rounds) (chargeRefineOf s rounds map prices .limit) (refinedMinutes s rounds map prices)
+  unfolding hallRefined hallStart
+  prices-first =
+      rw (minutes-are, given s rounds map prices e .rounds-is, given s rounds map prices e .limit-is)
+      (lowest-kept (sheetRule s) (sheetChange s) (replicate shiftMinutes 0) (hallChoice H) rounds)
+
+  choice-first : BestKept (sheetRule s) (sheetChange s) (replicate shiftMinutes 0) (hallChoice H) (chargeRefineOf s rounds map prices .rounds) (refinedWindows s rounds map prices)
+  unfolding hallRefined hallStart
+  choice-first =
+      rw (windows-are, given s rounds map prices e .rounds-is) (best-kept (sheetRule s) (sheetChange s) (replicate shiftMinutes 0) (hallChoice H) rounds)
+
   -- every answer that refuses nothing
   pub charge-refine-promised : ChargeRefinePromised s rounds map prices
   unfolding hallRefined hallStart startFrom
@@ -129,6 +143,8 @@ module _ (s : List ℕ) (rounds : ℕ) (map prices : List ℕ) (e : chargeRefine
         within = all-within;
         worth-within = rw (given s rounds map prices e .worth-is, given s rounds map prices e .limit-is) (rounds-worth-within H vehicles rounds (vehicle-numbers s sound));
         best = λ q R a. rw (windows-are, ← rounds-worth H vehicles rounds, ← given s rounds map prices e .worth-is, ← q) (all-within R a);
+        prices-kept = prices-first;
+        choice-kept = choice-first;
         more-worth = λ k m p h o. given-more-worth R start refl rounds g k (given s k m p o) h;
         more-limit = λ k m p h o. given-more-limit R start refl rounds g k (given s k m p o) h;
         places-apart = λ m p o. given-same g (given s rounds m p o);

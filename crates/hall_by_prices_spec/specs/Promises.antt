@@ -4,18 +4,20 @@ use mathlib.Core.Logic.{_≢_, _⊎_}
 use mathlib.Core.Bool.{Bool}
 use mathlib.Core.List.{List}
 use Prim.Native.Nat.{ℕ, _+_, _≤_, _<_}
-use lib.ListN.{take, drop}
+use lib.ListN.{take, drop, replicate}
 use Rattle.lists.specs.Lists.{sum, below}
 use Rattle.turn.specs.Turn.{shiftMinutes}
 use Rattle.sheet.specs.Read.{countsIn, turnCount}
 use Rattle.choice_map.specs.Choice.{mapBytes, mapOf, choiceIn}
-use Rattle.hall_spec.specs.Hall.{Allowed, AllowedChoice}
-use Rattle.hall_spec.specs.Plan.{worthIn}
+use Rattle.hall_spec.specs.Hall.{windowCount, Allowed, AllowedChoice}
+use Rattle.hall_spec.specs.Plan.{worthIn, hallChoice}
 use Rattle.hall_spec.specs.Promises.{worthOfWindows}
 use Rattle.limit_spec.specs.Limit.{limitIs}
 use Rattle.limit_spec.specs.Promises.{AllFree}
 use Rattle.hall_spec.specs.Charge.{hallOf, chargeOf}
 use Rattle.hall_by_prices_spec.specs.Prices.{richestOf, vehicleBest, supplyCost, MostOfVehicle}
+use Rattle.refine_spec.specs.Rounds.{RoundRule, greatestOf, firstChange, LowestKept, BestKept}
+use Rattle.hall_by_prices_spec.specs.Hall.{hallRule}
 use Rattle.hall_by_prices_spec.specs.Limit.{chargeLimitOf}
 use Rattle.hall_by_prices_spec.specs.Refine.{chargeRefineOf}
 
@@ -41,6 +43,13 @@ refinedWindows s rounds map prices = choiceIn (turnCount s) (refinedMap s rounds
 abbrev pub refinedMinutes : List ℕ → ℕ → List ℕ → List ℕ → List ℕ
 refinedMinutes s rounds map prices = take shiftMinutes (chargeRefineOf s rounds map prices .prices)
 
+-- the rule of a charging sheet's rounds, and the change of the first
+abbrev pub sheetRule : List ℕ → RoundRule
+sheetRule s = hallRule (hallOf s) (countsIn s .slopes)
+
+abbrev pub sheetChange : List ℕ → ℕ
+sheetChange s = firstChange 8 (greatestOf (hallOf s .windows .worth) (below (windowCount (hallOf s))))
+
 -- of an answer that refuses nothing
 pub record ChargeRefinePromised (s : List ℕ) (rounds : ℕ) (map prices : List ℕ) : Type 0 where
   -- the windows are an allowed set, the bytes are their map, and they are worth what is returned
@@ -57,6 +66,10 @@ pub record ChargeRefinePromised (s : List ℕ) (rounds : ℕ) (map prices : List
   -- where limit and worth are equal, none is worth more than the written set
   pub best : chargeRefineOf s rounds map prices .limit ≡ chargeRefineOf s rounds map prices .worth → (R : List ℕ) → Allowed (hallOf s) R →
       worthOfWindows (hallOf s) R ≤ worthIn (hallOf s) (refinedWindows s rounds map prices)
+  -- of the looks made, one more than the rounds, the written prices are those of the first with the lowest limit, which is returned
+  pub prices-kept : LowestKept (sheetRule s) (sheetChange s) (replicate shiftMinutes 0) (chargeRefineOf s rounds map prices .rounds) (chargeRefineOf s rounds map prices .limit) (refinedMinutes s rounds map prices)
+  -- the written windows are those of the first look whose choice is worth most, if it is worth more than the hall's plan; else the plan's
+  pub choice-kept : BestKept (sheetRule s) (sheetChange s) (replicate shiftMinutes 0) (hallChoice (hallOf s)) (chargeRefineOf s rounds map prices .rounds) (refinedWindows s rounds map prices)
   -- with more rounds the worth is no less, and the limit is no higher, whatever is lent then, if nothing is refused
   pub more-worth : (more : ℕ) (map′ prices′ : List ℕ) → rounds ≤ more → chargeRefineOf s more map′ prices′ .refusal ≡ 0 →
       chargeRefineOf s rounds map prices .worth ≤ chargeRefineOf s more map′ prices′ .worth

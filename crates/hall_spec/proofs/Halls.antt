@@ -15,7 +15,8 @@ use Rattle.model.specs.Steps.{tally}
 use Rattle.model.specs.Choice.{has}
 use Rattle.lists.proofs.Sums.{sum-add, sum-mono, all-map}
 use Rattle.hall_spec.specs.Hall.{Hall, windowCount, drawAt, isWide, isSmall, Allowed, AllowedChoice, FullAmong, HallInRange}
-use Rattle.hall_spec.specs.Plan.{turnsAmong, wideSteps, smallSteps, chooseAmong, wideChoice, smallChoice, worthIn, greaterOf, hallChoice, hallWorth}
+use Rattle.hall_spec.specs.Plan.{turnsAmong, wideSteps, smallSteps, chooseAmong, wideChoice, smallChoice, worthIn, greaterOf, hallChoice, hallWorth, ChosenAmong}
+use Rattle.hall_spec.proofs.Through.{among-is}
 use Rattle.hall_spec.specs.Promises.{worthOfWindows, HallPromises}
 use Rattle.hall_spec.proofs.Windows.{among-worth}
 use Rattle.hall_spec.proofs.Allowing.{chosen-allowed, chosen-kind, chosen-length, full-among}
@@ -99,6 +100,14 @@ module _ (H : Hall) where
   unfolding smallChoice chooseAmong
   small-filled = full-among H (isSmall H) (smallSteps H)
 
+  wide-among : ChosenAmong H (isWide H) (wideSteps H) (wideChoice H)
+  unfolding wideChoice
+  wide-among = among-is H (isWide H) (wideSteps H)
+
+  small-among : ChosenAmong H (isSmall H) (smallSteps H) (smallChoice H)
+  unfolding smallChoice
+  small-among = among-is H (isSmall H) (smallSteps H)
+
   -- ---- the promises
 
   module _ (good : HallInRange H) where
@@ -135,6 +144,8 @@ module _ (H : Hall) where
         record {
           allowed = plan-allowed;
           one-kind = plan-kind;
+          wide-chosen = wide-among;
+          small-chosen = small-among;
           wide-full = wide-filled;
           small-full = small-filled;
           wide-bound = wide-twice H good;

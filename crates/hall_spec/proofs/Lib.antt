@@ -2,6 +2,7 @@ pub mod Windows
 pub mod Takes
 pub mod Runs
 pub mod Allowing
+pub mod Through
 pub mod Open
 pub mod Small
 pub mod Wide

@@ -1,14 +1,17 @@
 -- The hall's two plans, one of the wide windows and one of the small ones, and the one that the hall gets (request R-14). Assumes nothing.
-use mathlib.Core.Bool.{Bool, cond, _&&_}
-use mathlib.Core.List.{List, map}
+use mathlib.Core.Path.{_≡_}
+use mathlib.Core.Bool.{Bool, true, false, cond, _&&_}
+use mathlib.Core.List.{List, [], _∷_, map}
 use Prim.Native.Nat.{ℕ, _+_, _-_, _*_, _/_}
 use lib.Dec.{ltb}
+use lib.ListN.{set, replicate}
+use Rattle.lists.specs.Lists.{below}
 use Rattle.model.specs.Turns.{Turns}
 use Rattle.model.specs.Steps.{Step, initial, afterStep, afterStepBy}
 use Rattle.model.specs.Pick.{planBy, steps}
 use Rattle.model.specs.Choice.{chosen, back, fill}
 use Rattle.model.specs.Run.{Run}
-use Rattle.hall_spec.specs.Hall.{hallGap, Hall, windowCount, draw, sameVehicle, shareMinute, isWide, isSmall, staysAllowed}
+use Rattle.hall_spec.specs.Hall.{hallGap, Hall, windowCount, draw, sameVehicle, shareMinute, isWide, isSmall, staysAllowed, AllowedChoice}
 
 -- ---- the steps
 
@@ -85,3 +88,15 @@ WideRun H xs = Run (turnsAmong H (isWide H)) (afterStep (turnsAmong H (isWide H)
 -- the same on the small windows, with what is taken there
 abbrev pub SmallRun : Hall → List Step → Type 0
 SmallRun H xs = Run (turnsAmong H (isSmall H)) (afterStepBy (smallTakes H)) (initial (turnsAmong H (isSmall H))) xs
+
+-- beside S a list of windows is gone through from its last to its first: each that is of the kind, and with which the chosen windows are an allowed set, is taken, and no other. R has what is chosen then
+pub data GoneThrough (H : Hall) (kind : ℕ → Bool) (S : List Bool) : List ℕ → List Bool → Type 0 where
+  start : GoneThrough H kind S [] S
+  taken : {t : ℕ} {ts : List ℕ} {R : List Bool} → GoneThrough H kind S ts R → kind t ≡ true → AllowedChoice H (set R t true) → GoneThrough H kind S (t ∷ ts) (set R t true)
+  passed : {t : ℕ} {ts : List ℕ} {R : List Bool} → GoneThrough H kind S ts R → (kind t ≡ true → AllowedChoice H (set R t true) → ⊥) → GoneThrough H kind S (t ∷ ts) R
+
+-- S is what going back over the steps and then filling choose among the windows of a kind: the steps' windows from the last step to the first, then all windows from number 0 on
+pub record ChosenAmong (H : Hall) (kind : ℕ → Bool) (xs : List Step) (S : List Bool) : Type 0 where
+  pub gone-back : List Bool
+  pub from-steps : GoneThrough H kind (replicate (windowCount H) false) (map (λ (x : Step). x .turn) xs) gone-back
+  pub filled : GoneThrough H kind gone-back (below (windowCount H)) S

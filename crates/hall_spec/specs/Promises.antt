@@ -9,7 +9,7 @@ use Rattle.lists.specs.Lists.{sum, All}
 use Rattle.model.specs.Steps.{tally}
 use Rattle.model.specs.Choice.{has}
 use Rattle.hall_spec.specs.Hall.{Hall, isWide, isSmall, Allowed, AllowedChoice, FullAmong}
-use Rattle.hall_spec.specs.Plan.{wideSteps, smallSteps, wideChoice, smallChoice, worthIn, hallChoice, hallWorth}
+use Rattle.hall_spec.specs.Plan.{wideSteps, smallSteps, wideChoice, smallChoice, worthIn, hallChoice, hallWorth, ChosenAmong}
 
 -- what a set of windows is worth: their worths, added up
 abbrev pub worthOfWindows : Hall → List ℕ → ℕ
@@ -20,6 +20,9 @@ pub record HallPromises (H : Hall) : Type 0 where
   pub allowed : AllowedChoice H (hallChoice H)
   -- and is of one kind: all wide, or all small
   pub one-kind : ((t : ℕ) → has (hallChoice H) t ≡ true → isWide H t ≡ true) ⊎ ((t : ℕ) → has (hallChoice H) t ≡ true → isSmall H t ≡ true)
+  -- each plan is what going back over its steps and filling choose among its windows
+  pub wide-chosen : ChosenAmong H (isWide H) (wideSteps H) (wideChoice H)
+  pub small-chosen : ChosenAmong H (isSmall H) (smallSteps H) (smallChoice H)
   -- each plan is full: none of its kind's other windows could be chosen besides
   pub wide-full : FullAmong H (isWide H) (wideChoice H)
   pub small-full : FullAmong H (isSmall H) (smallChoice H)

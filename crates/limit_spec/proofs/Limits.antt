@@ -7,10 +7,10 @@ use Prim.Native.Nat.{ℕ, _+_, _-_, _≤_, _<_}
 use native.Mathlib.Omega.{arith}
 use lib.Dec.{ltb, leb, eqb}
 use lib.ListN.{getD}
-use borrow.Author.Tests.{eqb-true, leb-true, le-leb}
+use borrow.Author.Tests.{ltb-true, eqb-true, leb-true, le-leb}
 use Rattle.lists.specs.Lists.{sum, below}
 use Rattle.lists.proofs.Bools.{and-1, and-2, and-of}
-use Rattle.lists.proofs.Sums.{all-map, sum-add, sum-mono, sum-zero, all-of, all-both}
+use Rattle.lists.proofs.Sums.{all-map, sum-add, sum-mono, sum-zero, sum-same, all-of, all-both}
 use Rattle.model.specs.Turns.{Turns, PositiveLengths, NoDrivers, byDriver, oneDriver, conflict, Holds, Conflict, same-slope, same-groomer, same-driver}
 use Rattle.model.specs.Feasible.{Feasible, worthOf, OneTurnASlope}
 use Rattle.model.proofs.Groups.{Clique, one-of}
@@ -211,3 +211,41 @@ module _ (T : Turns) (slopes : ℕ) (prices : List ℕ) (free : (k : ℕ) → ge
   pub free-limit : (n : ℕ) → limitBy T n slopes prices ≡ groomersWorth T n
   unfolding limitBy
   free-limit n = rw (no-prices, free-priced) (omega (arith, bare-groomers T n))
+
+-- ---- prices that play no part
+
+pays-driver : (T : Turns) (u t : ℕ) → paysTurn T u t ≡ true → oneDriver T u t ≡ true
+unfolding paysTurn byDriver
+pays-driver T u t e = search (and-1, and-2)
+
+-- two lists with the same prices of all slopes and of all turns that name a driver
+module _ (T : Turns) (slopes : ℕ) (prices other : List ℕ) (all-slopes : (k : ℕ) → k < slopes → slopePrice other (k + 1) ≡ slopePrice prices (k + 1))
+    (own-slopes : (t : ℕ) → slopePrice other (T .slope t) ≡ slopePrice prices (T .slope t)) (driven : (u : ℕ) → u < T .count → T .driver u ≢ 0 → turnPrice slopes other u ≡ turnPrice slopes prices u) where
+  same-paid : (t : ℕ) → paidBy T slopes other t ≡ paidBy T slopes prices t
+  unfolding paidBy
+  same-paid t = omega (arith, own-slopes t, sum-same (λ u. cond (paysTurn T u t) (turnPrice slopes other u) 0) (λ u. cond (paysTurn T u t) (turnPrice slopes prices u) 0) (T .count) (λ u l. one u l (paysTurn T u t) refl))
+    where
+      one : (u : ℕ) → u < T .count → (b : Bool) → paysTurn T u t ≡ b → cond b (turnPrice slopes other u) 0 ≡ cond b (turnPrice slopes prices u) 0
+      one u l true e = driven u l (Conflicts.oneDriver-names T u t (pays-driver T u t e) .named)
+      one u l false e = refl
+
+  same-prices : priceSum T slopes other ≡ priceSum T slopes prices
+  unfolding priceSum
+  same-prices =
+      omega (
+        arith,
+        sum-same (λ k. slopePrice other (k + 1)) (λ k. slopePrice prices (k + 1)) slopes all-slopes,
+        sum-same (λ u. cond (ltb 0 (T .driver u)) (turnPrice slopes other u) 0) (λ u. cond (ltb 0 (T .driver u)) (turnPrice slopes prices u) 0) (T .count) (λ u l. one u l (ltb 0 (T .driver u)) refl),
+      )
+    where
+      one : (u : ℕ) → u < T .count → (b : Bool) → ltb 0 (T .driver u) ≡ b → cond b (turnPrice slopes other u) 0 ≡ cond b (turnPrice slopes prices u) 0
+      one u l true e = driven u l (λ z. omega (arith, z, ltb-true 0 (T .driver u) e))
+      one u l false e = refl
+
+  same-priced : pricedTurns T slopes other ≡ pricedTurns T slopes prices
+  unfolding pricedTurns countsFor
+  same-priced = ap (λ (paid : ℕ → ℕ). bare (withWorths T (λ t. T .worth t - paid t))) (λ j t. same-paid t j)
+
+  pub same-limit : (n : ℕ) → limitBy T n slopes other ≡ limitBy T n slopes prices
+  unfolding limitBy
+  same-limit n = rw (same-prices, same-priced)

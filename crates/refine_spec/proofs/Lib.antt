@@ -1,5 +1,6 @@
 pub mod Rounds
 pub mod Loop
+pub mod Kept
 pub mod Relaxed
 pub mod Selection
 pub mod Asked

@@ -1,11 +1,11 @@
 -- What the entry's own answer promises. Assumes nothing.
-use Prim.Native.Nat.{ℕ, _≤_}
+use Prim.Native.Nat.{ℕ, _+_, _≤_}
 use mathlib.Core.Path.{_≡_, sym, ap, _∙_, refl}
 use mathlib.Core.List.{List, [], _∷_, _++_}
 use mathlib.Core.Bool.{not}
 use native.Mathlib.Omega.{arith}
 use lib.Dec.{eqb}
-use lib.ListN.{length, take, drop}
+use lib.ListN.{length, take, drop, replicate}
 use lib.Seq.{take-append-seam, drop-append-seam}
 use borrow.Author.Tests.{eq-eqb}
 use Rattle.refine_spec.specs.Shift.{shiftRule, shiftStart, shiftRefined}
@@ -18,15 +18,16 @@ use Rattle.sheet.proofs.Readings.{sheet-numbered}
 use Rattle.model.specs.Turns.{Turns}
 use Rattle.model.specs.Steps.{tally}
 use Rattle.model.specs.Pick.{steps}
-use Rattle.model.specs.Choice.{chosen, members}
+use Rattle.model.specs.Choice.{chosen, choice, members}
 use Rattle.model.specs.Feasible.{Feasible, worthOf}
 use Rattle.model.proofs.Members.{chosen-members, members-feasible}
 use Rattle.model.proofs.Promised.{choice-earns}
 use Rattle.model.proofs.Readings.{apart-reads}
-use Rattle.board.specs.Board.{boardTally, boardWorth, writtenSteps}
+use Rattle.board.specs.Board.{boardTally, boardWorth, boardChoice, writtenSteps}
 use Rattle.instance_spec.specs.Problem.{sheetTurns}
 use Rattle.instance_spec.proofs.SheetTurns.{sheet-count, sheet-lengths}
 use Rattle.check_spec.specs.Check.{Passes}
+use Rattle.check_spec.proofs.Passing.{passes-feasible}
 use Rattle.plan_spec.specs.Plan.{plannedBoard}
 use Rattle.plan_spec.proofs.Planned.{planned-back}
 use Rattle.limit_spec.specs.declared.LimitAnswer.{LimitAnswer}
@@ -34,9 +35,10 @@ use Rattle.limit_spec.specs.Prices.{turnPrice}
 use Rattle.limit_spec.specs.Limit.{priceCount, limitCauses, sheetLimit, limitIs, limitOf}
 use Rattle.limit_spec.proofs.LimitCauses as limits
 use Rattle.limit_spec.proofs.Promised.{limit-promised}
-use Rattle.refine_spec.specs.Rounds.{Stage, startFrom}
+use Rattle.refine_spec.specs.Rounds.{Stage, startFrom, LowestKept, BestKept}
 use Rattle.refine_spec.specs.Refine.{Refinement, boardWith, refinementOf, refineOf}
-use Rattle.refine_spec.specs.Promises.{refinedBoard, refinedPrices, RefinePromised}
+use Rattle.refine_spec.specs.Promises.{refinedBoard, refinedPrices, sheetRule, sheetChange, RefinePromised}
+use Rattle.refine_spec.proofs.Kept.{lowest-kept, best-kept}
 use Rattle.refine_spec.proofs.RefineCauses.{sheetRefined, refine-is, refine-clear}
 use Rattle.refine_spec.proofs.Boards.{ReadsWith, sheet-back, with-passes}
 use Rattle.refine_spec.proofs.Shift.{shift-list, shift-driverless, shift-limit, shift-worth, shift-size, shift-apart, shift-full, shift-planned}
@@ -154,6 +156,26 @@ module _ (s : List ℕ) (rounds : ℕ) (board prices : List ℕ) (e : refineOf s
         given s rounds board prices e .worth-is,
       )
 
+  boards : (b : List ℕ) → Passes s b → boardWorth b ≤ refineOf s rounds board prices .limit
+  boards b p = let (R, f, w) = passes-feasible s b p in omega (arith, all-within R f, w)
+
+  -- ---- what is kept
+
+  first-prices : replicate {A = ℕ} (slopes + T .count) 0 ≡ replicate (priceCount s) 0
+  first-prices = ap (λ (n : ℕ). replicate {A = ℕ} (slopes + n) 0) (sheet-count s sound)
+
+  prices-first : LowestKept (sheetRule s) (sheetChange s) (replicate (priceCount s) 0) (refineOf s rounds board prices .rounds) (refineOf s rounds board prices .limit) (refinedPrices s rounds board prices)
+  unfolding shiftRefined shiftStart
+  prices-first =
+      rw (list-front, given s rounds board prices e .rounds-is, given s rounds board prices e .limit-is, ← first-prices)
+      (lowest-kept (sheetRule s) (sheetChange s) (replicate (slopes + T .count) 0) (choice T) rounds)
+
+  choice-first : BestKept (sheetRule s) (sheetChange s) (replicate (priceCount s) 0) (boardChoice (plannedBoard s)) (refineOf s rounds board prices .rounds) (boardChoice (refinedBoard s rounds board prices))
+  unfolding shiftRefined shiftStart
+  choice-first =
+      rw (front, back .chosen-turns, planned-back s sound .chosen-turns, given s rounds board prices e .rounds-is, ← first-prices)
+      (best-kept (sheetRule s) (sheetChange s) (replicate (slopes + T .count) 0) (choice T) rounds)
+
   -- every answer that refuses nothing
   pub refine-promised : RefinePromised s rounds board prices
   unfolding shiftRefined shiftStart startFrom
@@ -171,6 +193,10 @@ module _ (s : List ℕ) (rounds : ℕ) (board prices : List ℕ) (e : refineOf s
         within = all-within;
         worth-within = own-within;
         best = λ q R f. omega (arith, all-within R f, q, worth-written);
+        boards-within = λ b p. boards b p;
+        best-board = λ q b p. omega (arith, boards b p, q, worth-written);
+        prices-kept = prices-first;
+        choice-kept = choice-first;
         more-worth = λ k b p h o. given-more-worth R start refl rounds g k (given s k b p o) h;
         more-limit = λ k b p h o. given-more-limit R start refl rounds g k (given s k b p o) h;
         places-apart = λ b p o. given-same g (given s rounds b p o);

@@ -3,15 +3,17 @@ use mathlib.Core.Path.{_≡_}
 use mathlib.Core.Logic.{_≢_, _⊎_}
 use mathlib.Core.List.{List}
 use Prim.Native.Nat.{ℕ, _≤_, _<_}
-use lib.ListN.{take, drop}
+use lib.ListN.{take, drop, replicate}
 use Rattle.model.specs.Feasible.{Feasible, worthOf}
 use Rattle.sheet.specs.Read.{countsIn}
-use Rattle.board.specs.Board.{boardTally, boardWorth, writtenSteps}
+use Rattle.board.specs.Board.{boardTally, boardWorth, boardChoice, writtenSteps}
 use Rattle.instance_spec.specs.Problem.{sheetTurns}
 use Rattle.check_spec.specs.Check.{Passes}
 use Rattle.plan_spec.specs.Plan.{plannedBoard}
 use Rattle.limit_spec.specs.Prices.{turnPrice}
 use Rattle.limit_spec.specs.Limit.{priceCount, limitIs, limitOf}
+use Rattle.refine_spec.specs.Rounds.{RoundRule, firstChange, LowestKept, BestKept}
+use Rattle.refine_spec.specs.Shift.{shiftRule, greatestWorth}
 use Rattle.refine_spec.specs.Refine.{refineOf}
 
 -- the bytes of the board that the entry wrote
@@ -21,6 +23,13 @@ refinedBoard s rounds board prices = take (refineOf s rounds board prices .bytes
 -- the price list that it wrote
 abbrev pub refinedPrices : List ℕ → ℕ → List ℕ → List ℕ → List ℕ
 refinedPrices s rounds board prices = take (priceCount s) (refineOf s rounds board prices .prices)
+
+-- the rule of a sheet's rounds, and the change of the first
+abbrev pub sheetRule : List ℕ → RoundRule
+sheetRule s = shiftRule (sheetTurns s) (countsIn s .groomers) (countsIn s .slopes)
+
+abbrev pub sheetChange : List ℕ → ℕ
+sheetChange s = firstChange 4 (greatestWorth (sheetTurns s))
 
 -- of an answer that refuses nothing
 pub record RefinePromised (s : List ℕ) (rounds : ℕ) (board prices : List ℕ) : Type 0 where
@@ -37,9 +46,16 @@ pub record RefinePromised (s : List ℕ) (rounds : ℕ) (board prices : List ℕ
   -- no feasible set of the sheet's turns is worth more than the limit, and neither is the board
   pub within : (R : List ℕ) → Feasible (sheetTurns s) R → worthOf (sheetTurns s) R ≤ refineOf s rounds board prices .limit
   pub worth-within : refineOf s rounds board prices .worth ≤ refineOf s rounds board prices .limit
+  -- nor is a board that passes the check for this sheet, whoever made it
+  pub boards-within : (b : List ℕ) → Passes s b → boardWorth b ≤ refineOf s rounds board prices .limit
   -- where limit and worth are equal, none is worth more than the board
   pub best : refineOf s rounds board prices .limit ≡ refineOf s rounds board prices .worth → (R : List ℕ) → Feasible (sheetTurns s) R →
       worthOf (sheetTurns s) R ≤ boardWorth (refinedBoard s rounds board prices)
+  pub best-board : refineOf s rounds board prices .limit ≡ refineOf s rounds board prices .worth → (b : List ℕ) → Passes s b → boardWorth b ≤ boardWorth (refinedBoard s rounds board prices)
+  -- of the looks made, one more than the rounds, the written prices are those of the first with the lowest limit, which is returned
+  pub prices-kept : LowestKept (sheetRule s) (sheetChange s) (replicate (priceCount s) 0) (refineOf s rounds board prices .rounds) (refineOf s rounds board prices .limit) (refinedPrices s rounds board prices)
+  -- the written choice is that of the first look whose choice is worth most, if it is worth more than the planned one; else the planned one
+  pub choice-kept : BestKept (sheetRule s) (sheetChange s) (replicate (priceCount s) 0) (boardChoice (plannedBoard s)) (refineOf s rounds board prices .rounds) (boardChoice (refinedBoard s rounds board prices))
   -- with more rounds the worth is no less, and the limit is no higher, whatever is lent then, if nothing is refused
   pub more-worth : (more : ℕ) (board′ prices′ : List ℕ) → rounds ≤ more → refineOf s more board′ prices′ .refusal ≡ 0 →
       refineOf s rounds board prices .worth ≤ refineOf s more board′ prices′ .worth

@@ -1,7 +1,8 @@
 -- Rounds in which prices move, whatever the rule: a look at the prices, then a round, until limit and worth meet (requests P-2 and P-3). Assumes nothing.
+use mathlib.Core.Path.{_≡_}
 use mathlib.Core.Bool.{Bool, cond}
 use mathlib.Core.List.{List, [], _∷_}
-use Prim.Native.Nat.{ℕ, zero, suc, _+_, _-_, _*_, _/_, max}
+use Prim.Native.Nat.{ℕ, zero, suc, _+_, _-_, _*_, _/_, _≤_, _<_, max}
 use lib.Dec.{ltb, eqb}
 
 -- a rule, for a shift or for a hall: the limit at some prices, the choice made from their relaxed set, what a choice is worth, and the prices after a round with some change
@@ -80,6 +81,16 @@ unfoldable pub refined : RoundRule → ℕ → Stage → Stage
 refined R zero x = looked R x
 refined R (suc n) x = let y = looked R x in cond (eqb (y .limit) (y .worth)) y (refined R n (moving R y))
 
+-- the change of the round after look k, by the first round's; the first look is number 0
+unfoldable pub changeAt : ℕ → ℕ → ℕ
+changeAt first zero = first
+changeAt first (suc k) = nextChange (changeAt first k)
+
+-- the prices that look k sees, by the first look's: those of the look before it, moved
+unfoldable pub pricesAt : RoundRule → ℕ → List ℕ → ℕ → List ℕ
+pricesAt R change prices zero = prices
+pricesAt R change prices (suc k) = R .moved (changeAt change k) (pricesAt R change prices k)
+
 -- the greatest of f over a list, 0 over none
 unfoldable pub greatestOf : (ℕ → ℕ) → List ℕ → ℕ
 greatestOf f [] = 0
@@ -88,3 +99,21 @@ greatestOf f (t ∷ ts) = max (f t) (greatestOf f ts)
 -- the change of the first round: the greatest worth divided by a number, rounded up
 unfoldable pub firstChange : ℕ → ℕ → ℕ
 firstChange divisor greatest = (greatest + (divisor - 1)) / divisor
+
+-- ---- as statements
+
+-- of the looks up to the last one, the first with the lowest limit: this limit and its price list are kept
+pub record LowestKept (R : RoundRule) (change : ℕ) (prices : List ℕ) (last limit : ℕ) (list : List ℕ) : Type 0 where
+  pub look : ℕ
+  pub looked-at : look ≤ last
+  pub list-is : list ≡ pricesAt R change prices look
+  pub limit-is : limit ≡ R .limit list
+  pub lowest : (k : ℕ) → k ≤ last → limit ≤ R .limit (pricesAt R change prices k)
+  pub earliest : (k : ℕ) → k < look → limit < R .limit (pricesAt R change prices k)
+
+-- the choice S that is kept: the planned one, if no look's choice is worth more; else that of the first look whose choice is worth most
+pub data BestKept (R : RoundRule) (change : ℕ) (prices : List ℕ) (planned : List Bool) (last : ℕ) (S : List Bool) : Type 0 where
+  none-better : S ≡ planned → ((k : ℕ) → k ≤ last → R .worth (R .choice (pricesAt R change prices k)) ≤ R .worth planned) → BestKept R change prices planned last S
+  first-best : (look : ℕ) → look ≤ last → S ≡ R .choice (pricesAt R change prices look) → R .worth planned < R .worth S →
+      ((k : ℕ) → k ≤ last → R .worth (R .choice (pricesAt R change prices k)) ≤ R .worth S) → ((k : ℕ) → k < look → R .worth (R .choice (pricesAt R change prices k)) < R .worth S) →
+      BestKept R change prices planned last S

@@ -29,7 +29,8 @@ use Rattle.local_ratio.specs.Counting.{costsFrom}
 use Rattle.local_ratio.proofs.Signed.{left-small}
 use Rattle.local_ratio.proofs.Replaying.{stepsFrom, steps-from-start, steps-from-more, steps-from-none, ceiling-is}
 use Rattle.replay.specs.declared.replay.Judgement.{Judgement}
-use Rattle.check_spec.specs.Check.{stepCauses}
+use Rattle.check_spec.specs.Check.{afterRight, stepCauses}
+use Rattle.check_spec.proofs.Passing.{after-right}
 use Rattle.replay.specs.Judged.{faultAt, judged}
 use Rattle.replay.specs.Moves.{movesIn}
 use Rattle.replay.proofs.Faults.{fault-judged, none-judged}
@@ -158,8 +159,8 @@ module _ (p : Size) (cols : List ℕ) (xs : List Step) {s : List ℤ} {r : Bool}
   fault-step f g = fault-judged (ceiling (turnsBy p cols) xs) (wrong-first f) (λ z. omega arith) g
 
   module _ {s′ : List ℤ} {o : Bool} (t : r ≡ true) (a : r ≡ true → s′ ≡ afterSteps (turnsBy p cols) s xs) (l : length s′ ≡ p .count) (g : o ≡ closedBelow s′ (length s′)) where
-    closed : noneOpen (turnsBy p cols) (afterSteps (turnsBy p cols) (initial (turnsBy p cols)) xs) ≡ o
-    closed = rw (← i, ← a t) (none-is p cols s′ ∙ sym (rw l at g))
+    closed : noneOpen (turnsBy p cols) (afterRight (turnsBy p cols) (initial (turnsBy p cols)) xs) ≡ o
+    closed = rw (after-right (turnsBy p cols) (initial (turnsBy p cols)) xs (shown ∙ t), ← i, ← a t) (none-is p cols s′ ∙ sym (rw l at g))
 
     open-first : o ≡ false → turnLeftOpen ≡ firstOf (stepCauses (turnsBy p cols) xs)
     unfolding stepCauses firstOf
@@ -194,11 +195,12 @@ module _ {p : Size} {cols order own places : List ℕ} (h : PutByEnd p cols orde
   unfolding movesIn
   right-same = all-right-same (list-places h o) (put-relabelled h) xs (first-alike (list-places h o) (put-worths h))
 
-  closed-same : allRight T (initial T) xs ≡ true → noneOpen U (afterSteps U (initial U) (movesIn places m bytes)) ≡ noneOpen T (afterSteps T (initial T) xs)
+  closed-same : allRight T (initial T) xs ≡ true → noneOpen U (afterRight U (initial U) (movesIn places m bytes)) ≡ noneOpen T (afterRight T (initial T) xs)
   unfolding movesIn
   closed-same e =
-      none-open-same (list-places h o) (put-relabelled h)
-      (after-all-same (list-places h o) (put-relabelled h) xs (first-alike (list-places h o) (put-worths h)) e)
+      rw (after-right U (initial U) (movesIn places m bytes) (right-same ∙ e), after-right T (initial T) xs e)
+      (none-open-same (list-places h o) (put-relabelled h)
+      (after-all-same (list-places h o) (put-relabelled h) xs (first-alike (list-places h o) (put-worths h)) e))
 
   ceiling-same : allRight T (initial T) xs ≡ true → ceiling U (movesIn places m bytes) ≡ ceiling T xs
   unfolding movesIn ceiling
@@ -209,8 +211,8 @@ module _ {p : Size} {cols order own places : List ℕ} (h : PutByEnd p cols orde
   by-number = rw right-same (go (allRight T (initial T) xs) refl)
     where
       go : (b : Bool) → allRight T (initial T) xs ≡ b
-          → judged (firstOf (wrongStep when not b ∷ turnLeftOpen when not (noneOpen U (afterSteps U (initial U) (movesIn places m bytes))) ∷ [])) (ceiling U (movesIn places m bytes))
-          ≡ judged (firstOf (wrongStep when not b ∷ turnLeftOpen when not (noneOpen T (afterSteps T (initial T) xs)) ∷ [])) (ceiling T xs)
+          → judged (firstOf (wrongStep when not b ∷ turnLeftOpen when not (noneOpen U (afterRight U (initial U) (movesIn places m bytes))) ∷ [])) (ceiling U (movesIn places m bytes))
+          ≡ judged (firstOf (wrongStep when not b ∷ turnLeftOpen when not (noneOpen T (afterRight T (initial T) xs)) ∷ [])) (ceiling T xs)
       go true e = rw (closed-same e, ceiling-same e)
       go false e = refl
 
