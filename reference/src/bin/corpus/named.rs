@@ -24,6 +24,7 @@ pub fn add(corpus: &mut Corpus) {
     drawn_sheets(corpus);
     kept_forms(corpus);
     charging_halls(corpus);
+    maps_at_their_size(corpus);
 }
 
 /// The lines of a table: the refusal that is due, 0 if none, a name, and lists of
@@ -384,14 +385,26 @@ fn one_turn_a_slope(corpus: &mut Corpus) {
         let sheet = sheet_of(2, 9, &turns(rows));
         corpus.add_due(number, BEST, name, alone(&sheet, [0, 2]));
     }
-    for turns in [8, 9] {
-        let rows: Vec<Row> = (1..=turns).map(apart).collect();
-        let (sheet, name) = (sheet_of(1, 9, &rows), format!("{turns} turns"));
-        corpus.add_exact(0, BEST, &name, alone(&sheet, [0, rows.len().div_ceil(8)]));
+}
+
+/// A map has a byte for eight turns or windows, and two bytes for nine.
+fn maps_at_their_size(corpus: &mut Corpus) {
+    for (count, map) in [(8, 1), (9, 2)] {
+        let rows: Vec<Row> = (1..=count).map(apart).collect();
+        let (sheet, hall) = (sheet_of(1, 9, &rows), hall_of(1, rows));
+        let (lent, name) = ([0, map], format!("{count} of them"));
+        let searched = Input {
+            lent,
+            front: &asked(99, [0; 3]),
+            rest: &sheet,
+        };
+        corpus.add_exact(0, BEST, &name, alone(&sheet, lent));
+        corpus.add_exact(0, IMPROVE, &name, searched);
+        corpus.add_exact(0, CHARGE, &name, alone(&hall, lent));
     }
 }
 
-/// Turns of one groomer, or of one vehicle and draw each, that do not conflict.
+/// Turns of one groomer, or of a vehicle each, that do not conflict.
 fn apart(number: u16) -> Row {
     [number, 1, 90 * number, 60, 10, 0]
 }
@@ -404,7 +417,7 @@ fn better_with_patience(corpus: &mut Corpus) {
             front: &asked(visits, [0; 3]),
             rest: sheet,
         };
-        corpus.add_exact(number, IMPROVE, name, input);
+        corpus.add_due(number, IMPROVE, name, input);
     };
     for visits in [0, 1, 11, 12, 13, u64::MAX] {
         improve(0, &format!("the shift, {visits} visits"), &SHEET, visits, 1);
@@ -495,16 +508,11 @@ fn hall_of(units: u8, windows: Vec<Row>) -> Vec<u8> {
 /// These halls, and sheets that are none.
 fn charging_halls(corpus: &mut Corpus) {
     let mut charge = |number, name: &str, sheet: &[u8], room| {
-        corpus.add_exact(number, CHARGE, name, alone(sheet, [0, room]));
+        corpus.add_due(number, CHARGE, name, alone(sheet, [0, room]));
     };
     for (number, name, mut rows) in table(HALLS) {
         let units = rows.remove(0)[0] as u8;
         charge(number, name, &hall_of(units, turns(rows)), 1);
-    }
-    for windows in [8, 9] {
-        let rows: Vec<Row> = (1..=windows).map(apart).collect();
-        let room = rows.len().div_ceil(8);
-        charge(0, &format!("{windows} windows"), &hall_of(1, rows), room);
     }
     charge(0, "no windows", b"GRE\x01\x01\0\0", 0);
     charge(2, "a sheet", &SHEET, 1);

@@ -110,7 +110,7 @@ fn parts(entry: Entry, given: &Given) -> [Vec<u8>; 2] {
 }
 
 /// Adds a case for every two neighbours of the entry's order. Each cause alone
-/// gives its own number.
+/// gives its own number, so that nothing else is wrong with the input.
 fn add_order(corpus: &mut Corpus, entry: Entry, good: &Given, order: &[Cause]) {
     let run = |corpus: &mut Corpus, causes: &[&Cause], name: &str| {
         let mut given = good.clone();
@@ -191,7 +191,7 @@ fn too_many() -> Cause {
     cause(4, "401 turns", Put(5, &[1, 0x91]))
 }
 
-/// A wrong value of each field; every start can be right.
+/// A wrong value of each field. No start is wrong by itself.
 const WRONG: [(u8, &str, &[u8]); 6] = [
     (6, "slope 0", &[0]),
     (7, "groomer 0", &[0]),
@@ -338,25 +338,17 @@ pub fn add(corpus: &mut Corpus) {
     };
     let by_short = by_bytes(cause(20, "97 turns", Put(5, &[0, 97])), 10, &[0x7F]);
     let slope_twice = cause(21, "a slope twice", Put(18, &[1]));
+    let for_best = then(by_sheet(), [slope_twice, too_small()]);
     let many = change(22, "65 turns", many_turns);
+    let for_search = then(by_sheet(), [many, too_small()]);
     add(READ, &sheet, [18, 0], then(by_sheet(), [too_small()]));
     add(SHORT, &sheet, [18, 0], then(by_short, [too_small()]));
     add(ASSIGN, &sheet, [3, 0], then(by_sheet(), [too_small()]));
     add(PLAN, &sheet, [0, 28], then(by_sheet(), [too_small()]));
     add(LIST, &sheet, [0, 99], then(by_sheet(), [too_small()]));
     add(KEEP, &sheet, [0, 37], then(by_sheet(), [too_small()]));
-    add(
-        BEST,
-        &sheet,
-        [0, 1],
-        then(by_sheet(), [slope_twice, too_small()]),
-    );
-    add(
-        IMPROVE,
-        &sheet,
-        [0, 9],
-        then(by_sheet(), [many, too_small()]),
-    );
+    add(BEST, &sheet, [0, 1], for_best);
+    add(IMPROVE, &sheet, [0, 9], for_search);
     add(CHECK, &sheet, [0, 0], by_board());
     add(WRITE, &[], [0, 37], then(by_table(), [too_small()]));
     add(DRAW, &[], [0, 37], then(by_seed(), [too_small()]));
@@ -367,10 +359,8 @@ pub fn add(corpus: &mut Corpus) {
 /// Adds the order of playing.
 pub fn add_play(corpus: &mut Corpus) {
     let [sheet, _] = sheet_and_kept();
-    let order = then(
-        by_board(),
-        [cause(24, "delay 121", Set(0, 121)), too_small()],
-    );
+    let delay = cause(24, "delay 121", Set(0, 121));
+    let order = then(by_board(), [delay, too_small()]);
     add_order(corpus, PLAY, &good(sheet, vec![0; 3], [8, 0]), &order);
 }
 
@@ -382,20 +372,9 @@ pub fn add_prices(corpus: &mut Corpus) {
         let good = good(bytes.to_vec(), vec![0; prices], lent);
         add_order(corpus, entry, &good, &order);
     };
+    let [for_limit, for_refine] = [no_prices(), too_small()].map(|last| then(by_hall(), [last]));
     add(LIMIT, &sheet, 6, [0, 0], then(by_sheet(), [no_prices()]));
     add(REFINE, &sheet, 0, [6, 28], then(by_sheet(), [too_small()]));
-    add(
-        CHARGE_LIMIT,
-        &hall(),
-        0,
-        [0, 0],
-        then(by_hall(), [no_prices()]),
-    );
-    add(
-        CHARGE_REFINE,
-        &hall(),
-        0,
-        [0, 0],
-        then(by_hall(), [too_small()]),
-    );
+    add(CHARGE_LIMIT, &hall(), 0, [0, 0], for_limit);
+    add(CHARGE_REFINE, &hall(), 0, [0, 0], for_refine);
 }
