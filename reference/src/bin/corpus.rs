@@ -1,7 +1,7 @@
 //! Writes the files `stdin` and `stdout` into a folder: cases for a test program
 //! without a heap, and the lines that it must print, as the naive version has
-//! them. The cases are those that the description names; the program `compare`
-//! has all others.
+//! them. The cases are those that the description names, and those with two
+//! causes of refusal at once; the program `compare` has all others.
 //!
 //! ```text
 //! cargo run --release -p slopeboard-reference --bin corpus -- crates/corpus

@@ -25,7 +25,7 @@ impl<'a> Cases<'a> {
         Some(front)
     }
 
-    /// A number of so many bytes.
+    /// A number of this many bytes.
     fn number(&mut self, bytes: usize) -> Option<usize> {
         let digits = self.bytes(bytes)?.iter();
         Some(digits.fold(0, |number, &byte| 256 * number + usize::from(byte)))
@@ -48,30 +48,24 @@ fn run(cases: &mut Cases) -> Option<String> {
     let (mut lent, mut out) = (vec![BEFORE; numbers?], vec![0xA5; bytes?]);
     // what is asked begins with a number of eight bytes: the most rounds
     let rounds = || Cases(front).number(8).map(|rounds| rounds as u32);
-    let (count, answer) = match entry {
-        16 => (1, play(front, Cases(rest), &mut lent)?),
-        18 => (
-            1,
-            slopeboard::limit(front, &Cases(rest).numbers()).map(|limit| vec![limit]),
-        ),
-        19 => (
-            4,
-            slopeboard::refine(rest, rounds()?, &mut out, &mut lent)
-                .map(|found| vec![found.bytes as u32, found.worth, found.limit, found.rounds]),
-        ),
-        20 => (
-            1,
-            slopeboard::charge_limit(front, &Cases(rest).numbers()).map(|limit| vec![limit]),
-        ),
-        21 => (
-            3,
-            slopeboard::charge_refine(rest, rounds()?, &mut out, &mut lent)
-                .map(|found| vec![found.worth, found.limit, found.rounds]),
-        ),
+    let prices = || Cases(rest).numbers();
+    let answer = match entry {
+        16 => play(front, Cases(rest), &mut lent)?,
+        18 => slopeboard::limit(front, &prices()).map(|limit| vec![limit]),
+        19 => slopeboard::refine(rest, rounds()?, &mut out, &mut lent)
+            .map(|found| vec![found.bytes as u32, found.worth, found.limit, found.rounds]),
+        20 => slopeboard::charge_limit(front, &prices()).map(|limit| vec![limit]),
+        21 => slopeboard::charge_refine(rest, rounds()?, &mut out, &mut lent)
+            .map(|found| vec![found.worth, found.limit, found.rounds]),
         _ => return None,
     };
+    let values = match entry {
+        19 => 4,
+        21 => 3,
+        _ => 1,
+    };
     let refusal = answer.as_ref().err().map_or(0, |refusal| refusal.number());
-    let values = words(&answer.unwrap_or_else(|_| vec![0; count]));
+    let values = words(&answer.unwrap_or_else(|_| vec![0; values]));
     let bytes: String = out.iter().map(|byte| format!(" {byte:02x}")).collect();
     let name = String::from_utf8_lossy(name);
     Some(format!(

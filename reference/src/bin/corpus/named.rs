@@ -48,9 +48,11 @@ fn turns(lists: Vec<Vec<u16>>) -> Vec<Row> {
     lists.into_iter().map(row).collect()
 }
 
-/// The entries that take a sheet alone, with what each is lent for it, numbers
-/// and bytes.
-const TAKERS: [(Entry, fn(&[u8]) -> [usize; 2]); 7] = [
+/// An entry that takes a sheet alone, with what it is lent for it, numbers and
+/// bytes.
+type Taker = (Entry, fn(&[u8]) -> [usize; 2]);
+
+const TAKERS: [Taker; 7] = [
     (READ, |sheet| [6 * turns_of(sheet), 0]),
     (SHORT, |sheet| [6 * turns_of(sheet), 0]),
     (ASSIGN, |sheet| [turns_of(sheet), 0]),
@@ -115,7 +117,7 @@ impl Corpus {
     }
 }
 
-/// Sheets just past a bound. Those with two causes at once are in `orders`.
+/// Sheets with one value past its bound. Those with two causes are in `orders`.
 fn sheets_refused(corpus: &mut Corpus) {
     let row = |turn: Row| sheet_of(2, 3, &[turn]);
     let late = |turn: Row| sheet_of(2, 3, &[[2, 2, 900, 60, 100, 0], turn]);
@@ -275,7 +277,8 @@ fn steps_by_end(corpus: &mut Corpus) {
     check(0, "steps of two drivers", 2, [7, 8]);
 }
 
-/// Tables in any order, by each two neighbouring fields, and just past a bound.
+/// Tables in any order, by each two neighbouring fields, and with a value past its
+/// bound.
 fn tables_written(corpus: &mut Corpus) {
     let mut write = |number, name: &str, [groomers, slopes]: [u32; 2], table: &[u16], room| {
         let input = Input {
@@ -478,7 +481,7 @@ fn kept_forms(corpus: &mut Corpus) {
 }
 
 /// Units and windows of each hall: both kinds, parts that are rounded up, equal
-/// plans, touching windows, and each cause that a window has.
+/// plans, touching windows, and values past their bounds.
 const HALLS: &str = "
 0 both kinds: 10, 1 5 0 60 100 0, 2 4 30 60 90 0, 1 3 100 20 50 0, 3 6 0 30 70 0, 4 10 20 30 80 0
 0 a part that is whole: 3, 1 1 0 10 9 0, 2 1 5 10 7 0
