@@ -29,7 +29,7 @@ pub fn add(corpus: &mut Corpus) {
 
 /// The lines of a table: the refusal that is due, 0 if none, a name, and lists of
 /// numbers with commas between them.
-fn table(text: &str) -> impl Iterator<Item = (u8, &str, Vec<Vec<u16>>)> {
+pub fn table(text: &str) -> impl Iterator<Item = (u8, &str, Vec<Vec<u16>>)> {
     let number = |word: &str| word.parse().expect("a number");
     text.lines()
         .filter(|line| !line.is_empty())

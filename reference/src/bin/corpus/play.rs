@@ -6,6 +6,7 @@ use slopeboard_reference::shapes;
 use slopeboard_reference::worked::{sheet_of, BOARD, SHEET};
 
 use crate::entries::{board_and_delays, PLAY};
+use crate::named::table;
 use crate::{Corpus, Input};
 
 /// Adds all cases of this entry.
@@ -64,56 +65,30 @@ fn refused_cases(corpus: &mut Corpus) {
     case(corpus, "no turns, a delay", [sheet, &none], &[0], 16);
 }
 
-/// One groomer: turns that hold up the next, and the end of the day.
+/// One groomer's turns, each by start, end and delay: some hold up the next, some
+/// last to the end of the day.
+const TIMES: &str = "
+0 held up by a delay of 120: 100 200 120, 210 300 7
+0 a delay of 40 holds nothing up: 100 200 40, 250 300 0
+0 a delay of 41 does: 100 200 41, 250 300 0
+0 worked past the last minute: 900 960 120
+0 one minute of driving over, no turn in hand: 900 959 0
+0 worked up to the last minute: 900 959 1
+0 nine minutes of driving over, no turn in hand: 900 951 0
+0 worked in all minutes: 0 960 120
+0 the next one from minute 959: 0 830 119, 840 850 0
+0 the next one from minute 960: 0 830 120, 840 850 0
+0 three not in order: 850 950 30, 100 200 0, 700 800 70
+0 two not in order: 500 600 0, 100 200 0
+";
+
 fn time_cases(corpus: &mut Corpus) {
-    type Timed<'a> = (&'a str, &'a [(u16, u16)], &'a [u16]);
-    let cases: [Timed; 12] = [
-        (
-            "held up by a delay of 120",
-            &[(100, 200), (210, 300)],
-            &[120, 7],
-        ),
-        (
-            "a delay of 40 holds nothing up",
-            &[(100, 200), (250, 300)],
-            &[40, 0],
-        ),
-        ("a delay of 41 does", &[(100, 200), (250, 300)], &[41, 0]),
-        ("worked past the last minute", &[(900, 960)], &[120]),
-        (
-            "one minute of driving over, no turn in hand",
-            &[(900, 959)],
-            &[0],
-        ),
-        ("worked up to the last minute", &[(900, 959)], &[1]),
-        (
-            "nine minutes of driving over, no turn in hand",
-            &[(900, 951)],
-            &[0],
-        ),
-        ("worked in all minutes", &[(0, 960)], &[120]),
-        (
-            "the next one from minute 959",
-            &[(0, 830), (840, 850)],
-            &[119, 0],
-        ),
-        (
-            "the next one from minute 960",
-            &[(0, 830), (840, 850)],
-            &[120, 0],
-        ),
-        (
-            "three not in order",
-            &[(850, 950), (100, 200), (700, 800)],
-            &[30, 0, 70],
-        ),
-        ("two not in order", &[(500, 600), (100, 200)], &[0, 0]),
-    ];
-    for (name, times, delays) in cases {
-        let turn = |(&(start, end), slope)| [slope, 1, start, end - start, 9, 0];
+    for (_, name, times) in table(TIMES) {
+        let turn = |(time, slope): (&Vec<u16>, u16)| [slope, 1, time[0], time[1] - time[0], 9, 0];
         let turns: Vec<Row> = times.iter().zip(1..).map(turn).collect();
+        let delays: Vec<u16> = times.iter().map(|time| time[2]).collect();
         let sheet = sheet_of(1, 9, &turns);
-        case(corpus, name, [&sheet, &planned(&sheet)], delays, 2);
+        case(corpus, name, [&sheet, &planned(&sheet)], &delays, 2);
     }
 }
 
