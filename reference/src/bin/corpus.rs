@@ -1,11 +1,12 @@
 //! Writes the files `stdin` and `stdout` into a folder: cases for a test program
 //! without a heap, and the lines that it must print, as the naive version has
-//! them. The cases are those that the description names; the program `compare`
-//! has all others.
+//! them. The cases are those that the description names, and those with two
+//! causes of refusal at once; the program `compare` has all others.
 //!
 //! ```text
 //! cargo run --release -p slopeboard-reference --bin corpus -- crates/corpus
 //! cargo run --release -p slopeboard-reference --bin corpus -- tests/play play
+//! cargo run --release -p slopeboard-reference --bin corpus -- tests/prices prices
 //! ```
 //!
 //! A case is ten bytes, a name and an input of two parts. Byte 0 is the entry's
@@ -23,10 +24,12 @@
 //! | 15 restore | the kept form | |
 //! | 16 play | the sheet | the length of the board, two bytes, the board, the delays, two bytes each |
 //! | 17 charge | the charging sheet | |
+//! | 18 limit, 20 charge_limit | the sheet | the prices, two bytes each |
+//! | 19 refine, 21 charge_refine | what is asked | the sheet |
 //!
-//! What is asked is a number of eight bytes, the seed or the most visits, and
-//! three of four bytes, groomers, slopes and turns; an entry that wants fewer
-//! leaves the others alone.
+//! What is asked is a number of eight bytes, the seed, the most visits or the most
+//! rounds, and three of four bytes, groomers, slopes and turns; an entry that wants
+//! fewer leaves the others alone.
 //!
 //! Before the call each lent number is A5A5 and each lent byte A5. A line has the
 //! name, the refusal, the values returned (0 on a refusal), and behind bars the
@@ -39,14 +42,16 @@ use std::path::Path;
 use std::process::ExitCode;
 use std::{env, fs, io};
 
+#[path = "corpus/entries.rs"]
+mod entries;
 #[path = "corpus/named.rs"]
 mod named;
+#[path = "corpus/orders.rs"]
+mod orders;
 #[path = "corpus/play.rs"]
 mod play;
 
-/// An entry: its number in a case, its name, and how many values it returns.
-#[derive(Clone, Copy, PartialEq, Eq)]
-pub struct Entry(u8, &'static str, usize);
+use entries::Entry;
 
 /// What a case hands to its entry.
 #[derive(Clone, Copy, Default)]
@@ -65,17 +70,10 @@ pub struct Corpus {
 }
 
 impl Corpus {
-    /// Adds a case and gives its refusal. The call takes the lent places and gives
-    /// the values, or a refusal.
-    pub fn add(
-        &mut self,
-        entry: Entry,
-        name: &str,
-        input: Input,
-        call: impl FnOnce(&mut [u16], &mut [u8]) -> Result<Vec<u64>, u8>,
-    ) -> u8 {
+    /// Adds a case and gives its refusal.
+    pub fn add(&mut self, entry: Entry, name: &str, input: Input) -> u8 {
         let (mut numbers, mut bytes) = (vec![0xA5A5; input.lent[0]], vec![0xA5; input.lent[1]]);
-        let result = call(&mut numbers, &mut bytes);
+        let result = entries::answer(entry, [input.front, input.rest], &mut numbers, &mut bytes);
         let refusal = result.as_ref().err().copied().unwrap_or(0);
         let values = words(result.unwrap_or_else(|_| vec![0; entry.2]));
         let line = format!(" {refusal}{values}{}", lent(&numbers, &bytes));
@@ -83,7 +81,28 @@ impl Corpus {
         refusal
     }
 
-    /// Adds a case with what its line has behind the name.
+    /// Adds a case whose refusal the description says, 0 if there is none.
+    pub fn add_due(&mut self, due: u8, entry: Entry, name: &str, input: Input) {
+        assert_eq!(self.add(entry, name, input), due, "{} {name}", entry.1);
+    }
+
+    /// Adds a case that is lent as much as it asks for. Where it is taken, the same
+    /// with a place less of either kind comes too, which is 11.
+    pub fn add_exact(&mut self, due: u8, entry: Entry, name: &str, input: Input) {
+        if due != 0 {
+            return self.add_due(due, entry, name, input);
+        }
+        self.add_due(0, entry, &format!("{name}, exact room"), input);
+        for (kind, place) in [(0, "number"), (1, "byte")] {
+            if input.lent[kind] > 0 {
+                let mut less = input;
+                less.lent[kind] -= 1;
+                self.add_due(11, entry, &format!("{name}, a {place} too few"), less);
+            }
+        }
+    }
+
+    /// Adds a case with what its line has after the name.
     pub fn push(&mut self, Entry(number, entry, _): Entry, name: &str, input: Input, line: &str) {
         let name = format!("{entry} {name}:");
         let len = u8::try_from(name.len()).expect("a name fits a byte");
@@ -130,10 +149,20 @@ fn main() -> ExitCode {
     let words: Vec<String> = env::args().skip(1).collect();
     let mut corpus = Corpus::default();
     match &words[..] {
-        [_] => named::add(&mut corpus),
-        [_, entry] if entry == "play" => play::add(&mut corpus),
+        [_] => {
+            named::add(&mut corpus);
+            orders::add(&mut corpus);
+        }
+        [_, part] if part == "play" => {
+            play::add(&mut corpus);
+            orders::add_play(&mut corpus);
+        }
+        [_, part] if part == "prices" => {
+            named::add_prices(&mut corpus);
+            orders::add_prices(&mut corpus);
+        }
         _ => {
-            eprintln!("usage: corpus FOLDER [play]");
+            eprintln!("usage: corpus FOLDER [play | prices]");
             return ExitCode::FAILURE;
         }
     }

@@ -1,13 +1,14 @@
 //! The cases that the description names, part by part. Where it says which
 //! refusal comes, that number stands here and the naive version is held to it.
 
-use slopeboard_reference::boards::planned;
+use slopeboard_reference::boards::{planned, Draft};
 use slopeboard_reference::gen::{self, Rng, Row};
 use slopeboard_reference::halls::{self, Hall};
 use slopeboard_reference::naive;
 use slopeboard_reference::worked::{board_with, sheet_of, with, BOARD, SHEET, TURNS};
 
-use crate::{hex, lent, words, Corpus, Entry, Input};
+use crate::entries::*;
+use crate::{hex, lent, words, Corpus, Input};
 
 /// Adds all cases.
 pub fn add(corpus: &mut Corpus) {
@@ -23,11 +24,12 @@ pub fn add(corpus: &mut Corpus) {
     drawn_sheets(corpus);
     kept_forms(corpus);
     charging_halls(corpus);
+    maps_at_their_size(corpus);
 }
 
 /// The lines of a table: the refusal that is due, 0 if none, a name, and lists of
 /// numbers with commas between them.
-fn table(text: &str) -> impl Iterator<Item = (u8, &str, Vec<Vec<u16>>)> {
+pub fn table(text: &str) -> impl Iterator<Item = (u8, &str, Vec<Vec<u16>>)> {
     let number = |word: &str| word.parse().expect("a number");
     text.lines()
         .filter(|line| !line.is_empty())
@@ -46,113 +48,60 @@ fn turns(lists: Vec<Vec<u16>>) -> Vec<Row> {
     lists.into_iter().map(row).collect()
 }
 
-/// An entry that takes a sheet alone: what it is lent for a sheet, numbers or
-/// bytes, and its call.
-struct Taker {
-    entry: Entry,
-    needs: fn(&[u8]) -> [usize; 2],
-    call: fn(&[u8], &mut [u16], &mut [u8]) -> Result<Vec<u64>, u8>,
-}
+/// An entry that takes a sheet alone, with what it is lent for it, numbers and
+/// bytes.
+type Taker = (Entry, fn(&[u8]) -> [usize; 2]);
+
+const TAKERS: [Taker; 7] = [
+    (READ, |sheet| [6 * turns_of(sheet), 0]),
+    (SHORT, |sheet| [6 * turns_of(sheet), 0]),
+    (ASSIGN, |sheet| [turns_of(sheet), 0]),
+    (PLAN, |sheet| {
+        [0, 15 + turns_of(sheet).div_ceil(8) + 4 * turns_of(sheet)]
+    }),
+    (LIST, |sheet| {
+        [0, naive::listing(sheet, &mut [0; 4096]).unwrap_or(64)]
+    }),
+    (BEST, |sheet| [0, turns_of(sheet).div_ceil(8)]),
+    (KEEP, |sheet| [0, sheet.len()]),
+];
 
 fn turns_of(sheet: &[u8]) -> usize {
     gen::turns_claimed(sheet)
 }
 
-fn counts(counts: naive::Counts) -> Vec<u64> {
-    let naive::Counts {
-        groomers,
-        slopes,
-        turns,
-    } = counts;
-    [groomers, slopes, turns].map(|count| count as u64).to_vec()
+/// An input of one part.
+fn alone(front: &[u8], lent: [usize; 2]) -> Input<'_> {
+    Input {
+        lent,
+        front,
+        rest: &[],
+    }
 }
 
-const READ: Taker = Taker {
-    entry: Entry(1, "read", 3),
-    needs: |sheet| [6 * turns_of(sheet), 0],
-    call: |sheet, table, _| naive::read(sheet, table).map(counts),
-};
-
-const SHORT: Taker = Taker {
-    entry: Entry(10, "short", 3),
-    needs: |sheet| [6 * turns_of(sheet), 0],
-    call: |sheet, table, _| naive::read_short(sheet, table).map(counts),
-};
-
-const ASSIGN: Taker = Taker {
-    entry: Entry(9, "assign", 1),
-    needs: |sheet| [turns_of(sheet), 0],
-    call: |sheet, places, _| naive::assign(sheet, places).map(|used| vec![used.into()]),
-};
-
-const PLAN: Taker = Taker {
-    entry: Entry(3, "plan", 1),
-    needs: |sheet| [0, 15 + turns_of(sheet).div_ceil(8) + 4 * turns_of(sheet)],
-    call: |sheet, _, board| naive::plan(sheet, board).map(|len| vec![len as u64]),
-};
-
-const LIST: Taker = Taker {
-    entry: Entry(6, "list", 1),
-    needs: |sheet| [0, naive::listing(sheet, &mut [0; 4096]).unwrap_or(64)],
-    call: |sheet, _, text| naive::listing(sheet, text).map(|len| vec![len as u64]),
-};
-
-const BEST: Taker = Taker {
-    entry: Entry(11, "best", 1),
-    needs: |sheet| [0, turns_of(sheet).div_ceil(8)],
-    call: |sheet, _, map| naive::best(sheet, map).map(|worth| vec![worth.into()]),
-};
-
-const KEEP: Taker = Taker {
-    entry: Entry(14, "keep", 1),
-    needs: |sheet| [0, sheet.len()],
-    call: |sheet, _, kept| naive::keep(sheet, kept).map(|len| vec![len as u64]),
-};
-
-const TAKERS: [&Taker; 7] = [&READ, &SHORT, &ASSIGN, &PLAN, &LIST, &BEST, &KEEP];
-
 impl Corpus {
-    /// The sheet with so many places lent; gives the refusal.
-    fn take(&mut self, taker: &Taker, name: &str, sheet: &[u8], lent: [usize; 2]) -> u8 {
-        let input = Input {
-            lent,
-            front: sheet,
-            rest: &[],
-        };
-        let call = |numbers: &mut [u16], bytes: &mut [u8]| (taker.call)(sheet, numbers, bytes);
-        self.add(taker.entry, name, input, call)
-    }
-
     /// A sheet that every entry refuses with this number, whatever is lent.
     fn refused(&mut self, number: u8, name: &str, sheet: &[u8]) {
-        for taker in TAKERS {
-            let few = (taker.needs)(sheet).map(|places| places.min(9));
-            let found = self.take(taker, name, sheet, few);
-            let for_short = taker.entry == SHORT.entry && turns_of(sheet) > 96;
+        for (entry, needs) in TAKERS {
+            let few = needs(sheet).map(|places| places.min(9));
+            let for_short = entry == SHORT && turns_of(sheet) > 96;
             let due = match number {
                 1 | 4 if for_short => 20,
                 _ => number,
             };
-            assert_eq!(found, due, "{name}");
+            self.add_due(due, entry, name, alone(sheet, few));
         }
     }
 
-    /// A sheet that every entry takes, with all that it needs to be lent and, if it
-    /// has few turns, with a place less. Two entries take fewer sheets than others.
+    /// A sheet that every entry takes. Two entries take fewer sheets than others.
     fn accepted(&mut self, name: &str, sheet: &[u8]) {
-        for taker in TAKERS {
-            let lent = (taker.needs)(sheet);
-            let found = self.take(taker, name, sheet, lent);
-            let due = match found {
-                20 => taker.entry == SHORT.entry,
-                21 => taker.entry == BEST.entry,
-                _ => found == 0,
-            };
-            assert!(due, "{name}");
-            if found == 0 && lent != [0, 0] && turns_of(sheet) < 9 {
-                let less = lent.map(|places| places.saturating_sub(1));
-                let found = self.take(taker, &format!("{name}, a place too few"), sheet, less);
-                assert_eq!(found, 11, "{name}");
+        for (entry, needs) in TAKERS {
+            let input = alone(sheet, needs(sheet));
+            match answer(entry, [sheet, &[]], &mut [0; 2400], &mut [0; 4096]) {
+                Err(20) if entry == SHORT => self.add_due(20, entry, name, input),
+                Err(21) if entry == BEST => self.add_due(21, entry, name, input),
+                _ if turns_of(sheet) > 9 => self.add_due(0, entry, name, input),
+                _ => self.add_exact(0, entry, name, input),
             }
         }
     }
@@ -164,37 +113,16 @@ impl Corpus {
             rest: board,
             ..Input::default()
         };
-        let found = self.add(Entry(5, "check", 3), name, input, |_, _| {
-            let sums = naive::check(sheet, board)?;
-            Ok(vec![
-                sums.tally.into(),
-                sums.worth.into(),
-                sums.ceiling.into(),
-            ])
-        });
-        assert_eq!(found, number, "{name}");
+        self.add_due(number, CHECK, name, input);
     }
 }
 
-/// A sheet for each cause, and for several at once: the first in the order counts.
+/// Sheets with one value past its bound. Those with two causes are in `orders`.
 fn sheets_refused(corpus: &mut Corpus) {
     let row = |turn: Row| sheet_of(2, 3, &[turn]);
     let late = |turn: Row| sheet_of(2, 3, &[[2, 2, 900, 60, 100, 0], turn]);
     corpus.refused(1, "no bytes", b"");
-    corpus.refused(1, "six bytes", b"GRB\0\x03\x01");
     corpus.refused(1, "400 turns and no record", b"GRM\x02\x03\x01\x90");
-    corpus.refused(1, "a record cut short", &SHEET[..38]);
-    corpus.refused(
-        1,
-        "a wrong slope in a record cut short",
-        &with(&SHEET[..38], 32, &[9]),
-    );
-    corpus.refused(
-        2,
-        "another mark, no groomers, 401 turns",
-        b"GRB\0\x03\x01\x91",
-    );
-    corpus.refused(3, "no groomers, 401 turns", b"GRM\0\x03\x01\x91");
     corpus.refused(3, "17 groomers", b"GRM\x11\x78\0\0");
     corpus.refused(3, "no slopes", b"GRM\x10\0\0\0");
     corpus.refused(3, "121 slopes", b"GRM\x10\x79\0\0");
@@ -202,25 +130,16 @@ fn sheets_refused(corpus: &mut Corpus) {
     corpus.refused(5, "a first map without worth", &with(&SHEET, 7, &[0x0F]));
     corpus.refused(5, "bit 6 in the first map", &with(&SHEET, 7, &[0x5F]));
     corpus.refused(5, "bit 7 in a later map", &with(&SHEET, 16, &[0x95]));
-    corpus.refused(6, "slope 0 and groomer 0", &row([0, 0, 900, 61, 0, 41]));
     corpus.refused(6, "slope 4 of 3", &late([4, 1, 0, 1, 1, 0]));
-    corpus.refused(7, "groomer 0 and length 0", &row([3, 0, 900, 0, 0, 41]));
     corpus.refused(7, "groomer 3 of 2", &late([3, 3, 0, 1, 1, 0]));
-    corpus.refused(8, "length 0 and worth 0", &row([3, 2, 960, 0, 0, 41]));
     corpus.refused(8, "start 900, length 61", &row([1, 1, 900, 61, 100, 0]));
     corpus.refused(
         8,
         "start 901, length 60 from before",
         &late([1, 1, 901, 60, 100, 0]),
     );
-    corpus.refused(9, "worth 0 and driver 41", &row([1, 1, 900, 60, 0, 41]));
     corpus.refused(9, "worth 60,001", &row([1, 1, 900, 60, 60_001, 0]));
     corpus.refused(19, "driver 41", &late([1, 1, 0, 60, 100, 41]));
-    corpus.refused(
-        10,
-        "a byte behind the last record",
-        &[&SHEET[..], &[0]].concat(),
-    );
     corpus.refused(10, "no turns and a byte", b"GRM\x02\x03\0\0\0");
 }
 
@@ -263,13 +182,14 @@ fn sheets_accepted(corpus: &mut Corpus) {
 fn boards_opened(corpus: &mut Corpus) {
     let none = b"GRB\0\0\0\0\0\0\0\0\0\0\0\0";
     let longer = [&BOARD[..], &[0]].concat();
+    let two_of_three = with(&with(&BOARD, 3, &[0, 2]), 15, &[0x02]);
     let boards: [(u8, &str, Vec<u8>); 9] = [
         (0, "the shift's board", BOARD.to_vec()),
         (0, "a board without turns", none.to_vec()),
         (0, "no step", with(&BOARD[..16], 6, &[0])),
         (0, "all chosen", with(&BOARD, 15, &[0x0F])),
         (12, "another mark", with(&BOARD, 2, b"M")),
-        (12, "more steps than turns", with(&BOARD, 3, &[0, 2])),
+        (12, "two turns and three steps", two_of_three),
         (12, "a byte less", BOARD[..27].to_vec()),
         (12, "a byte more", longer),
         (12, "a bit past the last turn", with(&BOARD, 15, &[0x1A])),
@@ -289,12 +209,7 @@ fn boards_opened(corpus: &mut Corpus) {
             hex(naive::steps(&board)),
             lent(&numbers, &[])
         );
-        let input = Input {
-            lent: [6, 0],
-            front: &board,
-            rest: &[],
-        };
-        corpus.push(Entry(4, "open", 0), name, input, &line);
+        corpus.push(OPEN, name, alone(&board, [6, 0]), &line);
     }
 }
 
@@ -328,6 +243,7 @@ fn boards_checked(corpus: &mut Corpus) {
         let board = board_with(map as u8, [tally.into(), worth.into()], &steps);
         corpus.check(number, name, &SHEET, &board);
     }
+    steps_by_end(corpus);
     let none = b"GRB\0\0\0\0\0\0\0\0\0\0\0\0";
     corpus.check(12, "a board of no turns", &SHEET, none);
     let past_last = with(&BOARD, 15, &[0x1A]);
@@ -350,57 +266,67 @@ fn boards_checked(corpus: &mut Corpus) {
     corpus.check(13, "one driver twice at one time", &driven, &both);
     corpus.check(0, "no turns", b"GRM\x02\x03\0\0", none);
     corpus.check(1, "no bytes", b"", b"");
-    let longer = [&SHEET[..], &[0]].concat();
-    corpus.check(10, "a sheet with a byte more", &longer, &BOARD[..27]);
 }
 
-/// What an entry is asked: a number of eight bytes, three of four.
-fn asked(long: u64, counts: [u32; 3]) -> Vec<u8> {
-    let counts = counts.map(u32::to_be_bytes).concat();
-    [&long.to_be_bytes()[..], &counts].concat()
+/// Two turns that do not conflict: minutes 0 to 60, and 100 to 160. The steps of
+/// one groomer, or of one driver, go by their ends all the same.
+fn steps_by_end(corpus: &mut Corpus) {
+    let mut check = |number, name: &str, groomer, drivers: [u16; 2]| {
+        let turns = [
+            [1, 1, 0, 60, 100, drivers[0]],
+            [2, groomer, 100, 60, 50, drivers[1]],
+        ];
+        for (number, name, steps) in [
+            (0, format!("{name}, by end"), vec![(0, 100), (1, 50)]),
+            (
+                number,
+                format!("{name}, from the last end"),
+                vec![(1, 50), (0, 100)],
+            ),
+        ] {
+            let board = Draft::new(&turns, vec![true; 2], steps);
+            corpus.check(number, &name, &sheet_of(2, 2, &turns), &board.bytes());
+        }
+    };
+    check(15, "a groomer's steps without a conflict", 1, [0, 0]);
+    check(15, "a driver's steps without a conflict", 2, [7, 7]);
+    check(0, "steps of two groomers", 2, [0, 0]);
+    check(0, "steps of two drivers", 2, [7, 8]);
 }
 
-/// Tables in any order, and each cause that the writer has.
+/// Tables in any order, by each two neighbouring fields, and with a value past its
+/// bound.
 fn tables_written(corpus: &mut Corpus) {
     let mut write = |number, name: &str, [groomers, slopes]: [u32; 2], table: &[u16], room| {
-        let rest: Vec<u8> = table
-            .iter()
-            .flat_map(|number| number.to_be_bytes())
-            .collect();
         let input = Input {
             lent: [0, room],
             front: &asked(0, [groomers, slopes, 0]),
-            rest: &rest,
+            rest: &number_bytes(table),
         };
-        let found = corpus.add(Entry(2, "write", 1), name, input, |_, out| {
-            naive::write(groomers, slopes, table, out).map(|len| vec![len as u64])
-        });
-        assert_eq!(found, number, "{name}");
+        corpus.add_exact(number, WRITE, name, input);
     };
     let shift = TURNS.concat();
     let reverse: Vec<u16> = TURNS.into_iter().rev().flatten().collect();
     write(0, "the shift", [2, 3], &shift, 38);
-    write(0, "the shift's turns from the last", [2, 3], &reverse, 39);
-    write(11, "the shift, a byte too few", [2, 3], &shift, 37);
+    write(0, "the shift's turns from the last", [2, 3], &reverse, 38);
     write(0, "no turns", [16, 120], &[], 7);
-    write(
-        0,
-        "a driver and none",
-        [2, 3],
-        &[[1, 1, 0, 1, 1, 9], [1, 1, 0, 1, 1, 0]].concat(),
-        40,
-    );
-    write(0, "a first driver", [1, 1], &[1, 1, 0, 60, 100, 40], 18);
-    write(18, "part of a turn, no groomers", [0, 3], &shift[..23], 0);
+    let fields = ["slope", "groomer", "start", "length", "worth", "driver"];
+    for field in 0..5 {
+        let (mut first, mut second) = ([1; 6], [1; 6]);
+        (first[field + 1], second[field]) = (2, 2);
+        let name = format!("by {} before {}", fields[field], fields[field + 1]);
+        let room = 7 + 10 + 1 + [2, 3, 4, 4, 3][field];
+        write(0, &name, [2, 2], &[second, first].concat(), room);
+    }
+    let drivers = [[1, 1, 0, 1, 1, 9], [1, 1, 0, 1, 1, 0]].concat();
+    write(0, "a driver and none", [2, 3], &drivers, 18);
+    write(0, "a first driver", [1, 1], &[1, 1, 0, 60, 100, 40], 17);
     write(3, "256 groomers", [256, 3], &shift, 0);
-    write(3, "no slopes, 401 turns", [2, 0], &[1; 6 * 401], 0);
-    write(4, "401 turns, slope 0", [2, 3], &[0; 6 * 401], 0);
     for (number, name, turn) in [
         (6, "slope 256", [256, 1, 0, 1, 1, 0]),
-        (7, "groomer 0", [1, 0, 0, 0, 0, 0]),
-        (8, "end 961", [1, 1, 960, 1, 0, 0]),
+        (8, "end 961", [1, 1, 960, 1, 1, 0]),
         (8, "end past 65,536", [1, 1, 65_535, 2, 1, 0]),
-        (9, "worth 0", [1, 1, 0, 1, 0, 41]),
+        (9, "worth 60,001", [1, 1, 0, 1, 60_001, 0]),
         (19, "driver 41", [1, 1, 0, 1, 1, 41]),
     ] {
         write(number, name, [2, 3], &turn, 0);
@@ -442,7 +368,7 @@ const PLANS: &str = "
 fn plans(corpus: &mut Corpus) {
     for (number, name, rows) in table(PLANS) {
         let sheet = sheet_of(3, 4, &turns(rows));
-        corpus.take(&PLAN, name, &sheet, (PLAN.needs)(&sheet));
+        corpus.add_due(0, PLAN, name, alone(&sheet, [0, 40]));
         corpus.check(number, name, &sheet, &planned(&sheet));
     }
 }
@@ -461,10 +387,11 @@ fn groomers_for_all(corpus: &mut Corpus) {
     for (_, name, times) in table(TIMES) {
         let turn = |time: &Vec<u16>| [1, 1, time[0], time[1], 1, 0];
         let turns: Vec<Row> = times.iter().map(turn).collect();
-        corpus.take(&ASSIGN, name, &sheet_of(1, 1, &turns), [turns.len() + 1, 0]);
+        let sheet = sheet_of(1, 1, &turns);
+        corpus.add_due(0, ASSIGN, name, alone(&sheet, [turns.len() + 1, 0]));
     }
     let seventeen = sheet_of(1, 1, &[[1, 1, 0, 960, 1, 0]; 17]);
-    corpus.take(&ASSIGN, "17 at once", &seventeen, [17, 0]);
+    corpus.add_exact(0, ASSIGN, "17 at once", alone(&seventeen, [17, 0]));
 }
 
 /// One turn against two, equal worths, and what is no sheet with one turn a slope.
@@ -481,9 +408,31 @@ const SINGLE: &str = "
 
 fn one_turn_a_slope(corpus: &mut Corpus) {
     for (number, name, rows) in table(SINGLE) {
-        let found = corpus.take(&BEST, name, &sheet_of(2, 9, &turns(rows)), [0, 2]);
-        assert_eq!(found, number, "{name}");
+        let sheet = sheet_of(2, 9, &turns(rows));
+        corpus.add_due(number, BEST, name, alone(&sheet, [0, 2]));
     }
+}
+
+/// A map has a byte for eight turns or windows, and two bytes for nine.
+fn maps_at_their_size(corpus: &mut Corpus) {
+    for (count, map) in [(8, 1), (9, 2)] {
+        let rows: Vec<Row> = (1..=count).map(apart).collect();
+        let (sheet, hall) = (sheet_of(1, 9, &rows), hall_of(1, rows));
+        let (lent, name) = ([0, map], format!("{count} of them"));
+        let searched = Input {
+            lent,
+            front: &asked(99, [0; 3]),
+            rest: &sheet,
+        };
+        corpus.add_exact(0, BEST, &name, alone(&sheet, lent));
+        corpus.add_exact(0, IMPROVE, &name, searched);
+        corpus.add_exact(0, CHARGE, &name, alone(&hall, lent));
+    }
+}
+
+/// Turns of one groomer, or of a vehicle each, that do not conflict.
+fn apart(number: u16) -> Row {
+    [number, 1, 90 * number, 60, 10, 0]
 }
 
 /// The worked shift with every number of visits that matters; 64 turns and 65.
@@ -494,24 +443,11 @@ fn better_with_patience(corpus: &mut Corpus) {
             front: &asked(visits, [0; 3]),
             rest: sheet,
         };
-        let found = corpus.add(Entry(12, "improve", 4), name, input, |_, map| {
-            let found = naive::improve(sheet, visits, map)?;
-            let [worth, above] = [found.worth, found.above].map(u64::from);
-            Ok(vec![found.whole.into(), worth, above, found.visits])
-        });
-        assert_eq!(found, number, "{name}");
+        corpus.add_due(number, IMPROVE, name, input);
     };
     for visits in [0, 1, 11, 12, 13, u64::MAX] {
         improve(0, &format!("the shift, {visits} visits"), &SHEET, visits, 1);
     }
-    improve(11, "the shift, a byte too few", &SHEET, 9, 0);
-    improve(
-        10,
-        "the shift, a byte more",
-        &[&SHEET[..], &[0]].concat(),
-        9,
-        0,
-    );
     improve(0, "no turns", b"GRM\x02\x03\0\0", 0, 0);
     // the first turn's step closes the other two, which are worth more together
     let rows = [
@@ -553,137 +489,102 @@ fn better_with_patience(corpus: &mut Corpus) {
     };
     improve(0, "64 turns, a visit too few", &on_one_slope(64), 2079, 8);
     improve(0, "64 turns", &on_one_slope(64), 2080, 8);
-    improve(22, "65 turns", &on_one_slope(65), 0, 0);
+    improve(22, "65 turns", &on_one_slope(65), 0, 9);
 }
 
-/// Seeds and counts at their bounds; the seed comes first, then 3, 4 and 11.
+/// Seeds and counts at their bounds.
 fn drawn_sheets(corpus: &mut Corpus) {
     const MODULUS: u64 = 2_147_483_647;
     let mut draw = |number, name: &str, seed: u64, counts: [u32; 3], room: usize| {
-        let [groomers, slopes, turns] = counts;
-        let input = Input {
-            lent: [0, room],
-            front: &asked(seed, counts),
-            rest: &[],
-        };
-        let found = corpus.add(Entry(13, "draw", 1), name, input, |_, out| {
-            naive::draw(seed, groomers, slopes, turns, out).map(|len| vec![len as u64])
-        });
-        assert_eq!(found, number, "{name}");
+        let front = asked(seed, counts);
+        corpus.add_exact(number, DRAW, name, alone(&front, [0, room]));
     };
-    draw(0, "seed 1, 100 turns", 1, [16, 120, 100], 1007);
-    draw(0, "seed 2, two turns", 2, [2, 3, 2], 25);
-    draw(0, "the greatest seed", MODULUS - 1, [16, 120, 3], 64);
+    draw(0, "seed 1, 100 turns", 1, [16, 120, 100], 808);
+    draw(0, "the greatest seed", MODULUS - 1, [16, 120, 3], 32);
+    draw(0, "seed 2, two turns", 2, [2, 3, 2], 24);
     draw(0, "no turns", 7, [1, 1, 0], 7);
-    draw(11, "no turns, a byte too few", 7, [1, 1, 0], 6);
-    draw(23, "seed 0, no groomers", 0, [0, 120, 401], 0);
     draw(23, "seed 2,147,483,647", MODULUS, [16, 120, 3], 64);
     draw(23, "a seed past 32 bits", (1 << 32) + 1, [16, 120, 3], 64);
-    draw(3, "17 groomers, 401 turns", 7, [17, 120, 401], 0);
+    draw(3, "17 groomers", 7, [17, 120, 3], 64);
     draw(3, "257 slopes", 7, [16, 257, 3], 64);
     draw(4, "401 turns", 7, [16, 120, 401], 0);
     draw(4, "65,536 turns", 7, [16, 120, 65_536], 64);
 }
 
-/// The worked shift kept, and back; each cause that the kept form has.
+/// The worked shift kept, and back; a sheet under its own mark.
 fn kept_forms(corpus: &mut Corpus) {
     let mut kept = [0; 39];
     naive::keep(&SHEET, &mut kept).expect("the shift is accepted");
-    let mut restore = |number, name: &str, kept: &[u8], room| {
-        let input = Input {
-            lent: [0, room],
-            front: kept,
-            rest: &[],
-        };
-        let found = corpus.add(Entry(15, "restore", 1), name, input, |_, out| {
-            naive::restore(kept, out).map(|len| vec![len as u64])
-        });
-        assert_eq!(found, number, "{name}");
-    };
-    let wrong_map = with(&kept, 9, &[0x5F]);
-    let wrong_slope = with(&kept, 14, &[4]);
-    restore(0, "the shift", &kept, 39);
-    restore(11, "the shift, a byte too few", &kept, 38);
-    restore(0, "no turns", b"GRC\x01\x01\0\0", 7);
+    corpus.add_exact(0, RESTORE, "the shift", alone(&kept, [0, 39]));
+    corpus.add_exact(0, RESTORE, "no turns", alone(b"GRC\x01\x01\0\0", [0, 7]));
+    corpus.add_due(2, RESTORE, "a sheet", alone(&SHEET, [0, 39]));
     let drivers = b"GRC\x01\x02\0\x02\x3F\x21\x01\x02\x01\0\0\0\x3C\0\x64\x07\x08";
-    restore(0, "two drivers", drivers, 21);
-    restore(1, "six bytes", &kept[..6], 39);
-    restore(2, "a sheet", &SHEET, 39);
-    restore(3, "no groomers", &with(&kept, 3, &[0, 3, 1, 0x91]), 39);
-    restore(4, "401 turns", &with(&kept, 5, &[1, 0x91]), 39);
-    restore(1, "a map too few, one wrong", &wrong_map[..10], 39);
-    restore(5, "a wrong map, too short", &wrong_map[..38], 39);
-    restore(1, "too short, a wrong slope", &wrong_slope[..38], 39);
-    restore(
-        10,
-        "too long, a wrong slope",
-        &[&wrong_slope[..], &[0]].concat(),
-        40,
-    );
-    restore(6, "a wrong slope", &wrong_slope, 39);
-    restore(
+    corpus.add_exact(0, RESTORE, "two drivers", alone(drivers, [0, 20]));
+    let late_and_early = with(&with(&kept, 14, &[4]), 33, &[0, 0]);
+    corpus.add_due(
         9,
+        RESTORE,
         "an early worth before a late slope",
-        &with(&wrong_slope, 33, &[0, 0]),
-        39,
+        alone(&late_and_early, [0, 39]),
     );
 }
 
 /// Units and windows of each hall: both kinds, parts that are rounded up, equal
-/// plans, touching windows, and each cause that a window has.
+/// plans, touching windows, and values past their bounds.
 const HALLS: &str = "
 0 both kinds: 10, 1 5 0 60 100 0, 2 4 30 60 90 0, 1 3 100 20 50 0, 3 6 0 30 70 0, 4 10 20 30 80 0
 0 a part that is whole: 3, 1 1 0 10 9 0, 2 1 5 10 7 0
 0 a part rounded up: 3, 1 1 0 10 10 0, 2 1 5 10 7 0
-0 plans of one worth: 48, 1 48 0 60 50 0, 2 1 0 60 50 0
+0 plans of one worth, the small draws: 48, 1 48 0 60 50 0, 2 1 0 60 50 0
 0 the large draw worth more: 48, 1 48 0 60 51 0, 2 1 0 60 50 0
 0 large draws that touch: 48, 1 48 0 10 10 0, 2 48 10 10 9 0
 0 one end, the second worth more: 1, 1 1 0 1 1 0, 2 1 0 1 2 0, 2 1 1 1 2 0
 0 half the units is small: 48, 1 24 0 60 10 0, 2 25 0 60 9 0
 0 filled while the units last: 48, 1 24 0 60 10 0, 2 24 0 60 9 0, 3 24 0 60 8 0
 0 a vehicle's windows: 48, 1 1 0 10 10 0, 1 1 5 10 30 0, 1 1 500 10 15 0
-6 vehicle 61, no draw: 10, 61 0 900 61 0 0
-25 no draw: 10, 60 0 900 61 0 0
-25 a draw above the units: 10, 60 11 900 61 0 0
-8 end 961: 10, 60 10 900 61 0 0
-9 worth 0: 10, 60 10 900 60 0 0
+6 vehicle 61: 10, 61 1 0 60 1 0
+25 a draw above the units: 10, 60 11 0 60 1 0
+8 end 961: 10, 60 10 900 61 1 0
+9 worth 60,001: 10, 60 10 900 60 60001 0
 ";
+
+/// The charging sheet of these windows.
+fn hall_of(units: u8, windows: Vec<Row>) -> Vec<u8> {
+    let hall = Hall {
+        units,
+        vehicles: 60,
+        windows,
+    };
+    halls::encode(&mut Rng::new(0), &hall, 0).bytes
+}
 
 /// These halls, and sheets that are none.
 fn charging_halls(corpus: &mut Corpus) {
     let mut charge = |number, name: &str, sheet: &[u8], room| {
-        let input = Input {
-            lent: [0, room],
-            front: sheet,
-            rest: &[],
-        };
-        let found = corpus.add(Entry(17, "charge", 1), name, input, |_, map| {
-            naive::charge(sheet, map).map(|worth| vec![worth.into()])
-        });
-        assert_eq!(found, number, "{name}");
+        corpus.add_due(number, CHARGE, name, alone(sheet, [0, room]));
     };
-    let mut sheets = table(HALLS).map(|(number, name, mut rows)| {
+    for (number, name, mut rows) in table(HALLS) {
         let units = rows.remove(0)[0] as u8;
-        let hall = Hall {
-            units,
-            vehicles: 60,
-            windows: turns(rows),
-        };
-        let sheet = halls::encode(&mut Rng::new(0), &hall, 0).bytes;
-        (number, name, sheet)
-    });
-    let (_, _, both) = sheets.next().expect("there are halls");
-    charge(0, "both kinds", &both, 2);
-    charge(11, "both kinds, a byte too few", &both, 0);
-    charge(5, "bit 5", &with(&both, 7, &[0x3F]), 1);
-    charge(10, "a byte behind", &[&both[..], &[0]].concat(), 1);
-    for (number, name, sheet) in sheets {
-        charge(number, name, &sheet, 1);
+        charge(number, name, &hall_of(units, turns(rows)), 1);
     }
     charge(0, "no windows", b"GRE\x01\x01\0\0", 0);
-    charge(1, "six bytes", b"GRE\x30\x3C\0", 0);
     charge(2, "a sheet", &SHEET, 1);
-    charge(3, "49 units", b"GRE\x31\x3C\x01\x91", 0);
-    charge(3, "61 vehicles", b"GRE\x30\x3D\x01\x91", 0);
+    charge(3, "49 units", b"GRE\x31\x3C\0\0", 0);
+    charge(3, "61 vehicles", b"GRE\x30\x3D\0\0", 0);
     charge(4, "401 windows", b"GRE\x30\x3C\x01\x91", 0);
+}
+
+/// Adds the places that better boards and sets are lent.
+pub fn add_prices(corpus: &mut Corpus) {
+    let front = asked(3, [0; 3]);
+    let rows: Vec<Row> = (1..=9).map(apart).collect();
+    let input = |rest, lent| Input {
+        lent,
+        front: &front,
+        rest,
+    };
+    let sheet = sheet_of(1, 9, &rows);
+    corpus.add_exact(0, REFINE, "9 turns", input(&sheet, [18, 53]));
+    let hall = hall_of(1, rows);
+    corpus.add_exact(0, CHARGE_REFINE, "9 windows", input(&hall, [960, 2]));
 }

@@ -2,11 +2,12 @@
 
 use slopeboard_reference::boards::{self, planned};
 use slopeboard_reference::gen::{self, Rng, Row};
-use slopeboard_reference::naive::{play, Standing};
 use slopeboard_reference::shapes;
-use slopeboard_reference::worked::{sheet_of, with, BOARD, SHEET};
+use slopeboard_reference::worked::{sheet_of, BOARD, SHEET};
 
-use crate::{Corpus, Entry, Input};
+use crate::entries::{board_and_delays, PLAY};
+use crate::named::table;
+use crate::{Corpus, Input};
 
 /// Adds all cases of this entry.
 pub fn add(corpus: &mut Corpus) {
@@ -18,34 +19,18 @@ pub fn add(corpus: &mut Corpus) {
 
 fn case(corpus: &mut Corpus, name: &str, pair: [&[u8]; 2], delays: &[u16], places: usize) {
     let [sheet, board] = pair;
-    let mut rest = (board.len() as u16).to_be_bytes().to_vec();
-    rest.extend(board);
-    rest.extend(delays.iter().flat_map(|delay| delay.to_be_bytes()));
     let input = Input {
         lent: [4 * places, 0],
         front: sheet,
-        rest: &rest,
+        rest: &board_and_delays(board, delays),
     };
-    corpus.add(Entry(16, "play", 1), name, input, |numbers, _| {
-        let standing = |four: &[u16]| Standing {
-            working: four[0],
-            driving: four[1],
-            standing: four[2],
-            turn: four[3],
-        };
-        let mut list: Vec<Standing> = numbers.chunks(4).map(standing).collect();
-        let groomers = play(sheet, board, delays, &mut list)?;
-        let four = |one: &Standing| [one.working, one.driving, one.standing, one.turn];
-        let after: Vec<u16> = list.iter().flat_map(four).collect();
-        numbers.copy_from_slice(&after);
-        Ok(vec![groomers.into()])
-    });
+    corpus.add(PLAY, name, input);
 }
 
 /// The worked shift with delays at their bound and with all numbers of places.
 fn example_cases(corpus: &mut Corpus) {
     for places in [0, 1, 2, 3, 20] {
-        let name = format!("without delays, {places} places");
+        let name = format!("2 groomers, {places} places");
         case(corpus, &name, [&SHEET, &BOARD], &[0; 4], places);
     }
     for turn in 0..4 {
@@ -69,18 +54,8 @@ fn example_cases(corpus: &mut Corpus) {
     );
 }
 
-/// The refusals of the check, with wrong delays and no places besides.
+/// Sheets without turns. Two causes at once are in `orders`.
 fn refused_cases(corpus: &mut Corpus) {
-    case(corpus, "a sheet cut short", [&SHEET[..38], &BOARD], &[], 0);
-    case(corpus, "a board cut short", [&SHEET, &BOARD[..27]], &[], 0);
-    for (place, value) in [(15, 0x03), (15, 0x08), (21, 0x05), (14, 0xF1)] {
-        let board = with(&BOARD, place, &[value]);
-        let name = format!("board with {value} at {place}");
-        case(corpus, &name, [&SHEET, &board], &[121], 0);
-        case(corpus, &name, [&SHEET, &board], &[0; 4], 2);
-    }
-    let board = with(&BOARD[..24], 6, &[2]);
-    case(corpus, "a step too few", [&SHEET, &board], &[0; 4], 2);
     let sheet = b"GRM\x10\x78\0\0";
     case(corpus, "no board", [sheet, &[0; 15]], &[], 16);
     let none = planned(sheet);
@@ -90,28 +65,30 @@ fn refused_cases(corpus: &mut Corpus) {
     case(corpus, "no turns, a delay", [sheet, &none], &[0], 16);
 }
 
-/// One groomer: turns that hold up the next, and the end of the day.
+/// One groomer's turns, each by start, end and delay: some hold up the next, some
+/// last to the end of the day.
+const TIMES: &str = "
+0 held up by a delay of 120: 100 200 120, 210 300 7
+0 a delay of 40 holds nothing up: 100 200 40, 250 300 0
+0 a delay of 41 does: 100 200 41, 250 300 0
+0 worked past the last minute: 900 960 120
+0 one minute of driving over, no turn in hand: 900 959 0
+0 worked up to the last minute: 900 959 1
+0 nine minutes of driving over, no turn in hand: 900 951 0
+0 worked in all minutes: 0 960 120
+0 the next one from minute 959: 0 830 119, 840 850 0
+0 the next one from minute 960: 0 830 120, 840 850 0
+0 three not in order: 850 950 30, 100 200 0, 700 800 70
+0 two not in order: 500 600 0, 100 200 0
+";
+
 fn time_cases(corpus: &mut Corpus) {
-    let lists: [(&[(u16, u16)], &[u16]); 12] = [
-        (&[(100, 200), (210, 300)], &[120, 7]),
-        (&[(100, 200), (250, 300)], &[40, 0]),
-        (&[(100, 200), (250, 300)], &[41, 0]),
-        (&[(900, 960)], &[120]),
-        (&[(900, 959)], &[0]),
-        (&[(900, 959)], &[1]),
-        (&[(900, 951)], &[0]),
-        (&[(0, 960)], &[120]),
-        (&[(0, 830), (840, 850)], &[119, 0]),
-        (&[(0, 830), (840, 850)], &[120, 0]),
-        (&[(850, 950), (100, 200), (700, 800)], &[30, 0, 70]),
-        (&[(500, 600), (100, 200)], &[0, 0]),
-    ];
-    for (times, delays) in lists {
-        let turn = |(&(start, end), slope)| [slope, 1, start, end - start, 9, 0];
+    for (_, name, times) in table(TIMES) {
+        let turn = |(time, slope): (&Vec<u16>, u16)| [slope, 1, time[0], time[1] - time[0], 9, 0];
         let turns: Vec<Row> = times.iter().zip(1..).map(turn).collect();
+        let delays: Vec<u16> = times.iter().map(|time| time[2]).collect();
         let sheet = sheet_of(1, 9, &turns);
-        let name = format!("from and to {times:?}, delays {delays:?}");
-        case(corpus, &name, [&sheet, &planned(&sheet)], delays, 2);
+        case(corpus, name, [&sheet, &planned(&sheet)], &delays, 2);
     }
 }
 
