@@ -1,7 +1,7 @@
 -- The entry's number: exactly the first cause in the order gives it, and 0 is given exactly where there is none. Assumes nothing.
 use Prim.Native.Nat.{ℕ, _≤_, _<_}
 use mathlib.Core.Path.{_≡_, refl, sym, _∙_}
-use mathlib.Core.List.{List, [], _∷_}
+use mathlib.Core.List.{List}
 use mathlib.Core.Logic.{_↔_}
 use mathlib.Core.Bool.{Bool, true, false, cond}
 use native.Mathlib.Omega.{arith}
@@ -9,7 +9,7 @@ use lib.Dec.{ltb}
 use lib.ListN.{length}
 use borrow.Author.Tests.{ltb-true, ltb-false, lt-ltb, le-ltb}
 use Rattle.refusal.specs.Number.{bufferTooSmall, tooManyToSearch}
-use Rattle.refusal.specs.Cause.{firstOf, _when_}
+use Rattle.refusal.specs.Cause.{firstOf}
 use Rattle.refusal.proofs.Order.{numbered, numbered-append, first-stops, first-goes, clear-last}
 use Rattle.wire.specs.Number.{Bytes}
 use Rattle.sheet.specs.Read.{turnCount, sheetCauses}
