@@ -137,7 +137,7 @@ module _ (s b : List ℕ) (y : Bytes s) where
 
 -- the claim of s and any b has these: b plays no part in them
 module _ {s : List ℕ} (y : Bytes s) (lent : List ℕ) (z : planOf s lent .answer .refusal ≡ 0) where
-  plans : Plans s (writtenPart (planOf s lent))
+  plans : Plans s (writtenPart (planOf s lent)) (sheetTurns s)
   plans =
       let c = claim s s y in
       let a = c .plans lent .0 z .0 in
@@ -145,11 +145,7 @@ module _ {s : List ℕ} (y : Bytes s) (lent : List ℕ) (z : planOf s lent .answ
       (record {
         passes = c .ours a;
         method-returns = c .method-returns a;
-        choice = λ S xs d. c .method a S xs d .choice;
-        filled = λ S xs d. c .method a S xs d .filled;
-        steps = λ S xs d. c .method a S xs d .steps;
-        tally-is = λ S xs d. c .method a S xs d .tally-is;
-        worth-is = λ S xs d. c .method a S xs d .worth-is;
+        method = λ S xs d. let m = c .method a S xs d in (m .choice, m .filled, m .steps, m .tally-is, m .worth-is);
       })
 
 module _ (s lent place : List ℕ) (z : listOf s lent .answer .refusal ≡ 0) (e : planOf s place .answer .refusal ≡ 0) where
@@ -271,8 +267,7 @@ module _ (s : List ℕ) (rounds : ℕ) (board prices : List ℕ) (z : refineOf s
         capped = p .within;
         worth-within = p .worth-within;
         best = p .best;
-        more-worth = p .more-worth;
-        more-limit = p .more-limit;
+        more = λ more c q l e. (p .more-worth more c q l e, p .more-limit more c q l e);
         places-apart = p .places-apart;
         made = p .made;
         ended = p .ended;
@@ -326,8 +321,7 @@ module _ (s : List ℕ) (rounds : ℕ) (map prices : List ℕ) (z : chargeRefine
         capped = p .within;
         worth-within = p .worth-within;
         best = p .best;
-        more-worth = p .more-worth;
-        more-limit = p .more-limit;
+        more = λ more c q l e. (p .more-worth more c q l e, p .more-limit more c q l e);
         places-apart = p .places-apart;
         made = p .made;
         ended = p .ended;

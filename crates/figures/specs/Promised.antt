@@ -94,7 +94,7 @@ turnsIn s lent = choiceIn (turnCount s) (mapIn s lent)
 
 -- ---- reading and writing
 
--- 01, the sheet; R-8 of the lift desk's kind. Accepted is exactly a sheet with six places for each turn in the table; then answer and table have its counts and turns, and the table's rest is as it was
+-- 01, the sheet; R-8 of the lift desk's. The reader accepts exactly a sheet with six places for each turn in the table; then answer and table have its counts and turns, and behind them the table is as it was
 pub record Reads (K : Kind) (s lent : List ℕ) (x : Reading) : Type 0 where
   pub accepts : (x .answer .refusal ≡ 0) ↔ ((a : AcceptedFor K s) × (6 * length (a .turns) ≤ length lent))
   pub answers : x .answer .refusal ≡ 0 → (a : AcceptedFor K s) → x .answer ≡ record { refusal = 0; groomers = a .counts .groomers; slopes = a .counts .slopes; turns = length (a .turns) }
@@ -140,13 +140,13 @@ pub record Binds (T : Turns) (S : List Bool) (tallied worth bound : ℕ) : Type 
   pub apart : Independent T S
   pub full : Maximal T S
   pub covered : tallied ≤ worth
-  -- no feasible set is worth more than twice the tally; on single-turn slopes, than the board
+  -- without drivers no feasible set is worth more than twice the tally, nor, where no slope has two turns, more than the board
   pub twice : NoDrivers T → CapsShift T (2 * tallied)
   pub exact : NoDrivers T → OneTurnASlope T → CapsShift T worth
-  -- R-5, with drivers: three times the tally, twice on single-turn slopes
+  -- R-5, with drivers: more than three times the tally, twice where no slope has two turns
   pub thrice : CapsShift T (3 * tallied)
   pub twice-single : OneTurnASlope T → CapsShift T (2 * tallied)
-  -- R-7: nor more than the ceiling, which lies between the tally and those multiples
+  -- R-7: more than the ceiling, which lies between the tally and those multiples
   pub capped : CapsShift T bound
   pub ceiling-from : tallied ≤ bound
   pub ceiling-to : bound ≤ 3 * tallied
@@ -170,15 +170,12 @@ pub record Checks (s b : List ℕ) : Type 0 where
 -- ---- the planner
 
 -- 01, second demand, of the bytes b that the planner wrote: they pass
-pub record Plans (s b : List ℕ) : Type 0 where
+pub record Plans (s b : List ℕ) (T : Turns) : Type 0 where
   pub passes : checkOf s b .refusal ≡ 0
   -- the published algorithm returns a choice and makes steps, and whatever they are, the board has the choice, filled up in turn order, these steps, and their sums
-  pub method-returns : (S : List Bool) × (xs : List Step) × Selects (sheetTurns s) S xs
-  pub choice : (S : List Bool) (xs : List Step) → Selects (sheetTurns s) S xs → boardChoice b ≡ fill (fits (sheetTurns s)) (sheetTurns s .count) S
-  pub filled : (S : List Bool) (xs : List Step) → Selects (sheetTurns s) S xs → FilledUp (sheetTurns s) S (boardChoice b)
-  pub steps : (S : List Bool) (xs : List Step) → Selects (sheetTurns s) S xs → writtenSteps b ≡ xs
-  pub tally-is : (S : List Bool) (xs : List Step) → Selects (sheetTurns s) S xs → boardTally b ≡ tally xs
-  pub worth-is : (S : List Bool) (xs : List Step) → Selects (sheetTurns s) S xs → boardWorth b ≡ chosen (sheetTurns s .count) (boardChoice b) (sheetTurns s .worth)
+  pub method-returns : (S : List Bool) × (xs : List Step) × Selects T S xs
+  pub method : (S : List Bool) (xs : List Step) → Selects T S xs →
+      (boardChoice b ≡ fill (fits T) (T .count) S) × FilledUp T S (boardChoice b) × (writtenSteps b ≡ xs) × (boardTally b ≡ tally xs) × (boardWorth b ≡ chosen (T .count) (boardChoice b) (T .worth))
 
 -- ---- the others by request
 
@@ -310,9 +307,8 @@ pub record RefinesShift (s : List ℕ) (rounds : ℕ) (board prices b p : List �
   pub capped : CapsShift T (x .limit)
   pub worth-within : x .worth ≤ x .limit
   pub best : x .limit ≡ x .worth → CapsShift T (boardWorth b)
-  -- more rounds give no less worth and no higher limit, and as many the same, whatever is lent
-  pub more-worth : (more : ℕ) (c q : List ℕ) → rounds ≤ more → refineOf s more c q .refusal ≡ 0 → x .worth ≤ refineOf s more c q .worth
-  pub more-limit : (more : ℕ) (c q : List ℕ) → rounds ≤ more → refineOf s more c q .refusal ≡ 0 → refineOf s more c q .limit ≤ x .limit
+  -- more rounds give no less worth and no higher limit, as many give the same, whatever is lent
+  pub more : (more : ℕ) (c q : List ℕ) → rounds ≤ more → refineOf s more c q .refusal ≡ 0 → (x .worth ≤ refineOf s more c q .worth) × (refineOf s more c q .limit ≤ x .limit)
   pub places-apart : (c q : List ℕ) → refineOf s rounds c q .refusal ≡ 0 → (refineOf s rounds c q .worth ≡ x .worth) × (refineOf s rounds c q .limit ≡ x .limit) × (refineOf s rounds c q .rounds ≡ x .rounds)
   -- it ends at the first look at which limit and worth meet, or when the rounds are used up
   pub made : x .rounds ≤ rounds
@@ -368,8 +364,7 @@ pub record RefinesHall (s : List ℕ) (rounds : ℕ) (map prices : List ℕ) (H 
   pub capped : CapsHall H (x .limit)
   pub worth-within : x .worth ≤ x .limit
   pub best : x .limit ≡ x .worth → CapsHall H (worthIn H S)
-  pub more-worth : (more : ℕ) (c q : List ℕ) → rounds ≤ more → chargeRefineOf s more c q .refusal ≡ 0 → x .worth ≤ chargeRefineOf s more c q .worth
-  pub more-limit : (more : ℕ) (c q : List ℕ) → rounds ≤ more → chargeRefineOf s more c q .refusal ≡ 0 → chargeRefineOf s more c q .limit ≤ x .limit
+  pub more : (more : ℕ) (c q : List ℕ) → rounds ≤ more → chargeRefineOf s more c q .refusal ≡ 0 → (x .worth ≤ chargeRefineOf s more c q .worth) × (chargeRefineOf s more c q .limit ≤ x .limit)
   pub places-apart : (c q : List ℕ) → chargeRefineOf s rounds c q .refusal ≡ 0 →
       (chargeRefineOf s rounds c q .worth ≡ x .worth) × (chargeRefineOf s rounds c q .limit ≡ x .limit) × (chargeRefineOf s rounds c q .rounds ≡ x .rounds)
   pub made : x .rounds ≤ rounds
@@ -399,7 +394,7 @@ pub record Promised : Type 0 where
   pub is-chosen : (b : List ℕ) → openOf b ≡ 0 → (t : ℕ) → turnChosen b t ≡ has (boardChoice b) t
   pub steps : (b : List ℕ) → take (stepsPartAt b .length) (drop (stepsPartAt b .start) b) ≡ stepsPart b
   pub check : (s b : List ℕ) → Bytes s → Checks s b
-  pub plan : {s : List ℕ} → Bytes s → (lent : List ℕ) → planOf s lent .answer .refusal ≡ 0 → Plans s (writtenPart (planOf s lent))
+  pub plan : {s : List ℕ} → Bytes s → (lent : List ℕ) → planOf s lent .answer .refusal ≡ 0 → Plans s (writtenPart (planOf s lent)) (sheetTurns s)
   -- 01: the planner accepts exactly an accepted sheet with room for a board with a step a turn; its board stands in front, behind it what was there
   pub plan-accepts : {s : List ℕ} → Bytes s → (lent : List ℕ) → (planOf s lent .answer .refusal ≡ 0) ↔ (Accepted s × (15 + (turnCount s + 7) / 8 + 4 * turnCount s ≤ length lent))
   pub plan-writes : {s : List ℕ} → Bytes s → (lent : List ℕ) → planOf s lent .answer .refusal ≡ 0 → planOf s lent ≡ wrote (plannedBoard s) lent
