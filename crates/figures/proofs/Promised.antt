@@ -373,8 +373,7 @@ promised =
       improve = searches;
       improve-none = λ s lent z n. let p = none-allowed-plan s lent z n in (p .worth-is, p .map-is);
       play = plays-shift;
-      play-answer = λ s b delays lent other room. play-alike s b delays lent other room .answer;
-      play-list = λ s b delays lent other room. play-alike s b delays lent other room .standings;
+      play-alike = λ s b delays lent other room. let p = play-alike s b delays lent other room in (p .answer, p .standings);
       limit = limits-shift;
       refine = refines-shift;
       charge = charges-hall;

@@ -1,4 +1,4 @@
--- What is promised, each promise in full: of the bytes that an entry is given, of what it returns, and of what the lent places hold then (documents 01, 02 and 03). Assumes nothing.
+-- What is promised, each promise in full: of the bytes that an entry is given, of what it returns, and of what the lent places hold then (documents 01, 02 and 03). No other record of promises is cited, so that what one of them leaves out is missed here. Assumes nothing.
 use Prim.Native.Nat.{ℕ, suc, _+_, _*_, _/_, _%_, _^_, _≤_, _<_}
 use mathlib.Core.Path.{_≡_}
 use mathlib.Core.Logic.{_↔_, _≢_, _⊎_}
@@ -395,7 +395,7 @@ pub record Promised : Type 0 where
   pub steps : (b : List ℕ) → take (stepsPartAt b .length) (drop (stepsPartAt b .start) b) ≡ stepsPart b
   pub check : (s b : List ℕ) → Bytes s → Checks s b
   pub plan : {s : List ℕ} → Bytes s → (lent : List ℕ) → planOf s lent .answer .refusal ≡ 0 → Plans s (writtenPart (planOf s lent)) (sheetTurns s)
-  -- 01: the planner accepts exactly an accepted sheet with room for a board with a step a turn; its board stands in front, behind it what was there
+  -- 01: the planner accepts exactly an accepted sheet with room for a board with a step a turn; the lent bytes then begin with its board and go on as they were
   pub plan-accepts : {s : List ℕ} → Bytes s → (lent : List ℕ) → (planOf s lent .answer .refusal ≡ 0) ↔ (Accepted s × (15 + (turnCount s + 7) / 8 + 4 * turnCount s ≤ length lent))
   pub plan-writes : {s : List ℕ} → Bytes s → (lent : List ℕ) → planOf s lent .answer .refusal ≡ 0 → planOf s lent ≡ wrote (plannedBoard s) lent
   pub list : (s lent place : List ℕ) → listOf s lent .answer .refusal ≡ 0 → planOf s place .answer .refusal ≡ 0 →
@@ -409,9 +409,9 @@ pub record Promised : Type 0 where
   pub play : (s b delays : List ℕ) (lent : List Standing) → playOf s b delays lent .answer .refusal ≡ 0 →
       PlaysShift (sheetTurns s) (boardChoice b) (delayIn delays) (countsIn s .groomers) (dayAt s b delays) lent (playOf s b delays lent)
   -- R-13: what the list held plays no part
-  pub play-answer : (s b delays : List ℕ) (lent other : List Standing) → (countsIn s .groomers ≤ length lent) ↔ (countsIn s .groomers ≤ length other) → playOf s b delays lent .answer ≡ playOf s b delays other .answer
-  pub play-list : (s b delays : List ℕ) (lent other : List Standing) → (countsIn s .groomers ≤ length lent) ↔ (countsIn s .groomers ≤ length other) → playOf s b delays lent .answer .refusal ≡ 0 →
-      take (countsIn s .groomers) (playOf s b delays lent .lent) ≡ take (countsIn s .groomers) (playOf s b delays other .lent)
+  pub play-alike : (s b delays : List ℕ) (lent other : List Standing) → (countsIn s .groomers ≤ length lent) ↔ (countsIn s .groomers ≤ length other) →
+      (playOf s b delays lent .answer ≡ playOf s b delays other .answer)
+      × (playOf s b delays lent .answer .refusal ≡ 0 → take (countsIn s .groomers) (playOf s b delays lent .lent) ≡ take (countsIn s .groomers) (playOf s b delays other .lent))
   pub limit : (s prices : List ℕ) → limitOf s prices .refusal ≡ 0 → LimitsShift s prices (sheetTurns s) (groomerWorth (pricedTurns (sheetTurns s) (countsIn s .slopes) prices)) (limitOf s prices .limit)
   pub refine : (s : List ℕ) (rounds : ℕ) (board prices : List ℕ) → refineOf s rounds board prices .refusal ≡ 0 →
       RefinesShift s rounds board prices (take (refineOf s rounds board prices .bytes) (refineOf s rounds board prices .board)) (take (priceCount s) (refineOf s rounds board prices .prices)) (sheetTurns s) (refineOf s rounds board prices)
