@@ -11,6 +11,7 @@ use Rattle.sheet.specs.Record.{widthOf, field, turnFrom}
 use Rattle.sheet.proofs.Accepting.{read-accepted-iff}
 use Rattle.sheet.specs.Screen.{liftDesk}
 use Rattle.sheet.proofs.Limits.{short-accepted-iff}
+use Rattle.write_spec.proofs.RoundTrip.{write-room-iff}
 use Rattle.archive_spec.specs.Kept.{archive}
 use Rattle.choice_map.specs.Choice.{bitOf, chosenIn}
 use Rattle.archive_spec.proofs.KeptCauses.{keep-accepted-iff, restore-accepted-iff}
@@ -97,6 +98,7 @@ figures =
       board-bytes = λ n m. refl;
       planner-need = plan-accepted-iff;
       short-reader-need = short-accepted-iff;
+      write-need = write-room-iff;
       draw-need = λ seed counts turns lent. let q = draw-accepted-iff seed counts turns lent in (
         λ e. let (d, l, r) = q .0 e in ((d .from, d .to), l, r),
         λ (d, l, r). q .1 (record { from = d .0; to = d .1 }, l, r),

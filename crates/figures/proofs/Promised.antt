@@ -72,7 +72,7 @@ use Rattle.hall_by_prices_spec.proofs.RefineCauses.{charge-refine-refused-iff, 
 use Rattle.hall_by_prices_spec.proofs.Refined.{charge-refine-promised}
 use Rattle.claim.proofs.Claimed.{claim, plan-front}
 use Rattle.claim.proofs.Listed.{list-promised}
-use Rattle.figures.specs.Promised.{turnsIn, Reads, Writes, Binds, Checks, Plans, ListsBoard, AssignsAll, FindsBest, Searches, StandsSo, PlaysShift, LimitsShift, RefinesShift, ChargesHall, LimitsHall, RefinesHall, Promised}
+use Rattle.figures.specs.Promised.{shownIn, Reads, Writes, Binds, Checks, Plans, ListsBoard, AssignsAll, FindsBest, Searches, StandsSo, PlaysShift, LimitsShift, RefinesShift, ChargesHall, LimitsHall, RefinesHall, Promised}
 
 reads : {K : Kind} {s lent : List ℕ} {x : Reading} → ReadPromisedFor K s lent x → Reads K s lent x
 reads p =
@@ -168,7 +168,7 @@ module _ (s lent : List ℕ) (z : assignOf s lent .answer .refusal ≡ 0) where
       }
 
 module _ (s lent : List ℕ) (z : bestOf s lent .answer .refusal ≡ 0) where
-  finds-best : FindsBest s lent (sheetTurns s) (turnsIn s (bestOf s lent .lent)) (bestOf s lent)
+  finds-best : FindsBest s lent (sheetTurns s) (shownIn s (bestOf s lent .lent)) (bestOf s lent)
   finds-best =
       let p = best-promised s lent z in
       let (e, d, o, l) = best-clear s lent z in
@@ -192,7 +192,7 @@ module _ (s lent : List ℕ) (z : bestOf s lent .answer .refusal ≡ 0) where
       }
 
 module _ (s : List ℕ) (limit : ℕ) (lent : List ℕ) (z : improveOf s limit lent .answer .refusal ≡ 0) where
-  searches : Searches s limit lent (sheetTurns s) (turnsIn s (improveOf s limit lent .lent)) (improveOf s limit lent)
+  searches : Searches s limit lent (sheetTurns s) (shownIn s (improveOf s limit lent .lent)) (improveOf s limit lent)
   searches =
       let p = improved-sheet s limit lent z in
       let c = p .compares in
@@ -278,7 +278,7 @@ module _ (s : List ℕ) (rounds : ℕ) (board prices : List ℕ) (z : refineOf s
       }
 
 module _ (s lent : List ℕ) (z : chargeOf s lent .answer .refusal ≡ 0) where
-  charges-hall : ChargesHall s lent (hallOf s) (turnsIn s (chargeOf s lent .lent)) (chargeOf s lent)
+  charges-hall : ChargesHall s lent (hallOf s) (shownIn s (chargeOf s lent .lent)) (chargeOf s lent)
   charges-hall =
       let p = charge-promised s lent z in
       let q = charge-promises s lent z in
@@ -309,7 +309,7 @@ module _ (s prices : List ℕ) (z : chargeLimitOf s prices .refusal ≡ 0) where
       record { capped = p .within; parts = p .parts; greatest = λ v. p .vehicle-most v .greatest; attained = λ v. p .vehicle-most v .attained; free = p .free }
 
 module _ (s : List ℕ) (rounds : ℕ) (map prices : List ℕ) (z : chargeRefineOf s rounds map prices .refusal ≡ 0) where
-  refines-hall : RefinesHall s rounds map prices (hallOf s) (turnsIn s (chargeRefineOf s rounds map prices .map)) (chargeRefineOf s rounds map prices)
+  refines-hall : RefinesHall s rounds map prices (hallOf s) (shownIn s (chargeRefineOf s rounds map prices .map)) (chargeRefineOf s rounds map prices)
   refines-hall =
       let p = charge-refine-promised s rounds map prices z in
       record {
@@ -373,8 +373,7 @@ promised =
       improve = searches;
       improve-none = λ s lent z n. let p = none-allowed-plan s lent z n in (p .worth-is, p .map-is);
       play = plays-shift;
-      play-answer = λ s b delays lent other room. play-alike s b delays lent other room .answer;
-      play-list = λ s b delays lent other room. play-alike s b delays lent other room .standings;
+      play-alike = λ s b delays lent other room. let p = play-alike s b delays lent other room in (p .answer, p .standings);
       limit = limits-shift;
       refine = refines-shift;
       charge = charges-hall;

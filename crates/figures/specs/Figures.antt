@@ -19,6 +19,7 @@ use Rattle.sheet.specs.Record.{widthOf, turnFrom}
 use Rattle.sheet.specs.Read.{headerBytes, countsIn, turnCount, readOf}
 use Rattle.sheet.specs.Accepted.{Legal, Accepted}
 use Rattle.sheet.specs.Screen.{screenTurns, liftDesk, readShortOf, AcceptedShort}
+use Rattle.write_spec.specs.Write.{writeOf}
 use Rattle.archive_spec.specs.Kept.{archive}
 use Rattle.choice_map.specs.Choice.{mapBytes, chosenIn}
 use Rattle.archive_spec.specs.AcceptedKept.{AcceptedKept}
@@ -154,6 +155,10 @@ pub record Figures : Type 0 where
 
   -- the lift desk's reader: as the garage's
   pub short-reader-need : {s : List ℕ} → Bytes s → (lent : List ℕ) → (readShortOf s lent .answer .refusal ≡ 0) ↔ (AcceptedShort s × (6 * turnCount s ≤ length lent))
+  -- the writer: as many bytes as it writes where a table is accepted
+  pub write-need :
+      (counts : Counts) (table place : List ℕ) → writeOf counts table place .answer .refusal ≡ 0
+      → (lent : List ℕ) → (writeOf counts table lent .answer .refusal ≡ 0) ↔ (writeOf counts table place .answer .bytes ≤ length lent)
   -- drawing: a seed from 1 to 2,147,483,646, counts of a header, and the bytes of the sheet
   pub draw-need :
       (seed : ℕ) (counts : Counts) (turns : ℕ) (lent : List ℕ)

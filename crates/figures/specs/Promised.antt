@@ -1,4 +1,4 @@
--- What is promised, each promise in full: of the bytes that an entry is given, of what it returns, and of what the lent places hold then (documents 01, 02 and 03). Assumes nothing.
+-- What is promised, each promise in full: of the bytes that an entry is given, of what it returns, and of what the lent places hold then (documents 01, 02 and 03). No other record of promises is cited, so that what one of them leaves out is missed here. Assumes nothing.
 use Prim.Native.Nat.{ℕ, suc, _+_, _*_, _/_, _%_, _^_, _≤_, _<_}
 use mathlib.Core.Path.{_≡_}
 use mathlib.Core.Logic.{_↔_, _≢_, _⊎_}
@@ -89,8 +89,8 @@ Refuses first number x refused = ((k : ℕ) → (k ≡ 0 → ⊥) → (number �
 abbrev pub mapIn : List ℕ → List ℕ → List ℕ
 mapIn s lent = take (mapBytes (turnCount s)) lent
 
-abbrev pub turnsIn : List ℕ → List ℕ → List Bool
-turnsIn s lent = choiceIn (turnCount s) (mapIn s lent)
+abbrev pub shownIn : List ℕ → List ℕ → List Bool
+shownIn s lent = choiceIn (turnCount s) (mapIn s lent)
 
 -- ---- reading and writing
 
@@ -395,30 +395,30 @@ pub record Promised : Type 0 where
   pub steps : (b : List ℕ) → take (stepsPartAt b .length) (drop (stepsPartAt b .start) b) ≡ stepsPart b
   pub check : (s b : List ℕ) → Bytes s → Checks s b
   pub plan : {s : List ℕ} → Bytes s → (lent : List ℕ) → planOf s lent .answer .refusal ≡ 0 → Plans s (writtenPart (planOf s lent)) (sheetTurns s)
-  -- 01: the planner accepts exactly an accepted sheet with room for a board with a step a turn; its board stands in front, behind it what was there
+  -- 01: the planner accepts exactly an accepted sheet with room for a board with a step a turn; the lent bytes then begin with its board and go on as they were
   pub plan-accepts : {s : List ℕ} → Bytes s → (lent : List ℕ) → (planOf s lent .answer .refusal ≡ 0) ↔ (Accepted s × (15 + (turnCount s + 7) / 8 + 4 * turnCount s ≤ length lent))
   pub plan-writes : {s : List ℕ} → Bytes s → (lent : List ℕ) → planOf s lent .answer .refusal ≡ 0 → planOf s lent ≡ wrote (plannedBoard s) lent
   pub list : (s lent place : List ℕ) → listOf s lent .answer .refusal ≡ 0 → planOf s place .answer .refusal ≡ 0 →
       ListsBoard s (writtenPart (planOf s place)) lent (sheetTurns s) (boardChoice (writtenPart (planOf s place))) (listOf s lent)
   pub assign : (s lent : List ℕ) → assignOf s lent .answer .refusal ≡ 0 → AssignsAll (sheetTurns s) (take (turnCount s) (assignOf s lent .lent)) (assignOf s lent .answer .groomers)
   pub assign-behind : (s lent : List ℕ) → assignOf s lent .answer .refusal ≡ 0 → drop (turnCount s) (assignOf s lent .lent) ≡ drop (turnCount s) lent
-  pub best : (s lent : List ℕ) → bestOf s lent .answer .refusal ≡ 0 → FindsBest s lent (sheetTurns s) (turnsIn s (bestOf s lent .lent)) (bestOf s lent)
-  pub improve : (s : List ℕ) (limit : ℕ) (lent : List ℕ) → improveOf s limit lent .answer .refusal ≡ 0 → Searches s limit lent (sheetTurns s) (turnsIn s (improveOf s limit lent .lent)) (improveOf s limit lent)
+  pub best : (s lent : List ℕ) → bestOf s lent .answer .refusal ≡ 0 → FindsBest s lent (sheetTurns s) (shownIn s (bestOf s lent .lent)) (bestOf s lent)
+  pub improve : (s : List ℕ) (limit : ℕ) (lent : List ℕ) → improveOf s limit lent .answer .refusal ≡ 0 → Searches s limit lent (sheetTurns s) (shownIn s (improveOf s limit lent .lent)) (improveOf s limit lent)
   -- R-10: with no visits allowed and a turn to visit, the planned board's worth and map come back
   pub improve-none : (s lent : List ℕ) → improveOf s 0 lent .answer .refusal ≡ 0 → turnCount s ≢ 0 → (improveOf s 0 lent .answer .worth ≡ boardWorth (plannedBoard s)) × (mapIn s (improveOf s 0 lent .lent) ≡ boardMap (plannedBoard s))
   pub play : (s b delays : List ℕ) (lent : List Standing) → playOf s b delays lent .answer .refusal ≡ 0 →
       PlaysShift (sheetTurns s) (boardChoice b) (delayIn delays) (countsIn s .groomers) (dayAt s b delays) lent (playOf s b delays lent)
   -- R-13: what the list held plays no part
-  pub play-answer : (s b delays : List ℕ) (lent other : List Standing) → (countsIn s .groomers ≤ length lent) ↔ (countsIn s .groomers ≤ length other) → playOf s b delays lent .answer ≡ playOf s b delays other .answer
-  pub play-list : (s b delays : List ℕ) (lent other : List Standing) → (countsIn s .groomers ≤ length lent) ↔ (countsIn s .groomers ≤ length other) → playOf s b delays lent .answer .refusal ≡ 0 →
-      take (countsIn s .groomers) (playOf s b delays lent .lent) ≡ take (countsIn s .groomers) (playOf s b delays other .lent)
+  pub play-alike : (s b delays : List ℕ) (lent other : List Standing) → (countsIn s .groomers ≤ length lent) ↔ (countsIn s .groomers ≤ length other) →
+      (playOf s b delays lent .answer ≡ playOf s b delays other .answer)
+      × (playOf s b delays lent .answer .refusal ≡ 0 → take (countsIn s .groomers) (playOf s b delays lent .lent) ≡ take (countsIn s .groomers) (playOf s b delays other .lent))
   pub limit : (s prices : List ℕ) → limitOf s prices .refusal ≡ 0 → LimitsShift s prices (sheetTurns s) (groomerWorth (pricedTurns (sheetTurns s) (countsIn s .slopes) prices)) (limitOf s prices .limit)
   pub refine : (s : List ℕ) (rounds : ℕ) (board prices : List ℕ) → refineOf s rounds board prices .refusal ≡ 0 →
       RefinesShift s rounds board prices (take (refineOf s rounds board prices .bytes) (refineOf s rounds board prices .board)) (take (priceCount s) (refineOf s rounds board prices .prices)) (sheetTurns s) (refineOf s rounds board prices)
-  pub charge : (s lent : List ℕ) → chargeOf s lent .answer .refusal ≡ 0 → ChargesHall s lent (hallOf s) (turnsIn s (chargeOf s lent .lent)) (chargeOf s lent)
+  pub charge : (s lent : List ℕ) → chargeOf s lent .answer .refusal ≡ 0 → ChargesHall s lent (hallOf s) (shownIn s (chargeOf s lent .lent)) (chargeOf s lent)
   pub charge-limit : (s prices : List ℕ) → chargeLimitOf s prices .refusal ≡ 0 → LimitsHall s prices (hallOf s) (chargeLimitOf s prices .limit)
   pub charge-refine : (s : List ℕ) (rounds : ℕ) (map prices : List ℕ) → chargeRefineOf s rounds map prices .refusal ≡ 0 →
-      RefinesHall s rounds map prices (hallOf s) (turnsIn s (chargeRefineOf s rounds map prices .map)) (chargeRefineOf s rounds map prices)
+      RefinesHall s rounds map prices (hallOf s) (shownIn s (chargeRefineOf s rounds map prices .map)) (chargeRefineOf s rounds map prices)
   -- 01, first demand: a refusal is given exactly where its cause is the first, and leaves all that is lent as it was
   pub read-refuses : {s : List ℕ} → Bytes s → (lent : List ℕ) → Refuses (FirstReadCause s (length lent)) (readOf s lent .answer .refusal) (readOf s lent) (λ k. beside (readRefused k) lent)
   pub short-refuses : {s : List ℕ} → Bytes s → (lent : List ℕ) → Refuses (FirstShortCause s (length lent)) (readShortOf s lent .answer .refusal) (readShortOf s lent) (λ k. beside (readRefused k) lent)

@@ -1,6 +1,7 @@
 -- What is written is an accepted sheet of the same counts and turns in the written order, and reading it gives them. Assumes nothing.
 use Prim.Native.Nat.{ℕ, _*_, _/_, _%_, _<_, _≤_}
 use mathlib.Core.Path.{_≡_, refl, sym, _∙_, ap, subst}
+use mathlib.Core.Logic.{_↔_}
 use mathlib.Core.Bool.{Bool, true, false, cond}
 use mathlib.Core.List.{List, [], _∷_, _++_}
 use native.Mathlib.Omega.{arith}
@@ -13,7 +14,7 @@ use Rattle.lists.specs.Sorting.{InOrder}
 use Rattle.lists.proofs.Sorted.{sort-all}
 use Rattle.refusal.specs.Number.{bufferTooSmall}
 use Rattle.refusal.specs.Cause.{_when_, firstOf}
-use Rattle.refusal.specs.Written.{wrote, atFront}
+use Rattle.refusal.specs.Written.{Written, wrote, atFront}
 use Rattle.refusal.proofs.Order.{first-goes}
 use Rattle.refusal.proofs.Written.{wrote-enough, written-number}
 use Rattle.wire.specs.Number.{bytesOf, Bytes, none, more}
@@ -146,6 +147,14 @@ module _ (counts : Counts) (table out : List ℕ) where
   pub write-accepts : writeOf counts table out .answer .refusal ≡ 0 → (firstOf (tableCauses counts table) ≡ 0) × (length (sheetOf counts (writtenTurns table)) ≤ length out)
   unfolding writeCauses
   write-accepts e = enough-iff (tableCauses counts table) (length out) (length (sheetOf counts (writtenTurns table))) (table-numbered counts table) .0 (sym write-number ∙ e)
+
+-- a table that was written is written wherever there are as many lent bytes as its sheet has, and nowhere else
+pub write-room-iff : (counts : Counts) (table out : List ℕ) → writeOf counts table out .answer .refusal ≡ 0 →
+    (lent : List ℕ) → (writeOf counts table lent .answer .refusal ≡ 0) ↔ (writeOf counts table out .answer .bytes ≤ length lent)
+write-room-iff counts table out z lent =
+    let (e, l) = write-accepts counts table out z in
+    let bytes : writeOf counts table out .answer .bytes ≡ length (sheetOf counts (writtenTurns table)) = ap (λ (w : Written). w .answer .bytes) (writing counts table out e l) in
+    (λ f. rw bytes (write-accepts counts table lent f .1), λ h. ap (λ (w : Written). w .answer .refusal) (writing counts table lent e (rw bytes at h)))
 
 -- ---- there and back
 
