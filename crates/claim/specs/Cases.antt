@@ -4,10 +4,11 @@ use mathlib.Core.Path.{_≡_}
 use mathlib.Core.List.{List, [], _∷_, _++_}
 use mathlib.Core.Bool.{true, false}
 use lib.ListN.{replicate}
-use lib.IntN.{pos, negsuc}
+use lib.IntN.{ℤ, pos, negsuc}
 use Rattle.model.specs.Turns.{Turns}
-use Rattle.model.specs.Steps.{initial, afterStep}
+use Rattle.model.specs.Steps.{Step, initial, afterStep}
 use Rattle.model.specs.Pick.{steps}
+use Rattle.model.specs.Ceiling.{stepCost}
 use Rattle.model.specs.Choice.{fits, goBack, choice}
 use Rattle.turn.specs.declared.Counts.{Counts}
 use Rattle.sheet.specs.Read.{readOf, readRefused}
@@ -32,6 +33,11 @@ shiftTurns = sheetTurns shift
 abbrev pub shiftCounts : Counts
 shiftCounts = record { groomers = 2; slopes = 3 }
 
+-- what each step of a run counts for in the ceiling
+unfoldable pub costsOf : Turns → List ℤ → List Step → List ℕ
+costsOf T s [] = []
+costsOf T s (x ∷ xs) = stepCost T s x ∷ costsOf T (afterStep T s x) xs
+
 -- each case as an equation
 pub record WorkedCases : Type 0 where
   -- the shift: its sheet is read; since R-5 each turn has a driver, here 0
@@ -40,6 +46,8 @@ pub record WorkedCases : Type 0 where
   pub shift-written : writeOf shiftCounts shiftTable (lent 40) ≡ beside (record { refusal = 0; bytes = 38 }) (shiftWritten ++ lent 2)
   -- the shift: the first step leaves 0, 50, -20 and 90
   pub shift-stepped : afterStep shiftTurns (initial shiftTurns) (record { turn = 0; amount = 100 }) ≡ pos 0 ∷ pos 50 ∷ negsuc 19 ∷ pos 90 ∷ []
+  -- the shift: since R-7 its three steps count for 200, 50 and 90, together the ceiling 340
+  pub shift-costs : costsOf shiftTurns (initial shiftTurns) (steps shiftTurns) ≡ 200 ∷ 50 ∷ 90 ∷ []
   -- the shift: going back over the steps chooses 3 and 1
   pub shift-gone-back : goBack shiftTurns (steps shiftTurns) ≡ false ∷ true ∷ false ∷ true ∷ []
   -- the shift: filling adds none since R-2, for turn 2 ends just where turn 3 starts

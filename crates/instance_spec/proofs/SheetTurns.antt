@@ -1,5 +1,7 @@
 -- The turns of a sheet that is not refused, as the model speaks of them: how many they are, and their ranges. Assumes nothing.
 use mathlib.Core.Path.{_≡_, sym, _∙_}
+use mathlib.Core.Logic.{_↔_, _⊎_, inl, inr}
+use mathlib.Core.Bool.{true}
 use mathlib.Core.List.{List}
 use Prim.Native.Nat.{ℕ, _≤_, _<_}
 use native.Mathlib.Omega.{arith}
@@ -7,14 +9,16 @@ use lib.ListN.{getD}
 use Rattle.refusal.specs.Cause.{firstOf}
 use Rattle.turn.specs.declared.Turn.{Turn}
 use Rattle.turn.specs.Turn.{shiftMinutes, mostWorth, InRange, mostDriver}
-use Rattle.model.specs.Turns.{Turns, PositiveLengths}
+use Rattle.model.specs.Turns as model
+use Rattle.model.specs.Turns.{Turns, PositiveLengths, OneDriver, Near, conflict}
+use Rattle.model.proofs.Minutes.{conflict-near}
 use Rattle.sheet.specs.declared.kind.Kind.{Kind}
 use Rattle.sheet.specs.Kind.{mostTurns, garage, Sound}
 use Rattle.sheet.specs.Read.{countsIn, turnCount, turnsOf, causesFor, sheetCauses}
 use Rattle.sheet.proofs.SoundKinds.{garage-sound}
 use Rattle.sheet.proofs.Tables.{turns-length, turns-at, table-row}
 use Rattle.sheet.proofs.Unrefused.{legal-header, row-in-range-for}
-use Rattle.instance_spec.specs.Problem.{noTurn, problemOf, shiftGap, sheetTurns}
+use Rattle.instance_spec.specs.Problem.{noTurn, problemOf, shiftGap, sheetTurns, TooClose, shared, after, before, SheetConflict, one-slope, one-groomer, one-driver}
 
 -- ---- a sheet of any kind that is not refused, with any gap
 
@@ -105,3 +109,34 @@ module _ (s : List ℕ) (z : firstOf (sheetCauses s) ≡ 0) where
   pub sheet-drivers : (t : ℕ) → t < turnCount s → sheetTurns s .driver t ≤ mostDriver
   unfolding sheetTurns sheetCauses
   sheet-drivers = sheet-drivers-for garage garage-sound shiftGap s z
+
+  -- ---- when two of its turns conflict
+
+  near-close : (x y : ℕ) → Near (sheetTurns s) x y → TooClose s x y
+  unfolding sheetTurns problemOf
+  near-close x y (model.shared m a b c d) = shared m a b c d
+  near-close x y (model.after free l e) = after free (omega arith) e
+  near-close x y (model.before free l e) = before free (omega arith) e
+
+  close-near : (x y : ℕ) → TooClose s x y → Near (sheetTurns s) x y
+  unfolding sheetTurns problemOf
+  close-near x y (shared m a b c d) = model.shared m a b c d
+  close-near x y (after free l e) = model.after free (omega arith) e
+  close-near x y (before free l e) = model.before free (omega arith) e
+
+  -- by groomer and by driver: where they are too close, and nowhere else
+  pub sheet-conflict : (x y : ℕ) → x < turnCount s → y < turnCount s → conflict (sheetTurns s) x y ≡ true ↔ SheetConflict s x y
+  sheet-conflict x y hx hy = (λ e. to (both .0 e), λ c. both .1 (from c))
+    where
+      both : conflict (sheetTurns s) x y ≡ true ↔ ((sheetTurns s .slope x ≡ sheetTurns s .slope y) ⊎ (((sheetTurns s .groomer x ≡ sheetTurns s .groomer y) ⊎ OneDriver (sheetTurns s) x y) × Near (sheetTurns s) x y))
+      both = conflict-near (sheetTurns s) sheet-lengths x y (omega (arith, sheet-count)) (omega (arith, sheet-count))
+
+      to : (sheetTurns s .slope x ≡ sheetTurns s .slope y) ⊎ (((sheetTurns s .groomer x ≡ sheetTurns s .groomer y) ⊎ OneDriver (sheetTurns s) x y) × Near (sheetTurns s) x y) → SheetConflict s x y
+      to (inl e) = one-slope e
+      to (inr (inl e, n)) = one-groomer e (near-close x y n)
+      to (inr (inr d, n)) = one-driver d (near-close x y n)
+
+      from : SheetConflict s x y → (sheetTurns s .slope x ≡ sheetTurns s .slope y) ⊎ (((sheetTurns s .groomer x ≡ sheetTurns s .groomer y) ⊎ OneDriver (sheetTurns s) x y) × Near (sheetTurns s) x y)
+      from (one-slope e) = inl e
+      from (one-groomer e n) = inr (inl e, close-near x y n)
+      from (one-driver d n) = inr (inr d, close-near x y n)

@@ -66,7 +66,7 @@ module _ (T : Turns) where
     conflict-is x y hx hy = (conflict-reads x y hx hy, reads-conflict x y)
 
     -- conflict in the second form of the words
-    abbrev NearConflict : ℕ → ℕ → Type 0
+    abbrev pub NearConflict : ℕ → ℕ → Type 0
     NearConflict x y = (T .slope x ≡ T .slope y) ⊎ (((T .groomer x ≡ T .groomer y) ⊎ OneDriver T x y) × Near T x y)
 
     pub conflict-near : (x y : ℕ) → x < T .count → y < T .count → conflict T x y ≡ true ↔ NearConflict x y

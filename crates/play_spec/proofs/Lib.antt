@@ -1,5 +1,6 @@
 pub mod Stints
 pub mod Delayed
+pub mod Planned
 pub mod Days
 pub mod Standings
 pub mod TableStints

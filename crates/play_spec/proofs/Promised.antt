@@ -2,7 +2,8 @@
 use Prim.Native.Nat.{ℕ, suc, _+_, _-_, _≤_, _<_}
 use mathlib.Core.Path.{_≡_, sym, _∙_, ap, refl}
 use mathlib.Core.Logic.{_↔_}
-use mathlib.Core.Bool.{true, false, true≢false}
+use mathlib.Core.Bool.{true, false, cond, true≢false}
+use lib.Dec.{eqb}
 use mathlib.Core.List.{List, _++_}
 use native.Mathlib.Omega.{arith}
 use native.Mathlib.Decide.{decLt}
@@ -13,11 +14,11 @@ use Rattle.lists.proofs.Sums.{tab-length, tab-at}
 use Rattle.refusal.specs.Cause.{firstOf}
 use Rattle.turn.specs.Turn.{shiftMinutes}
 use Rattle.sheet.specs.Read.{countsIn, turnCount, sheetCauses}
-use Rattle.sheet.proofs.Unrefused.{few-groomers}
-use Rattle.model.specs.Choice.{has}
+use Rattle.sheet.proofs.Unrefused.{few-groomers, few-turns}
+use Rattle.model.specs.Choice.{has, chosen}
 use Rattle.choice_map.proofs.Clean.{choice-length}
 use Rattle.instance_spec.specs.Problem.{problemOf, sheetTurns}
-use Rattle.instance_spec.proofs.SheetTurns.{sheet-count, sheet-lengths, sheet-groomers}
+use Rattle.instance_spec.proofs.SheetTurns.{sheet-count, sheet-lengths, sheet-ends, sheet-groomers}
 use Rattle.board.specs.Board.{boardTurns, boardMap, boardChoice}
 use Rattle.check_spec.specs.Check.{BoardKeeps}
 use Rattle.check_spec.proofs.Passing.{passes-parts}
@@ -26,6 +27,7 @@ use Rattle.play_spec.specs.Day.{overMinutes, delayIn, dayOf, works, doin
 use Rattle.play_spec.specs.Standing.{lastMinute, freshOf, standingAfter, StandingIs}
 use Rattle.play_spec.proofs.Stints.{day-laid}
 use Rattle.play_spec.proofs.Delayed.{longer-later, on-time}
+use Rattle.play_spec.proofs.Planned.{worked-planned, hand-planned}
 use Rattle.play_spec.proofs.Days.{day-is, doing-is}
 use Rattle.play_spec.proofs.Standings.{standing-is}
 use Rattle.play_spec.specs.DayTable.{Days}
@@ -122,6 +124,38 @@ module _ (s b delays : List ℕ) (lent : List Standing) (z : playOf s b delays l
           last = by-then shiftMinutes (omega arith) (omega arith) ∙ sym (ap (λ (p : Outcome PlayAnswer (List Standing)). p .lent) is-played);
         }
 
+  -- ---- without delays
+
+  module _ (none : (u : ℕ) → delayIn delays u ≡ 0) (g : ℕ) (l : g < countsIn s .groomers) where
+    clear : firstOf (sheetCauses s) ≡ 0
+    clear = passes-parts s b (play-clear s b delays lent z .0) .0
+
+    there : (m u : ℕ) → doingAt (dayAt s b delays g) m ≡ works u → (u < sheetTurns s .count) × (has (boardChoice b) u ≡ true) × (sheetTurns s .groomer u ≡ suc g)
+    there m u e =
+        let (i, k, t, w) = its-doings s b delays g m .works-iff u .0 e in
+        let o = its-day s b delays g .its-own i k in rw (← t) (o .inside, o .chosen, o .groomer-is)
+
+    timely : (u : ℕ) → u < sheetTurns s .count → has (boardChoice b) u ≡ true → sheetTurns s .groomer u ≡ suc g → OnTime (sheetTurns s) (dayAt s b delays g) u
+    timely u k c e =
+        let (h, m, f, o) = its-time s b delays clear (passes-parts s b (play-clear s b delays lent z .0) .1) none u c in
+        let q : h ≡ g = omega (arith, e, f) in
+        rw (← q) o
+
+    worked-there : getD (playOf s b delays lent .lent) g freshOf .working ≡ chosen (turnCount s) (boardChoice b) (λ u. cond (eqb (sheetTurns s .groomer u) (suc g)) (sheetTurns s .end u - sheetTurns s .start u) 0)
+    worked-there =
+        its-counts g l .working-is
+        ∙ worked-planned (sheetTurns s) (boardChoice b) (suc g) (dayAt s b delays g) there timely shiftMinutes (λ u k. (omega (arith, sheet-lengths s clear u k), sheet-ends s clear u (omega (arith, sheet-count s clear))))
+        ∙ ap (λ (n : ℕ). chosen n (boardChoice b) (λ u. cond (eqb (sheetTurns s .groomer u) (suc g)) (sheetTurns s .end u - sheetTurns s .start u) 0)) (sheet-count s clear)
+
+    hand-there : (u : ℕ) → u < turnCount s → (getD (playOf s b delays lent .lent) g freshOf .turn ≡ u) ↔ ((has (boardChoice b) u ≡ true) × (sheetTurns s .groomer u ≡ suc g) × (sheetTurns s .end u ≡ shiftMinutes))
+    hand-there u k =
+        let few : u < sheetTurns s .count = omega (arith, sheet-count s clear) in
+        let w = hand-planned (sheetTurns s) (boardChoice b) (suc g) (dayAt s b delays g) there timely lastMinute u few (λ e. omega (arith, few-turns s clear, e)) in
+        let t = its-counts g l .turn-is in (
+          λ e. let (c, h, a, m) = w .0 (sym t ∙ e) in (c, h, omega (arith, sheet-ends s clear u k, m)),
+          λ (c, h, m). t ∙ w .1 (c, h, omega (arith, sheet-lengths s clear u few, m), omega (arith, m)),
+        )
+
   pub play-promised : PlayPromised s b delays lent
   play-promised =
       let parts = passes-parts s b (play-clear s b delays lent z .0) in
@@ -134,6 +168,8 @@ module _ (s b delays : List ℕ) (lent : List Standing) (z : playOf s b delays l
         doings = its-doings s b delays;
         its-own = its-turn s b delays;
         on-time = its-time s b delays (parts .0) (parts .1);
+        on-time-worked = λ none g l. worked-there none g l;
+        on-time-turn = λ none g l u k. hand-there none g l u k;
         table-there = table-there (sheetTurns s) (boardChoice b) (delayIn delays);
         by-minutes = moved-by;
       }

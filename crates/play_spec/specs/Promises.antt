@@ -1,12 +1,14 @@
 -- What a board played with delays hands back where nothing is refused (request R-13). Assumes nothing.
 use mathlib.Core.Path.{_≡_}
-use mathlib.Core.Bool.{true}
+use mathlib.Core.Logic.{_↔_}
+use mathlib.Core.Bool.{true, cond}
 use mathlib.Core.List.{List}
-use Prim.Native.Nat.{ℕ, suc, _<_}
+use Prim.Native.Nat.{ℕ, suc, _-_, _<_}
+use lib.Dec.{eqb}
 use lib.ListN.{getD, take, drop}
 use Rattle.turn.specs.Turn.{shiftMinutes}
-use Rattle.sheet.specs.Read.{countsIn}
-use Rattle.model.specs.Choice.{has}
+use Rattle.sheet.specs.Read.{countsIn, turnCount}
+use Rattle.model.specs.Choice.{has, chosen}
 use Rattle.instance_spec.specs.Problem.{sheetTurns}
 use Rattle.board.specs.Board.{boardChoice}
 use Rattle.play_spec.specs.declared.Standing.{Standing}
@@ -47,6 +49,11 @@ pub record PlayPromised (s b delays : List ℕ) (lent : List Standing) : Type 0 
   pub its-own : (g m u : ℕ) → doingAt (dayAt s b delays g) m ≡ works u → (has (boardChoice b) u ≡ true) × (sheetTurns s .groomer u ≡ suc g)
   -- without delays every chosen turn has its groomer's place in the list, and is worked there in its planned minutes and in no others
   pub on-time : ((u : ℕ) → delayIn delays u ≡ 0) → (u : ℕ) → has (boardChoice b) u ≡ true → (g : ℕ) × (g < countsIn s .groomers) × (sheetTurns s .groomer u ≡ suc g) × OnTime (sheetTurns s) (dayAt s b delays g) u
+  -- so that at its place the minutes worked are the lengths of its chosen turns, added up, and a turn is in hand at the end exactly if it is one of them and ends with the shift
+  pub on-time-worked : ((u : ℕ) → delayIn delays u ≡ 0) → (g : ℕ) → g < countsIn s .groomers →
+      getD (playOf s b delays lent .lent) g freshOf .working ≡ chosen (turnCount s) (boardChoice b) (λ u. cond (eqb (sheetTurns s .groomer u) (suc g)) (sheetTurns s .end u - sheetTurns s .start u) 0)
+  pub on-time-turn : ((u : ℕ) → delayIn delays u ≡ 0) → (g : ℕ) → g < countsIn s .groomers → (u : ℕ) → u < turnCount s →
+      (getD (playOf s b delays lent .lent) g freshOf .turn ≡ u) ↔ ((has (boardChoice b) u ≡ true) × (sheetTurns s .groomer u ≡ suc g) × (sheetTurns s .end u ≡ shiftMinutes))
   -- there is a table that holds the days, and by each such table the list is moved minute by minute
   pub table-there : (table : List ℕ) × Days (sheetTurns s) (boardChoice b) (delayIn delays) table
   pub by-minutes : (table : List ℕ) → Days (sheetTurns s) (boardChoice b) (delayIn delays) table → MovedByMinutes s b delays lent table
