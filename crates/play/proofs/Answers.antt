@@ -1,11 +1,11 @@
 -- What is judged before the first minute, and the entry's answer, by cases; each premise in the form in which the code's calls and tests leave it. Assumes nothing.
 use Prim.Native.Nat.{ℕ, suc, _*_, _≤_, _<_}
 use mathlib.Core.Path.{_≡_, refl, sym, _∙_, ap, subst}
-use mathlib.Core.Bool.{Bool, true, false, not, _&&_}
+use mathlib.Core.Bool.{Bool, true, false, _&&_}
 use mathlib.Core.List.{List, [], _∷_, _++_}
 use native.Mathlib.Omega.{arith}
 use native.Mathlib.Decide.{ℕ-discrete}
-use lib.Dec.{T, eqb}
+use lib.Dec.{eqb}
 use lib.ListN.{length, drop}
 use borrow.Author.Tests.{eq-eqb, ne-eqb, eqb-true}
 use Rattle.lists.specs.Lists.{tab}
@@ -45,8 +45,8 @@ use Rattle.play_spec.specs.declared.Standing.{Standing}
 use Rattle.play_spec.specs.declared.PlayAnswer.{PlayAnswer}
 use Rattle.play.specs.declared.preparing.Prepared.{Prepared}
 use Rattle.play.specs.declared.preparing.Lent.{Lent}
-use Rattle.play_days.specs.Table.{blankTable, GroomersKnown, Playable}
-use Rattle.play_days.proofs.Rows.{blank-places}
+use Rattle.play.specs.Table.{blankTable, GroomersKnown, Playable}
+use Rattle.play.proofs.Rows.{blank-places}
 use Rattle.play_spec.specs.Standing.{standingAfter}
 use Rattle.play_spec.specs.Play.{servesFor, lentCauses, playCauses, dayAt, standingsOf, playRefused, playOf}
 use Rattle.play_spec.specs.Minutes.{minutesFrom}
@@ -77,18 +77,19 @@ append-assoc (x ∷ xs) ys zs = ap (λ (ws : List Cause). x ∷ ws) (append-asso
 -- ---- what is prepared
 
 abbrev Refused : Prepared → ℕ → Type 0
-Refused p k = (p .refusal ≡ k) × (p .groomers ≡ 0) × (p .moved ≡ 0)
+Refused p k = (p .refusal ≡ k) × (p .groomers ≡ 0) × (p .moved ≡ 0) × (p .minutes ≡ 0)
 
 given : (causes : List Cause) (T : Turns) (lent : Lent) (S : List Bool) (delays : List ℕ) (k : ℕ) (p : Prepared) (table : List ℕ) → firstOf causes ≡ k → (k ≡ 0 → ⊥) → table ≡ blankTable → Refused p k → PreparedBy causes T lent S delays p table
 given causes T lent S delays k p table e z b q = record {
   number = q .0 ∙ sym e;
-  none = λ _. q .1;
-  groomers-are = λ y. absurd (z (sym (q .0) ∙ y));
+  none = λ _. (q .1, q .3);
+  all = λ y. absurd (z (sym (q .0) ∙ y));
   days = λ y. absurd (z (sym (q .0) ∙ y));
   places-are = blank-places b;
   moved-are = q .2 ∙ sym (q .1);
   few = omega (arith, q .2);
   inside = omega (arith, q .2);
+  most = omega (arith, q .3);
 }
 
 -- the same where causes that are not there stand in front
@@ -96,12 +97,13 @@ carried : (front causes : List Cause) (T : Turns) (lent : Lent) (S : List Bool) 
 carried front causes T lent S delays p table e w = record {
   number = w .number ∙ sym e;
   none = w .none;
-  groomers-are = w .groomers-are;
+  all = w .all;
   days = w .days;
   places-are = w .places-are;
   moved-are = w .moved-are;
   few = w .few;
   inside = w .inside;
+  most = w .most;
 }
 
 -- ---- as the code leaves it: for a board that passes
@@ -117,17 +119,18 @@ module _ (p : Size) (cols : List ℕ) (lent : Lent) (b delays : List ℕ) where
   days-small x table d f l o r = given its (turnsBy p cols) lent (boardChoice b) delays bufferTooSmall x table (by-places (lent .groomers) (p .count) delays (lent .places) (sym d ∙ f) l) (λ n. omega (arith, n)) o r
 
   pub days-done : {c : Bool} {map table : List ℕ} → c ≡ servesFor (p .count) delays → c ≡ true → lent .groomers ≤ lent .places → lent .groomers ≤ mostGroomers → boardTurns b ≡ p .count → map ≡ boardMap b → Days (turnsBy p cols) (choiceIn (p .count) map) (delayIn delays) table
-      → PreparedBy (lentCauses (lent .groomers) (p .count) delays (lent .places)) (turnsBy p cols) lent (boardChoice b) delays (record { refusal = 0; groomers = lent .groomers; moved = lent .groomers }) table
+      → PreparedBy (lentCauses (lent .groomers) (p .count) delays (lent .places)) (turnsBy p cols) lent (boardChoice b) delays (record { refusal = 0; groomers = lent .groomers; moved = lent .groomers; minutes = shiftMinutes }) table
   unfolding boardChoice
   days-done d f l few n m t = record {
     number = sym (by-none (lent .groomers) (p .count) delays (lent .places) (sym d ∙ f) l);
     none = λ z. absurd (z refl);
-    groomers-are = λ _. refl;
+    all = λ _. (refl, refl);
     days = λ _. rw (n, ← m) t;
     places-are = t .places;
     moved-are = refl;
     few = few;
     inside = l;
+    most = omega arith;
   }
 
   pub days-bits : (map : List ℕ) → boardTurns b ≡ p .count → length map ≡ mapBytes (boardTurns b) → p .count ≤ 8 * length map
@@ -224,30 +227,28 @@ pub ruleset prepared-cases = (sheet-refused, sheet-prepared)
 abbrev standingsUpTo : List ℕ → List ℕ → List ℕ → ℕ → List Standing
 standingsUpTo s b delays k = tab k (λ g. standingAfter (dayOf (sheetTurns s) (boardChoice b) (delayIn delays) (suc g)) shiftMinutes)
 
-module _ (s b delays : List ℕ) (lent : List Standing) (p : Prepared) (table : List ℕ) (w : PreparedFor s b delays (length lent) p table) {r : PlayAnswer} (x : r ≡ record { refusal = p .refusal; groomers = p .groomers }) where
-  -- where something is refused, the list is as it was
-  pub play-refused : (p .refusal ≡ 0 → ⊥) → beside r lent ≡ playOf s b delays lent
-  unfolding playOf
-  play-refused z =
-      let c : r ≡ playRefused (p .refusal) = x ∙ (λ i. record { refusal = p .refusal; groomers = w .none z i }) in
-      rw c (sym (unless-first (playCauses s b delays (length lent)) _ (λ k. beside (playRefused k) lent) (p .refusal) (sym (w .number)) z))
+-- the answer that is made of what is prepared, beside the list that the minutes leave; on a refusal none is played, and the list is as it was
+module _ (s b delays : List ℕ) (lent : List Standing) (p : Prepared) (table : List ℕ) (w : PreparedFor s b delays (length lent) p table) where
+  abbrev answer : PlayAnswer
+  answer = record { refusal = p .refusal; groomers = p .groomers }
 
-  pub play-answer : p .refusal ≡ 0 → {zs : List Standing} → zs ≡ minutesFrom shiftMinutes 0 (p .moved) lent table → beside r zs ≡ playOf s b delays lent
+  refused-answer : (p .refusal ≡ 0 → ⊥) → beside answer (minutesFrom (p .minutes) 0 (p .moved) lent table) ≡ playOf s b delays lent
+  unfolding playOf minutesFrom
+  refused-answer z =
+      let c : answer ≡ playRefused (p .refusal) = λ i. record { refusal = p .refusal; groomers = w .none z .0 i } in
+      rw (w .none z .1, c) (sym (unless-first (playCauses s b delays (length lent)) _ (λ k. beside (playRefused k) lent) (p .refusal) (sym (w .number)) z))
+
+  played-answer : p .refusal ≡ 0 → beside answer (minutesFrom (p .minutes) 0 (p .moved) lent table) ≡ playOf s b delays lent
   unfolding playOf standingsOf dayAt
-  play-answer z y =
-      let n : p .groomers ≡ countsIn s .groomers = w .groomers-are z in
-      let a = y ∙ minutes-say (sheetTurns s) (boardChoice b) (delayIn delays) table (w .days z) (p .moved) (w .few) lent (w .inside) shiftMinutes (omega arith) (omega arith) ∙ ap (λ (k : ℕ). standingsUpTo s b delays k ++ drop k lent) (w .moved-are ∙ n) in
-      let c : r ≡ record { refusal = 0; groomers = countsIn s .groomers } = x ∙ (λ i. record { refusal = z i; groomers = n i }) in
-      rw (a, c) (sym (unless-none (playCauses s b delays (length lent)) _ (λ k. beside (playRefused k) lent) (sym (w .number) ∙ z)))
+  played-answer z =
+      let n : p .groomers ≡ countsIn s .groomers = w .all z .0 in
+      let a = minutes-say (sheetTurns s) (boardChoice b) (delayIn delays) table (w .days z) (p .moved) (w .few) lent (w .inside) shiftMinutes (omega arith) (omega arith) ∙ ap (λ (k : ℕ). standingsUpTo s b delays k ++ drop k lent) (w .moved-are ∙ n) in
+      let c : answer ≡ record { refusal = 0; groomers = countsIn s .groomers } = λ i. record { refusal = z i; groomers = n i } in
+      rw (w .all z .1, a, c) (sym (unless-none (playCauses s b delays (length lent)) _ (λ k. beside (playRefused k) lent) (sym (w .number) ∙ z)))
 
--- ---- the test of a refusal's number, as a branch leaves it
-
-pub is-some : (n : ℕ) → T (not (eqb n 0)) → n ≡ 0 → ⊥
-is-some n t z = subst (λ (y : Bool). T (not y)) (eq-eqb n 0 z) t
-
-pub is-none : (n : ℕ) → T (not (not (eqb n 0))) → n ≡ 0
-is-none n t = go (ℕ-discrete n 0)
-  where
-    go : Dec (n ≡ 0) → n ≡ 0
-    go (yes e) = e
-    go (no e) = absurd (subst (λ (y : Bool). T (not (not y))) (ne-eqb n 0 e) t)
+  pub play-answer : {zs : List Standing} → zs ≡ minutesFrom (p .minutes) 0 (p .moved) lent table → beside answer zs ≡ playOf s b delays lent
+  play-answer y = rw y (go (ℕ-discrete (p .refusal) 0))
+    where
+      go : Dec (p .refusal ≡ 0) → beside answer (minutesFrom (p .minutes) 0 (p .moved) lent table) ≡ playOf s b delays lent
+      go (yes z) = played-answer z
+      go (no z) = refused-answer z

@@ -1,7 +1,5 @@
+pub mod Rows
+pub mod Steps
 pub mod Again
 pub mod Whole
 pub mod Answers
-pub mod Packed
-pub mod Agenda
-pub mod Listed
-pub mod Sums

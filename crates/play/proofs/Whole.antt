@@ -3,8 +3,7 @@
 --     all-in           a local that holds it, as an array in memory: what is lent as one value
 --     apart            an array in memory as its elements side by side: what is lent as a shared slice
 --     together         and back
---     elements         a local that holds an array, as its elements
---     elements-back    and back, once the slice is
+--     elements-back    as the value of a local, once the slice is back
 use mathlib.Core.Path.{_≡_, refl, sym}
 use Prim.Native.Nat.{ℕ, suc, zero, _<_, _^_}
 use mathlib.Core.List.{List, [], _∷_}
@@ -18,7 +17,7 @@ use base.Logic.{ent, ex, sep}
 use base.Fml.{fat}
 use prog.Wp.{Heap}
 use ghost.Atoms.{Atoms, sem}
-use types.Kit.{Given, ‵, ⋆, _$_, _∵_, !, qed, by, move, use0, use1, use2, rewrite, done}
+use types.Kit.{Given, ‵, _$_, _∵_, !, qed, by, move, use0, use1, use2, rewrite, done}
 use types.Share.{arr-parts}
 use denote.RattleType.{RattleType}
 use denote.Array.{Array, each, arrayVal, array-lawful, array-makes}
@@ -57,13 +56,9 @@ module _ {M : Type 1} (𝓤 : URA M) (H : Heap 𝓤) (A : Atoms 𝓤) (W : Given
       qed W (‵ (partAt (Numbers w n) fullShare xs b 0) ∷ []) ∵ use1 W (‵ (arr-parts (shares (UInt w)) n .part fullShare xs b 0)) (array-apart 𝓤 H A W (UInt w) fullShare tt n xs b 0) $
       rewrite ! 0 (λ (k : ℕ). ‵ (arr-parts (shares (UInt w)) k .part fullShare xs b 0)) (sym size) refl $ done !
 
-  pub together : ent 𝓤 (sem 𝓤 H A (arr-parts (shares (UInt w)) (length xs) .part fullShare xs b 0)) (sem 𝓤 H A (partAt (Numbers w n) fullShare xs b 0))
+  together : ent 𝓤 (sem 𝓤 H A (arr-parts (shares (UInt w)) (length xs) .part fullShare xs b 0)) (sem 𝓤 H A (partAt (Numbers w n) fullShare xs b 0))
   together =
       qed W (‵ (arr-parts (shares (UInt w)) (length xs) .part fullShare xs b 0) ∷ []) ∵ rewrite ! 0 (λ (k : ℕ). ‵ (arr-parts (shares (UInt w)) k .part fullShare xs b 0)) size refl $ by ! (array-whole 𝓤 H A W (UInt w) fullShare n xs b 0)
-
-  pub elements : (v : Val) → ent 𝓤 (⋆ 𝓤 H A (‵ (fat fullShare (tyArray (tyInt w) n) b 0 v) ∷ ‵ (Numbers w n .own xs (v ∷ [])) ∷ [])) (sem 𝓤 H A (arr-parts (shares (UInt w)) (length xs) .part fullShare xs b 0))
-  elements v =
-      qed W (‵ (fat fullShare (tyArray (tyInt w) n) b 0 v) ∷ ‵ (Numbers w n .own xs (v ∷ [])) ∷ []) ∵ use2 W (‵ (partAt (Numbers w n) fullShare xs b 0)) (part-in 𝓤 H A W (Numbers w n) refl fullShare xs b 0 v) $ by ! apart
 
   pub elements-back : ent 𝓤 (sem 𝓤 H A (arr-parts (shares (UInt w)) (length xs) .part fullShare xs b 0)) (ex 𝓤 (λ (v : Val). sep 𝓤 (H .at fullShare (tyArray (tyInt w) n) b 0 v) (sem 𝓤 H A (Numbers w n .own xs (v ∷ [])))))
   elements-back =

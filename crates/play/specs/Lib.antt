@@ -1,3 +1,2 @@
-pub mod Packed
-pub mod Agenda
+pub mod Table
 pub mod Prepared

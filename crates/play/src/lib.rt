@@ -1,28 +1,18 @@
 // A shift in which turns are late, gone through by minutes. The caller lends a list; it holds a standing for
 // each groomer, which every minute moves on.
-mod changes;
+mod days;
 mod moving;
 mod preparing;
 
 ghost use mathlib.Core.Path.{_≡_};
 ghost use Rattle.refusal.specs.Outcome.{beside};
 ghost use Rattle.play_spec.specs.Play.{playOf};
-use moving::minutes;
-use play_days::DAY_TABLE_PLACES;
-use play_days::MINUTES;
+use days::DAY_TABLE_PLACES;
+use days::MINUTES;
+use moving::minute;
 use play_spec::PlayAnswer;
 use play_spec::Standing;
-use preparing::Prepared;
 use preparing::prepare;
-
-fn answer_of(p: Prepared) -> PlayAnswer
-    ensures { λ r. ⌜ r ≡ record { refusal = p .refusal; groomers = p .groomers } ⌝ }
-{
-    PlayAnswer {
-        refusal: p.refusal,
-        groomers: p.groomers,
-    }
-}
 
 // Plays a board for a sheet through, with a delay for each turn; the standings of the sheet's groomers go
 // into the lent list. That the minutes of the table give the standings of the days is the law `minutes-say`
@@ -37,9 +27,13 @@ pub fn play<'a>(
 {
     let mut table = [MINUTES; DAY_TABLE_PLACES];
     let p = prepare(sheet, board, delays, list.len(), &mut table);
-    if p.refusal != 0 {
-        return answer_of(p);
+    let mut m = 0;
+    while m < p.minutes {
+        minute(list, &table, p.moved, m);
+        m = m + 1;
     }
-    minutes(list, &table, p.moved);
-    answer_of(p)
+    PlayAnswer {
+        refusal: p.refusal,
+        groomers: p.groomers,
+    }
 }

@@ -10,17 +10,22 @@ ghost use Rattle.board.specs.Board.{boardTurns, boardChoice};
 ghost use Rattle.board_open.specs.Open.{malformed};
 ghost use Rattle.check_spec.specs.Check.{boardCauses};
 ghost use Rattle.play_spec.specs.Play.{servesFor, lentCauses};
-ghost use Rattle.play_days.specs.Table.{blankTable, GroomersKnown, Playable};
+ghost use Rattle.play.specs.Table.{blankTable, GroomersKnown, Playable};
 ghost use Rattle.play.specs.Prepared.{PreparedBy, PreparedFor};
+use super::days::DAY_TABLE_PLACES;
+use super::days::MINUTES;
+use super::days::delays_fit;
+use super::days::put_days;
 use instance::PLACES;
 use instance::Size;
-use play_days::DAY_TABLE_PLACES;
 
-// What is known before the first minute: the answer, and how many standings are moved.
+// What is known before the first minute: the answer, and how many minutes are played of how many groomers, none
+// on a refusal.
 pub struct Prepared {
     pub refusal: u8,
     pub groomers: u16,
     pub moved: usize,
+    pub minutes: u16,
 }
 
 // How many standings are wanted, and how many places the caller lends for them.
@@ -30,12 +35,13 @@ pub struct Lent {
 }
 
 fn refused(k: u8) -> Prepared
-    ensures { λ r. ⌜ (r .refusal ≡ k) × (r .groomers ≡ 0) × (r .moved ≡ 0) ⌝ }
+    ensures { λ r. ⌜ (r .refusal ≡ k) × (r .groomers ≡ 0) × (r .moved ≡ 0) × (r .minutes ≡ 0) ⌝ }
 {
     Prepared {
         refusal: k,
         groomers: 0,
         moved: 0,
+        minutes: 0,
     }
 }
 
@@ -44,7 +50,7 @@ fn delays_serve(delays: &[u16], n: usize) -> bool
     ensures { λ r. ⌜ r ≡ servesFor n (now (delays .entry)) ⌝ }
 {
     if delays.len() == n {
-        return play_days::delays_fit(delays);
+        return delays_fit(delays);
     }
     false
 }
@@ -68,11 +74,12 @@ fn prepare_days(
             return refused(refusal::BUFFER_TOO_SMALL);
         }
         let map = board_open::map(board);
-        play_days::put_days(p, cols, map, delays, &mut *table);
+        put_days(p, cols, map, delays, &mut *table);
         return Prepared {
             refusal: 0,
             groomers: lent.groomers,
             moved: lent.groomers as usize,
+            minutes: MINUTES,
         };
     }
     refused(refusal::BAD_DELAYS)
@@ -93,8 +100,8 @@ fn prepare_board(
         ++ lentCauses (lent .groomers) (p .count) (now (delays .entry)) (lent .places)) (turnsBy p (now (cols .entry))) lent
         (boardChoice (now (board .entry))) (now (delays .entry)) r (now (table .exit)) ⌝ }
 {
-    let mut room = [0u16; PLACES];
-    let judgement = check_board::board_fault(board, p, cols, &mut room);
+    let mut scratch = [0u16; PLACES];
+    let judgement = check_board::board_fault(board, p, cols, &mut scratch);
     if judgement.fault != 0 {
         return refused(judgement.fault);
     }

@@ -47,25 +47,21 @@ length-minute zero g l table m = refl
 length-minute (suc k) g l table m = length-minute k (g + 1) (set l g (stepOf (getD l g freshOf) table g m)) table m ∙ length-set l g (stepOf (getD l g freshOf) table g m)
 
 pub record Mid (n : ℕ) (ys : List Standing) (table : List ℕ) (m g : ℕ) (l : List Standing) : Type 0 where
-  pub upto : g ≤ n
   pub same : length l ≡ length ys
   pub rest : minuteOf (n - g) g l table m ≡ minuteOf n 0 ys table m
   pub ready : (j : ℕ) → g ≤ j → j < n → MinuteReady table j m (getD l j freshOf)
-  pub kept : (j : ℕ) → g ≤ j → getD l j freshOf ≡ getD ys j freshOf
 
 module _ (n : ℕ) (ys : List Standing) (table : List ℕ) (m : ℕ) where
   pub mid-start : AllReady table m n ys → Mid n ys table m 0 ys
-  mid-start h = record { upto = omega arith; same = refl; rest = rw sub-zero; ready = λ j _ l. h j l; kept = λ j _. refl }
+  mid-start h = record { same = refl; rest = rw sub-zero; ready = λ j _ l. h j l }
 
   pub mid-next : (g : ℕ) (l : List Standing) → g < n → Mid n ys table m g l → Mid n ys table m (g + 1) (set l g (stepOf (getD l g freshOf) table g m))
   unfolding minuteOf
   mid-next g l less i = record {
-    upto = omega arith;
     same = length-set l g (stepOf (getD l g freshOf) table g m) ∙ i .same;
     rest = let k : n - g ≡ suc (n - (g + 1)) = omega arith in rw k at (i .rest);
     ready = λ j from to. let other : j ≡ g → ⊥ = λ e. omega arith in let e : getD (set l g (stepOf (getD l g freshOf) table g m)) j freshOf ≡ getD l j freshOf = getD-set-other l g j (stepOf (getD l g freshOf) table g m) freshOf other in
         let below : g ≤ j = omega arith in rw e (i .ready j below to);
-    kept = λ j from. let other : j ≡ g → ⊥ = λ e. omega arith in getD-set-other l g j (stepOf (getD l g freshOf) table g m) freshOf other ∙ i .kept j (omega arith);
   }
 
   pub mid-end : (g : ℕ) (l : List Standing) → n ≤ g → Mid n ys table m g l → l ≡ minuteOf n 0 ys table m
@@ -103,27 +99,25 @@ minute-ready n l table m room day h g less =
     let later : m + 1 ≡ 0 → ⊥ = λ z. omega arith in
     (h g less .0, h g less .1, day, ap totalOf (sym (begun-later (getD (minuteOf n 0 l table m) g freshOf) (m + 1) later) ∙ e) ∙ step-total (getD l g freshOf) table g m (h g less))
 
--- ---- the minutes. What the loop of `minutes` keeps
-pub record Minutes (n : ℕ) (ys : List Standing) (table : List ℕ) (m : ℕ) (l : List Standing) : Type 0 where
-  pub upto : m ≤ shiftMinutes
+-- ---- the minutes, so many of them. What the loop of `play` keeps
+pub record Minutes (total n : ℕ) (ys : List Standing) (table : List ℕ) (m : ℕ) (l : List Standing) : Type 0 where
   pub same : length l ≡ length ys
-  pub rest : minutesFrom (shiftMinutes - m) m n l table ≡ minutesFrom shiftMinutes 0 n ys table
+  pub rest : minutesFrom (total - m) m n l table ≡ minutesFrom total 0 n ys table
   pub ready : m < shiftMinutes → AllReady table m n l
 
-module _ (n : ℕ) (ys : List Standing) (table : List ℕ) where
-  pub minutes-start : n ≤ mostGroomers → length table ≡ dayTablePlaces → Minutes n ys table 0 ys
+module _ (total n : ℕ) (ys : List Standing) (table : List ℕ) where
+  pub minutes-start : n ≤ mostGroomers → length table ≡ dayTablePlaces → Minutes total n ys table 0 ys
   unfolding begunOf
-  minutes-start few places = record { upto = omega arith; same = refl; rest = refl; ready = λ _ g less. (places, omega arith, omega arith, refl) }
+  minutes-start few places = record { same = refl; rest = rw sub-zero; ready = λ _ g less. (places, omega arith, omega arith, refl) }
 
-  pub minutes-next : (m : ℕ) (l : List Standing) → n ≤ length ys → m < shiftMinutes → Minutes n ys table m l → Minutes n ys table (m + 1) (minuteOf n 0 l table m)
+  pub minutes-next : (m : ℕ) (l : List Standing) → n ≤ length ys → m < total → m < shiftMinutes → Minutes total n ys table m l → Minutes total n ys table (m + 1) (minuteOf n 0 l table m)
   unfolding minutesFrom
-  minutes-next m l room less i = record {
-    upto = omega arith;
+  minutes-next m l room less within i = record {
     same = length-minute n 0 l table m ∙ i .same;
-    rest = let k : shiftMinutes - m ≡ suc (shiftMinutes - (m + 1)) = omega arith in rw k at (i .rest);
-    ready = λ day. let within : n ≤ length l = rw (i .same) room in minute-ready n l table m within day (i .ready less);
+    rest = let k : total - m ≡ suc (total - (m + 1)) = omega arith in rw k at (i .rest);
+    ready = λ day. let enough : n ≤ length l = rw (i .same) room in minute-ready n l table m enough day (i .ready within);
   }
 
-  pub minutes-end : (m : ℕ) (l : List Standing) → shiftMinutes ≤ m → Minutes n ys table m l → l ≡ minutesFrom shiftMinutes 0 n ys table
+  pub minutes-end : (m : ℕ) (l : List Standing) → total ≤ m → Minutes total n ys table m l → l ≡ minutesFrom total 0 n ys table
   unfolding minutesFrom
-  minutes-end m l over i = let k : shiftMinutes - m ≡ 0 = omega arith in rw k at (i .rest)
+  minutes-end m l over i = let k : total - m ≡ 0 = omega arith in rw k at (i .rest)

@@ -1,3 +1,4 @@
+-- `begun` meets its contract: what a minute starts from.
 use Rattle.play_spec.proofs.Moves.{begun-cases}
 use borrow.Author.Needs.{needs}
 use Rattle.play.proofs.moving.begun.Statement.{statement}

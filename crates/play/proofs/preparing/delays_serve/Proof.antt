@@ -1,3 +1,4 @@
+-- `delays_serve` meets its contract: whether there is a delay for each turn, each within its limit.
 use Rattle.play.proofs.Answers.{serves-cases}
 use borrow.Author.Needs.{needs}
 use Rattle.play.proofs.preparing.delays_serve.Statement.{statement}

@@ -1,3 +1,4 @@
+-- `prepare` meets its contract: what is known before the first minute, for any bytes.
 use Rattle.play.proofs.Answers.{sheet-few, sheet-gap, sheet-known, prepared-cases}
 use Rattle.instance.proofs.Posed.{loaded-held}
 use borrow.Author.Needs.{needs}

@@ -1,3 +1,4 @@
+-- `prepare_board` meets its contract: what is known before the first minute, for a problem and any board.
 use Rattle.play.proofs.Answers.{board-cases}
 use borrow.Author.Needs.{needs}
 use Rattle.play.proofs.preparing.prepare_board.Statement.{statement}

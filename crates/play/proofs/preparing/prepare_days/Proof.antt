@@ -1,3 +1,4 @@
+-- `prepare_days` meets its contract: what is known before the first minute, for a board that passes.
 use Rattle.play.proofs.Answers.{days-cases}
 use borrow.Author.Needs.{needs}
 use Rattle.play.proofs.preparing.prepare_days.Statement.{statement}

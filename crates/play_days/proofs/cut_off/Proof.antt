@@ -1,7 +1,0 @@
-use Rattle.play_days.proofs.Rows.{cut-cases}
-use borrow.Author.Needs.{needs}
-use Rattle.play_days.proofs.cut_off.Statement.{statement}
-use Rattle.play_days.proofs.cut_off.Tie as tie
-
-pub cut-off-spec : {M : Type 1} → statement M
-cut-off-spec = tie.close (tie.spec (λ c. search (needs, cut-cases)) (λ c. search (needs, cut-cases)))

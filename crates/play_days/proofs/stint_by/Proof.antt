@@ -1,9 +1,0 @@
-use Rattle.play_days.proofs.Rows.{by-cases}
-use borrow.Author.Needs.{needs}
-use Rattle.play_days.proofs.stint_by.Statement.{statement}
-use Rattle.play_days.proofs.stint_by.Tie as tie
-
-pub stint-by-spec : {M : Type 1} → statement M
-stint-by-spec =
-    tie.close
-    (tie.spec (λ c κs. search needs) (λ c. search needs) (λ c. search needs) (λ c. search needs) (λ c κs. search needs) (λ c. search (needs, by-cases)))
