@@ -1,6 +1,8 @@
 -- Each promise is taken out of the theorem that has it, under the type that the page writes out. Assumes nothing.
-use Prim.Native.Nat.{ℕ}
+use Prim.Native.Nat.{ℕ, _<_}
+use native.Mathlib.Omega.{arith}
 use mathlib.Core.Path.{_≡_, refl, sym, _∙_}
+use mathlib.Core.Logic.{_↔_}
 use mathlib.Core.Bool.{Bool}
 use mathlib.Core.List.{List}
 use lib.ListN.{take}
@@ -11,6 +13,8 @@ use Rattle.turn.specs.declared.Counts.{Counts}
 use Rattle.sheet.specs.declared.kind.Kind.{Kind}
 use Rattle.sheet.specs.Read.{countsIn, turnCount, Reading}
 use Rattle.sheet.specs.Promises.{ReadPromisedFor}
+use Rattle.sheet.specs.Accepted.{Accepted}
+use Rattle.sheet.proofs.Accepting.{accepted-iff}
 use Rattle.sheet.proofs.ReadCauses.{read-refused-iff}
 use Rattle.sheet.proofs.Promised.{read-promised}
 use Rattle.sheet.proofs.Limits.{short-refused-iff, short-promised, short-same}
@@ -22,9 +26,11 @@ use Rattle.draw_spec.proofs.DrawCauses.{draw-refused-iff, draw-unchanged}
 use Rattle.draw_spec.proofs.DrawnSheets.{draw-promised}
 use Rattle.archive_spec.proofs.KeptCauses.{keep-refused-iff, keep-unchanged, restore-refused-iff, restore-unchanged}
 use Rattle.archive_spec.proofs.RoundTrip.{keep-then-restore, restore-then-keep}
-use Rattle.model.specs.Turns.{Turns}
+use Rattle.model.specs.Turns.{Turns, Conflict}
+use Rattle.model.proofs.Minutes.{conflict-is}
 use Rattle.model.specs.Promises.{Promises}
-use Rattle.instance_spec.specs.Problem.{sheetTurns}
+use Rattle.instance_spec.specs.Problem.{sheetTurns, SheetConflict}
+use Rattle.instance_spec.proofs.SheetTurns.{sheet-count, sheet-lengths, sheet-conflict}
 use Rattle.board.specs.Board.{boardChoice}
 use Rattle.board_open.proofs.OpenCauses.{open-accepted-iff, open-first-iff}
 use Rattle.board_open.proofs.Chosen.{count-turns, chosen-turn}
@@ -58,6 +64,7 @@ use Rattle.limit_spec.specs.Prices.{pricedTurns}
 use Rattle.limit_spec.specs.Limit.{priceCount, limitCauses, limitRefused, limitOf}
 use Rattle.limit_spec.proofs.LimitCauses.{limit-refused-iff}
 use Rattle.limit_spec.proofs.Promised.{limit-promised}
+use Rattle.refine_spec.specs.Rounds.{firstChange}
 use Rattle.refine_spec.specs.Refine.{refineOf}
 use Rattle.refine_spec.proofs.RefineCauses.{refine-refused-iff, refine-unchanged}
 use Rattle.refine_spec.proofs.Promised.{refine-promised}
@@ -229,7 +236,7 @@ stands-so : {day : List Stint} {m : ℕ} {x : Standing} → StandingIs day m x �
 stands-so p = record { working = p .working-is; driving = p .driving-is; standing = p .standing-is; turn = p .turn-is; minutes = p .minutes }
 
 module _ (s b delays : List ℕ) (lent : List Standing) (z : playOf s b delays lent .answer .refusal ≡ 0) where
-  plays-shift : PlaysShift (sheetTurns s) (boardChoice b) (delayIn delays) (countsIn s .groomers) (dayAt s b delays) lent (playOf s b delays lent)
+  plays-shift : PlaysShift (sheetTurns s) (turnCount s) (boardChoice b) (delayIn delays) (countsIn s .groomers) (dayAt s b delays) lent (playOf s b delays lent)
   plays-shift =
       let p = play-promised s b delays lent z in
       record {
@@ -241,6 +248,8 @@ module _ (s b delays : List ℕ) (lent : List Standing) (z : playOf s b delays l
         whole = p .whole;
         behind = p .behind;
         on-time = λ n u h. let (g, l, own, t) = p .on-time n u h in (g, l, own, λ m. (t .only m, λ (f, e). t .planned m f e));
+        on-time-worked = p .on-time-worked;
+        on-time-turn = p .on-time-turn;
         table-there = p .table-there;
         moves = λ table w. let q = p .by-minutes table w in record { one-minute = q .one-minute; each-minute = λ m l g h. stands-so (q .standings m l g h); behind = q .behind; last = q .last };
       }
@@ -249,12 +258,13 @@ module _ (s prices : List ℕ) (z : limitOf s prices .refusal ≡ 0) where
   limits-shift : LimitsShift s prices (sheetTurns s) (groomerWorth (pricedTurns (sheetTurns s) (countsIn s .slopes) prices)) (limitOf s prices .limit)
   limits-shift =
       let p = limit-promised s prices z in
-      record { capped = p .within; parts = p .parts; attained = λ g. p .groomer-most g .attained; greatest = λ g. p .groomer-most g .greatest; free = p .free; free-best = p .free-best }
+      record { capped = p .within; boards-capped = p .boards-within; driverless = λ other l f g. p .driverless other (record { lengths = l; slopes = f; turns = g }); parts = p .parts; attained = λ g. p .groomer-most g .attained; greatest = λ g. p .groomer-most g .greatest; free = p .free; free-best = p .free-best }
 
 module _ (s : List ℕ) (rounds : ℕ) (board prices : List ℕ) (z : refineOf s rounds board prices .refusal ≡ 0) where
   refines-shift :
       RefinesShift s rounds board prices (take (refineOf s rounds board prices .bytes) (refineOf s rounds board prices .board)) (take (priceCount s) (refineOf s rounds board prices .prices)) (sheetTurns s)
       (refineOf s rounds board prices)
+  unfolding firstChange
   refines-shift =
       let p = refine-promised s rounds board prices z in
       record {
@@ -267,6 +277,10 @@ module _ (s : List ℕ) (rounds : ℕ) (board prices : List ℕ) (z : refineOf s
         capped = p .within;
         worth-within = p .worth-within;
         best = p .best;
+        boards-capped = p .boards-within;
+        best-board = p .best-board;
+        prices-kept = p .prices-kept;
+        choice-kept = p .choice-kept;
         more = λ more c q l e. (p .more-worth more c q l e, p .more-limit more c q l e);
         places-apart = p .places-apart;
         made = p .made;
@@ -291,6 +305,8 @@ module _ (s lent : List ℕ) (z : chargeOf s lent .answer .refusal ≡ 0) where
         wide-plan = p .wide-plan;
         small-plan = p .small-plan;
         tie = q .tie;
+        wide-chosen = q .wide-chosen;
+        small-chosen = q .small-chosen;
         wide-full = p .wide-full;
         small-full = p .small-full;
         capped = p .bound;
@@ -310,6 +326,7 @@ module _ (s prices : List ℕ) (z : chargeLimitOf s prices .refusal ≡ 0) where
 
 module _ (s : List ℕ) (rounds : ℕ) (map prices : List ℕ) (z : chargeRefineOf s rounds map prices .refusal ≡ 0) where
   refines-hall : RefinesHall s rounds map prices (hallOf s) (shownIn s (chargeRefineOf s rounds map prices .map)) (chargeRefineOf s rounds map prices)
+  unfolding firstChange
   refines-hall =
       let p = charge-refine-promised s rounds map prices z in
       record {
@@ -321,6 +338,8 @@ module _ (s : List ℕ) (rounds : ℕ) (map prices : List ℕ) (z : chargeRefine
         capped = p .within;
         worth-within = p .worth-within;
         best = p .best;
+        prices-kept = p .prices-kept;
+        choice-kept = p .choice-kept;
         more = λ more c q l e. (p .more-worth more c q l e, p .more-limit more c q l e);
         places-apart = p .places-apart;
         made = p .made;
@@ -329,6 +348,15 @@ module _ (s : List ℕ) (rounds : ℕ) (map prices : List ℕ) (z : chargeRefine
         map-behind = p .map-rest;
         prices-behind = p .prices-rest;
       }
+
+-- ---- when two turns of a sheet conflict
+
+conflicts-are : {s : List ℕ} → Bytes s → Accepted s → (x y : ℕ) → x < turnCount s → y < turnCount s → Conflict (sheetTurns s) x y ↔ SheetConflict s x y
+conflicts-are {s} bytes a x y h k =
+    let z = accepted-iff bytes .1 a in
+    let words = conflict-is (sheetTurns s) (sheet-lengths s z) x y (omega (arith, sheet-count s z)) (omega (arith, sheet-count s z)) in
+    let sheet = sheet-conflict s z x y h k in
+    (λ c. sheet .0 (words .1 c), λ c. words .0 (sheet .1 c))
 
 -- ---- refusals of entries that are lent nothing
 
@@ -362,6 +390,7 @@ promised =
       count = count-turns;
       is-chosen = chosen-turn;
       steps = λ b. part-named b refl;
+      conflicts = conflicts-are;
       check = checks;
       plan = plans;
       plan-accepts = λ {s} y. claim s s y .plans;

@@ -1,10 +1,11 @@
 -- What is promised, each promise in full: of the bytes that an entry is given, of what it returns, and of what the lent places hold then (documents 01, 02 and 03). No other record of promises is cited, so that what one of them leaves out is missed here. Assumes nothing.
-use Prim.Native.Nat.{ℕ, suc, _+_, _*_, _/_, _%_, _^_, _≤_, _<_}
+use Prim.Native.Nat.{ℕ, suc, _+_, _-_, _*_, _/_, _%_, _^_, _≤_, _<_}
 use mathlib.Core.Path.{_≡_}
 use mathlib.Core.Logic.{_↔_, _≢_, _⊎_}
-use mathlib.Core.Bool.{Bool, true, false}
+use mathlib.Core.Bool.{Bool, true, false, cond}
 use mathlib.Core.List.{List, _∷_}
-use lib.ListN.{length, getD, take, drop}
+use lib.Dec.{eqb}
+use lib.ListN.{length, getD, take, drop, replicate}
 use Rattle.lists.specs.Lists.{sum, below, All, In}
 use Rattle.lists.specs.Order.{howMany}
 use Rattle.refusal.specs.Outcome.{Outcome, beside}
@@ -26,7 +27,7 @@ use Rattle.draw_spec.specs.DrawnSheet.{drawOf}
 use Rattle.draw_spec.specs.DrawCause.{FirstDrawCause}
 use Rattle.archive_spec.specs.Archive.{keepOf, restoreOf}
 use Rattle.archive_spec.specs.AcceptedKept.{FirstKeepCause, FirstRestoreCause}
-use Rattle.model.specs.Turns.{Turns, NoDrivers}
+use Rattle.model.specs.Turns.{Turns, Conflict, NoDrivers}
 use Rattle.model.specs.Steps.{Step, tally}
 use Rattle.model.specs.Pick.{steps}
 use Rattle.model.specs.Choice.{has, chosen, fits, fill, choice}
@@ -35,7 +36,7 @@ use Rattle.model.specs.Feasible.{Feasible, worthOf, OneTurnASlope}
 use Rattle.model.specs.Ceiling.{ceiling}
 use Rattle.model.specs.Rules.{Independent, Maximal}
 use Rattle.model.specs.IntervalSelection.{Selects}
-use Rattle.instance_spec.specs.Problem.{sheetTurns}
+use Rattle.instance_spec.specs.Problem.{sheetTurns, SheetConflict}
 use Rattle.choice_map.specs.Choice.{mapBytes, mapOf, choiceIn, onesIn}
 use Rattle.board.specs.Board.{boardTurns, boardSteps, boardTally, boardWorth, boardMap, boardChoice, writtenSteps}
 use Rattle.board_open.specs.Open.{openOf, stepsPart, WellFormed, FirstOpenCause}
@@ -64,11 +65,14 @@ use Rattle.play_spec.specs.Minutes.{minuteOf, minutesFrom}
 use Rattle.play_spec.specs.Play.{dayAt, playRefused, playOf, FirstPlayCause}
 use Rattle.limit_spec.specs.Prices.{turnPrice, countsFor, pricedTurns, priceSum, GroomerSet}
 use Rattle.limit_spec.specs.Limit.{priceCount, limitIs, limitRefused, limitOf, FirstLimitCause}
+use Rattle.refine_spec.specs.Rounds.{greatestOf, LowestKept, BestKept}
+use Rattle.refine_spec.specs.Shift.{greatestWorth, shiftRule}
 use Rattle.refine_spec.specs.Refine.{Refinement, notRefined, refineOf, FirstRefineCause}
 use Rattle.hall_spec.specs.Hall.{Hall, windowCount, vehicle, isWide, isSmall, Allowed, AllowedChoice, FullAmong}
-use Rattle.hall_spec.specs.Plan.{wideSteps, smallSteps, wideChoice, smallChoice, worthIn, hallChoice}
+use Rattle.hall_spec.specs.Plan.{ChosenAmong, wideSteps, smallSteps, wideChoice, smallChoice, worthIn, hallChoice}
 use Rattle.hall_spec.specs.Charge.{hallOf, Charged, chargeRefused, chargeOf, FirstChargeCause}
 use Rattle.hall_by_prices_spec.specs.Prices.{windowCounts, richestOf, vehicleBest, supplyCost}
+use Rattle.hall_by_prices_spec.specs.Hall.{hallRule}
 use Rattle.hall_by_prices_spec.specs.Limit.{chargeLimitOf, FirstChargeLimitCause}
 use Rattle.hall_by_prices_spec.specs.Refine.{ChargeRefinement, notChargeRefined, chargeRefineOf, FirstChargeRefineCause}
 
@@ -267,7 +271,7 @@ pub record MovesSo (n : ℕ) (day : ℕ → List Stint) (lent after : List Stand
   pub last : minutesFrom 960 0 n lent table ≡ after
 
 -- R-13. The number n of groomers comes back; each one's day has its chosen turns by start, each late by its delay, and every minute is working, driving over or standing
-pub record PlaysShift (T : Turns) (S : List Bool) (delay : ℕ → ℕ) (n : ℕ) (day : ℕ → List Stint) (lent : List Standing) (x : Outcome PlayAnswer (List Standing)) : Type 0 where
+pub record PlaysShift (T : Turns) (turns : ℕ) (S : List Bool) (delay : ℕ → ℕ) (n : ℕ) (day : ℕ → List Stint) (lent : List Standing) (x : Outcome PlayAnswer (List Standing)) : Type 0 where
   pub groomers : x .answer .groomers ≡ n
   pub days : (g : ℕ) → DayIs T S delay (suc g) (day g)
   pub doings : (g m : ℕ) → DoingIs (day g) m (doingAt (day g) m)
@@ -278,6 +282,9 @@ pub record PlaysShift (T : Turns) (S : List Bool) (delay : ℕ → ℕ) (n : ℕ
   pub behind : drop n (x .lent) ≡ drop n lent
   -- without delays each chosen turn is worked in exactly its planned minutes
   pub on-time : ((u : ℕ) → delay u ≡ 0) → (u : ℕ) → has S u ≡ true → (g : ℕ) × (g < n) × (T .groomer u ≡ suc g) × ((m : ℕ) → (doingAt (day g) m ≡ works u) ↔ ((T .start u ≤ m) × (m < T .end u)))
+  -- then the minutes worked are its turns' lengths, added up; a turn is in hand at the end exactly if it is chosen, its groomer's, and ends with the shift
+  pub on-time-worked : ((u : ℕ) → delay u ≡ 0) → (g : ℕ) → g < n → getD (x .lent) g freshOf .working ≡ chosen turns S (λ u. cond (eqb (T .groomer u) (suc g)) (T .end u - T .start u) 0)
+  pub on-time-turn : ((u : ℕ) → delay u ≡ 0) → (g : ℕ) → g < n → (u : ℕ) → u < turns → (getD (x .lent) g freshOf .turn ≡ u) ↔ ((has S u ≡ true) × (T .groomer u ≡ suc g) × (T .end u ≡ 960))
   -- the list is moved minute by minute by any table of these days, and there is one
   pub table-there : (table : List ℕ) × Days T S delay table
   pub moves : (table : List ℕ) → Days T S delay table → MovesSo n day lent (x .lent) table
@@ -287,6 +294,11 @@ pub record PlaysShift (T : Turns) (S : List Bool) (delay : ℕ → ℕ) (n : ℕ
 -- P-1. Whatever the prices, no feasible set earns more than the limit
 pub record LimitsShift (s prices : List ℕ) (T : Turns) (most : ℕ → ℕ) (limit : ℕ) : Type 0 where
   pub capped : CapsShift T limit
+  pub boards-capped : (b : List ℕ) → checkOf s b .refusal ≡ 0 → boardWorth b ≤ limit
+  -- what stands in the list for turns without a driver plays no part
+  pub driverless :
+      (other : List ℕ) → length other ≡ length prices → ((k : ℕ) → k < countsIn s .slopes → getD other k 0 ≡ getD prices k 0)
+      → ((u : ℕ) → u < turnCount s → T .driver u ≢ 0 → turnPrice (countsIn s .slopes) other u ≡ turnPrice (countsIn s .slopes) prices u) → limitOf s other ≡ limitOf s prices
   -- it is the prices and, groomer by groomer, the most that a set without conflict by groomer counts for
   pub parts : limit ≡ priceSum T (countsIn s .slopes) prices + sum (λ k. most (k + 1)) (below (countsIn s .groomers))
   pub attained : (g : ℕ) → (R : List ℕ) × GroomerSet T g R × (sum (countsFor T (countsIn s .slopes) prices) R ≡ most g)
@@ -307,6 +319,11 @@ pub record RefinesShift (s : List ℕ) (rounds : ℕ) (board prices b p : List �
   pub capped : CapsShift T (x .limit)
   pub worth-within : x .worth ≤ x .limit
   pub best : x .limit ≡ x .worth → CapsShift T (boardWorth b)
+  pub boards-capped : (c : List ℕ) → checkOf s c .refusal ≡ 0 → boardWorth c ≤ x .limit
+  pub best-board : x .limit ≡ x .worth → (c : List ℕ) → checkOf s c .refusal ≡ 0 → boardWorth c ≤ boardWorth b
+  -- of the looks made, one more than the rounds, the prices are those of the first with the lowest limit; the choice is that of the first look whose choice is worth most, if it is worth more than the planned one
+  pub prices-kept : LowestKept (shiftRule T (countsIn s .groomers) (countsIn s .slopes)) ((greatestWorth T + 3) / 4) (replicate (priceCount s) 0) (x .rounds) (x .limit) p
+  pub choice-kept : BestKept (shiftRule T (countsIn s .groomers) (countsIn s .slopes)) ((greatestWorth T + 3) / 4) (replicate (priceCount s) 0) (boardChoice (plannedBoard s)) (x .rounds) (boardChoice b)
   -- more rounds give no less worth and no higher limit, as many give the same, whatever is lent
   pub more : (more : ℕ) (c q : List ℕ) → rounds ≤ more → refineOf s more c q .refusal ≡ 0 → (x .worth ≤ refineOf s more c q .worth) × (refineOf s more c q .limit ≤ x .limit)
   pub places-apart : (c q : List ℕ) → refineOf s rounds c q .refusal ≡ 0 → (refineOf s rounds c q .worth ≡ x .worth) × (refineOf s rounds c q .limit ≡ x .limit) × (refineOf s rounds c q .rounds ≡ x .rounds)
@@ -332,6 +349,8 @@ pub record ChargesHall (s lent : List ℕ) (H : Hall) (S : List Bool) (x : Charg
   pub wide-plan : worthIn H (smallChoice H) < worthIn H (wideChoice H) → S ≡ wideChoice H
   pub small-plan : worthIn H (wideChoice H) ≤ worthIn H (smallChoice H) → S ≡ smallChoice H
   pub tie : worthIn H (wideChoice H) ≡ worthIn H (smallChoice H) → hallChoice H ≡ smallChoice H
+  pub wide-chosen : ChosenAmong H (isWide H) (wideSteps H) (wideChoice H)
+  pub small-chosen : ChosenAmong H (isSmall H) (smallSteps H) (smallChoice H)
   pub wide-full : worthIn H (smallChoice H) < worthIn H (wideChoice H) → FullAmong H (isWide H) S
   pub small-full : worthIn H (wideChoice H) ≤ worthIn H (smallChoice H) → FullAmong H (isSmall H) S
   -- no allowed set is worth more than five times the plan and the units for each step of the small draws
@@ -364,6 +383,8 @@ pub record RefinesHall (s : List ℕ) (rounds : ℕ) (map prices : List ℕ) (H 
   pub capped : CapsHall H (x .limit)
   pub worth-within : x .worth ≤ x .limit
   pub best : x .limit ≡ x .worth → CapsHall H (worthIn H S)
+  pub prices-kept : LowestKept (hallRule H (countsIn s .slopes)) ((greatestOf (H .windows .worth) (below (windowCount H)) + 7) / 8) (replicate 960 0) (x .rounds) (x .limit) (take 960 (x .prices))
+  pub choice-kept : BestKept (hallRule H (countsIn s .slopes)) ((greatestOf (H .windows .worth) (below (windowCount H)) + 7) / 8) (replicate 960 0) (hallChoice H) (x .rounds) S
   pub more : (more : ℕ) (c q : List ℕ) → rounds ≤ more → chargeRefineOf s more c q .refusal ≡ 0 → (x .worth ≤ chargeRefineOf s more c q .worth) × (chargeRefineOf s more c q .limit ≤ x .limit)
   pub places-apart : (c q : List ℕ) → chargeRefineOf s rounds c q .refusal ≡ 0 →
       (chargeRefineOf s rounds c q .worth ≡ x .worth) × (chargeRefineOf s rounds c q .limit ≡ x .limit) × (chargeRefineOf s rounds c q .rounds ≡ x .rounds)
@@ -393,6 +414,8 @@ pub record Promised : Type 0 where
   pub count : (b : List ℕ) → openOf b ≡ 0 → countOf b .turns ≡ chosen (boardTurns b) (boardChoice b) (λ t. 1)
   pub is-chosen : (b : List ℕ) → openOf b ≡ 0 → (t : ℕ) → turnChosen b t ≡ has (boardChoice b) t
   pub steps : (b : List ℕ) → take (stepsPartAt b .length) (drop (stepsPartAt b .start) b) ≡ stepsPart b
+  -- R-2, R-5: two turns of a sheet conflict exactly if they have one slope, or one groomer or driver and share a minute, or one starts 0 to 9 minutes after the other's end
+  pub conflicts : {s : List ℕ} → Bytes s → Accepted s → (x y : ℕ) → x < turnCount s → y < turnCount s → Conflict (sheetTurns s) x y ↔ SheetConflict s x y
   pub check : (s b : List ℕ) → Bytes s → Checks s b
   pub plan : {s : List ℕ} → Bytes s → (lent : List ℕ) → planOf s lent .answer .refusal ≡ 0 → Plans s (writtenPart (planOf s lent)) (sheetTurns s)
   -- 01: the planner accepts exactly an accepted sheet with room for a board with a step a turn; the lent bytes then begin with its board and go on as they were
@@ -407,7 +430,7 @@ pub record Promised : Type 0 where
   -- R-10: with no visits allowed and a turn to visit, the planned board's worth and map come back
   pub improve-none : (s lent : List ℕ) → improveOf s 0 lent .answer .refusal ≡ 0 → turnCount s ≢ 0 → (improveOf s 0 lent .answer .worth ≡ boardWorth (plannedBoard s)) × (mapIn s (improveOf s 0 lent .lent) ≡ boardMap (plannedBoard s))
   pub play : (s b delays : List ℕ) (lent : List Standing) → playOf s b delays lent .answer .refusal ≡ 0 →
-      PlaysShift (sheetTurns s) (boardChoice b) (delayIn delays) (countsIn s .groomers) (dayAt s b delays) lent (playOf s b delays lent)
+      PlaysShift (sheetTurns s) (turnCount s) (boardChoice b) (delayIn delays) (countsIn s .groomers) (dayAt s b delays) lent (playOf s b delays lent)
   -- R-13: what the list held plays no part
   pub play-alike : (s b delays : List ℕ) (lent other : List Standing) → (countsIn s .groomers ≤ length lent) ↔ (countsIn s .groomers ≤ length other) →
       (playOf s b delays lent .answer ≡ playOf s b delays other .answer)
