@@ -3,12 +3,9 @@ use Prim.Native.Nat.{ℕ}
 use mathlib.Core.Path.{_≡_}
 use mathlib.Core.List.{List, [], _∷_, _++_}
 use lib.ListN.{replicate}
+use Rattle.sheet.specs.Shift.{shift}
 use Rattle.archive_spec.specs.Archive.{keepOf, restoreOf}
 use Rattle.refusal.specs.Outcome.{beside}
-
--- two groomers, three slopes, four turns
-abbrev pub shift : List ℕ
-shift = 0x47 ∷ 0x52 ∷ 0x4D ∷ 0x02 ∷ 0x03 ∷ 0x00 ∷ 0x04 ∷ 0x1F ∷ 0x01 ∷ 0x01 ∷ 0x00 ∷ 0x00 ∷ 0x00 ∷ 0x3C ∷ 0x00 ∷ 0x64 ∷ 0x15 ∷ 0x02 ∷ 0x00 ∷ 0x1E ∷ 0x00 ∷ 0x96 ∷ 0x1F ∷ 0x01 ∷ 0x02 ∷ 0x00 ∷ 0x00 ∷ 0x00 ∷ 0x78 ∷ 0x00 ∷ 0x50 ∷ 0x1D ∷ 0x03 ∷ 0x00 ∷ 0x78 ∷ 0x00 ∷ 0x3C ∷ 0x00 ∷ 0x5A ∷ []
 
 -- kept: the mark and the header, four maps, four slopes, two groomers, four starts, three lengths, four worths
 abbrev pub shiftKept : List ℕ

@@ -8,7 +8,9 @@ use Rattle.board_open.specs.Chosen.{counted, countOf, turnChosen}
 use Rattle.check_spec.specs.Check.{checkOf, checked}
 use Rattle.plan_spec.specs.Plan.{planOf}
 use Rattle.listing_spec.specs.List.{listOf}
-use Rattle.claim.specs.Shift.{shift, shiftBoard, leavesRoom, touchingTurns, shiftBoardBy, stepsExchanged, turnTwoFirst, turnThreeFirst, drivenTurn, drivenTable, driverlessTurn, drivenShift, twoTurns, tiedTurns, tiedBoard, twoToFill, filledBoard, secondGroomer, secondListing}
+use Rattle.sheet.specs.Shift.{shift}
+use Rattle.board.specs.Shift.{shiftBoard}
+use Rattle.claim.specs.Shift.{leavesRoom, touchingTurns, shiftBoardBy, stepsExchanged, turnTwoFirst, turnThreeFirst, drivenTurn, drivenTable, driverlessTurn, drivenShift, twoTurns, tiedTurns, tiedBoard, twoToFill, filledBoard, secondGroomer, secondListing}
 use Rattle.claim.specs.Cases.{lent}
 use Rattle.refusal.specs.Outcome.{beside}
 

@@ -15,7 +15,7 @@ use Rattle.sheet.specs.Record.{widthOf, field, turnFrom, badMapFor, endAt, turn
 use Rattle.sheet.specs.Read.{countsIn, countCauses, headerCauses, recordsCauses, turnsFrom, causesFor, turnsOf}
 use Rattle.choice_map.specs.Choice.{byteOf, mapOf}
 use Rattle.instance_spec.specs.Problem.{problemOf}
-use Rattle.lists.specs.Lists.{every, tab}
+use Rattle.lists.specs.Lists.{every, tab, keep}
 use Rattle.lists.proofs.Bools.{every-at}
 use Rattle.lists.specs.Sorting.{insertBy, sortBy}
 use Rattle.model.specs.Turns.{overlapping, overlap, bySlope, oneGroomer, byGroomer, oneDriver, byDriver, conflict}
@@ -23,7 +23,6 @@ use Rattle.model.specs.Steps.{isOpen, left, initial, lessened, change, afterSte
 use Rattle.model.specs.Pick.{sooner, better, best, pick, nextStep, planBy, plan, steps}
 use Rattle.model.specs.Choice.{chosen, choose, chooseEach, back, fill}
 use Rattle.best_spec.specs.Table.{greater, isAmong}
-use Rattle.best_spec.specs.Groomers.{keep}
 use Rattle.hall_spec.specs.Hall.{Hall, windowCount, sameVehicle, shareMinute, chargesAt, drawAt, wideDraw, isWide, isSmall, drawnAt, vehicleFree, supplyLasts, staysAllowed}
 use Rattle.hall_spec.specs.Plan.{turnsAmong, wideSteps, roundedUp, smallTakes, smallSteps, fitsAmong, chooseAmong, wideChoice, smallChoice, worthIn, greaterOf, hallChoice}
 use Rattle.hall_spec.specs.Cases.{hallWith, oneUnit, twelveUnits}

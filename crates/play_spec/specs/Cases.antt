@@ -2,6 +2,8 @@
 use mathlib.Core.Path.{_≡_}
 use mathlib.Core.List.{List, [], _∷_}
 use Prim.Native.Nat.{ℕ}
+use Rattle.sheet.specs.Shift.{shift}
+use Rattle.board.specs.Shift.{shiftBoard}
 use Rattle.play_spec.specs.declared.Standing.{Standing}
 use Rattle.play_spec.specs.Standing.{noTurnInHand}
 use Rattle.play_spec.specs.Play.{playOf}
@@ -14,14 +16,6 @@ standing worked driven stood turn = record { working = worked; driving = driven;
 -- what each lent place holds before
 abbrev pub before : Standing
 before = standing 9 9 9 9
-
--- document 01's shift: two groomers, four turns, of which turn 1 is groomer 1's, from 30 to 90, and turn 3 groomer 2's, from 120 to 180
-abbrev pub shift : List ℕ
-shift = 0x47 ∷ 0x52 ∷ 0x4D ∷ 0x02 ∷ 0x03 ∷ 0x00 ∷ 0x04 ∷ 0x1F ∷ 0x01 ∷ 0x01 ∷ 0x00 ∷ 0x00 ∷ 0x00 ∷ 0x3C ∷ 0x00 ∷ 0x64 ∷ 0x15 ∷ 0x02 ∷ 0x00 ∷ 0x1E ∷ 0x00 ∷ 0x96 ∷ 0x1F ∷ 0x01 ∷ 0x02 ∷ 0x00 ∷ 0x00 ∷ 0x00 ∷ 0x78 ∷ 0x00 ∷ 0x50 ∷ 0x1D ∷ 0x03 ∷ 0x00 ∷ 0x78 ∷ 0x00 ∷ 0x3C ∷ 0x00 ∷ 0x5A ∷ []
-
--- its board: turns 1 and 3 are chosen
-abbrev pub shiftBoard : List ℕ
-shiftBoard = 0x47 ∷ 0x52 ∷ 0x42 ∷ 0x00 ∷ 0x04 ∷ 0x00 ∷ 0x03 ∷ 0x00 ∷ 0x00 ∷ 0x00 ∷ 0xF0 ∷ 0x00 ∷ 0x00 ∷ 0x00 ∷ 0xF0 ∷ 0x0A ∷ 0x00 ∷ 0x00 ∷ 0x00 ∷ 0x64 ∷ 0x00 ∷ 0x01 ∷ 0x00 ∷ 0x32 ∷ 0x00 ∷ 0x03 ∷ 0x00 ∷ 0x5A ∷ []
 
 -- one groomer, two turns of worth 1 on two slopes: from 780 to 840, and from 860 to 950
 abbrev pub evening : List ℕ

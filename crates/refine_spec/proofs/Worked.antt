@@ -7,7 +7,7 @@ use Rattle.turn.specs.Turn.{outsideRange, pastShift, turnCauses}
 use Rattle.sheet.specs.Kind.{garage}
 use Rattle.sheet.specs.Record.{widthOf, field, turnFrom, badMapFor, endAt, turnAt, cursorAfter, recordCauses, firstCursor}
 use Rattle.sheet.specs.Read.{countCauses, headerCauses, recordsCauses, turnsFrom, causesFor, sheetCauses, turnsOf}
-use Rattle.lists.specs.Lists.{every, tab}
+use Rattle.lists.specs.Lists.{every, tab, keep}
 use Rattle.lists.specs.Sorting.{insertBy, sortBy}
 use Rattle.model.specs.Turns.{overlapping, overlap, bySlope, oneGroomer, byGroomer, oneDriver, byDriver, conflict}
 use Rattle.model.specs.Steps.{isOpen, left, initial, touches, lessened, change, afterStepBy, conflictTakes, afterStep, tally}
@@ -17,7 +17,7 @@ use Rattle.choice_map.specs.Choice.{byteOf, mapOf}
 use Rattle.board.specs.Board.{stepBytes, boardOf}
 use Rattle.instance_spec.specs.Problem.{problemOf, sheetTurns}
 use Rattle.best_spec.specs.Table.{laterFirst, turnOrder, greater, inTheWay, blocked, bestTable, bestOver, isAmong}
-use Rattle.best_spec.specs.Groomers.{keep, ownTurns, groomerWorth, groomersWorth}
+use Rattle.best_spec.specs.Groomers.{ownTurns, groomerWorth, groomersWorth}
 use Rattle.limit_spec.specs.Prices.{slopePrice, turnPrice, paysTurn, paidBy, countsFor, pricedTurns, priceSum, limitBy}
 use Rattle.refine_spec.specs.Rounds.{startFrom, lowerLimit, betterChoice, looked, nextChange, moving, refined, greatestOf, firstChange}
 use Rattle.refine_spec.specs.Selection.{poorerFirst, byWorth, choiceFrom}

@@ -3,7 +3,9 @@ use mathlib.Core.Path.{_≡_}
 use mathlib.Core.List.{List, [], _∷_, _++_}
 use Prim.Native.Nat.{ℕ}
 use lib.ListN.{length, replicate}
-use Rattle.limit_spec.specs.Cases.{shift, driven, noneAtAll}
+use Rattle.limit_spec.specs.Cases.{driven, noneAtAll}
+use Rattle.sheet.specs.Shift.{shift}
+use Rattle.board.specs.Shift.{shiftBoard}
 use Rattle.refine_spec.specs.Refine.{Refinement, notRefined, refineOf}
 
 -- two groomers, two slopes, four turns: (slope, groomer, start, end, worth) are (2,2,90,120,90) (1,1,90,120,90) (1,1,0,30,10) (2,1,60,90,100)
@@ -25,10 +27,6 @@ sixRichest = 0x47 ∷ 0x52 ∷ 0x4D ∷ 0x06 ∷ 0x01 ∷ 0x00 ∷ 0x06 ∷ 0x1F
 -- two groomers, two slopes, two turns, both of driver 7: (1,1,0,60,3) (2,2,30,90,4)
 abbrev pub twoPoor : List ℕ
 twoPoor = 0x47 ∷ 0x52 ∷ 0x4D ∷ 0x02 ∷ 0x02 ∷ 0x00 ∷ 0x02 ∷ 0x3F ∷ 0x01 ∷ 0x01 ∷ 0x00 ∷ 0x00 ∷ 0x00 ∷ 0x3C ∷ 0x00 ∷ 0x03 ∷ 0x07 ∷ 0x17 ∷ 0x02 ∷ 0x02 ∷ 0x00 ∷ 0x1E ∷ 0x00 ∷ 0x04 ∷ []
-
--- the planned board of document 01's shift: turns 1 and 3, for 240
-abbrev pub shiftBoard : List ℕ
-shiftBoard = 0x47 ∷ 0x52 ∷ 0x42 ∷ 0x00 ∷ 0x04 ∷ 0x00 ∷ 0x03 ∷ 0x00 ∷ 0x00 ∷ 0x00 ∷ 0xF0 ∷ 0x00 ∷ 0x00 ∷ 0x00 ∷ 0xF0 ∷ 0x0A ∷ 0x00 ∷ 0x00 ∷ 0x00 ∷ 0x64 ∷ 0x00 ∷ 0x01 ∷ 0x00 ∷ 0x32 ∷ 0x00 ∷ 0x03 ∷ 0x00 ∷ 0x5A ∷ []
 
 -- a board of the four turns: the planned steps, turn 2 for 10 and turn 3 for 100, with some worth and some choice map
 abbrev pub fourBoard : ℕ → ℕ → List ℕ
