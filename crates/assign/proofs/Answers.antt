@@ -22,16 +22,13 @@ use Rattle.assign_spec.proofs.Numbers.{numbers-places}
 use Rattle.refusal.proofs.Outcome.{room-stopped, room-short, room-enough}
 use Rattle.refusal.specs.Outcome.{beside}
 use Rattle.instance.proofs.Posed.{loaded-held, loaded-turns}
+use Rattle.lists.proofs.Places.{taken-length}
 
 -- ---- as the code leaves it
 
 -- the busy times fit
 pub assign-gap : (n : ℕ) {p : Size} → p ≡ shiftSize n → shiftMinutes + p .gap < 65536
 assign-gap n q = rw q (omega arith)
-
--- the places that are written
-pub places-part : (n : ℕ) (lent : List ℕ) → n ≤ length lent → n ≡ length (take n lent)
-places-part n lent h = sym (length-take-le n lent h)
 
 pub assign-places : (n : ℕ) (lent : List ℕ) {p : Size} → p ≡ shiftSize n → n ≤ length lent → length (take n lent) ≡ p .count
 assign-places n lent q h = rw q (length-take-le n lent h)
@@ -56,4 +53,4 @@ module _ (s cols lent : List ℕ) {r : ReadAnswer} (e : Loaded s r cols) where
         let size : length (numbersOf T) ≡ r .turns = numbers-places T ∙ sheet-count s sound ∙ sym count in
         rw (a, b, loaded-turns s cols e f q, ← size) (sym (room-enough (sheetCauses s) (turnCount s) (length lent) _ (λ k. beside (assignRefused k) lent) (sheet-numbered s) sound (omega (arith, count))))
 
-pub ruleset assign-cases = (assign-fault, assign-small, assign-gap, loaded-held, assign-places, places-part, assign-done)
+pub ruleset assign-cases = (assign-fault, assign-small, assign-gap, loaded-held, assign-places, taken-length, assign-done)

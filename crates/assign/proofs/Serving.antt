@@ -3,7 +3,7 @@ use mathlib.Core.Path.{_≡_, refl, sym, ap, _∙_}
 use mathlib.Core.Logic.{_⊎_, inl, inr}
 use mathlib.Core.Bool.{true, false}
 use mathlib.Core.List.{List, [], _∷_}
-use Prim.Native.Nat.{ℕ, zero, suc, _+_, _≤_, _<_, max}
+use Prim.Native.Nat.{ℕ, zero, suc, _+_, _≤_, _<_, max, min}
 use native.Mathlib.Omega.{arith}
 use native.Mathlib.Numerals.{add-one}
 use native.Mathlib.Decide.{decLt, ℕ-discrete}
@@ -52,11 +52,11 @@ unfolding NoneBefore
 earliest-none busy m k l = absurd (omega arith)
 
 -- groomer k is busy until a minute
-module _ (busy : List ℕ) (g : Groomers) (start k until e : ℕ) (f : FirstFree busy (g .used) start k) (n : NoneBefore busy g) (w : length busy ≡ mostTurns) (u : g .used < mostTurns) (a : e ≤ g .earliest) (b : e ≤ until) where
+module _ (busy : List ℕ) (g : Groomers) (start k until e : ℕ) (f : FirstFree busy (g .used) start k) (n : NoneBefore busy g) (w : length busy ≡ mostTurns) (u : g .used < mostTurns) (q : e ≡ min (g .earliest) until) where
   earliest-at : (j : ℕ) → (j ≡ k → ⊥) ⊎ (j ≡ k) → j < max (k + 1) (g .used) → e ≤ getD (set busy k until) j 0
   unfolding NoneBefore
-  earliest-at j (inl d) l = omega (arith, getD-set-other busy k j until 0 d, n j (omega (arith, f .known)))
-  earliest-at j (inr d) l = rw (d, getD-set-same busy k until 0 (omega (arith, f .known))) b
+  earliest-at j (inl d) l = omega (arith, q, getD-set-other busy k j until 0 d, n j (omega (arith, f .known)))
+  earliest-at j (inr d) l = rw (d, getD-set-same busy k until 0 (omega (arith, f .known))) (omega (arith, q))
 
   each : (j : ℕ) → j < max (k + 1) (g .used) → e ≤ getD (set busy k until) j 0
   each j l = elim (ℕ-discrete j k) [ yes d ↦ earliest-at j (inr d) l | no d ↦ earliest-at j (inl d) l ]

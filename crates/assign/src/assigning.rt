@@ -13,6 +13,7 @@ use instance::MOST_TURNS;
 use instance::PLACES;
 use instance::Size;
 use instance::row_at;
+use numbers::lesser_u16;
 
 // Later than every start: where there are no groomers yet, none is free.
 const NO_MINUTE: u16 = 65535;
@@ -21,16 +22,6 @@ const NO_MINUTE: u16 = 65535;
 pub struct Groomers {
     pub used: usize,
     pub earliest: u16,
-}
-
-// The lesser of two numbers. The contract says only what the callers need: it is above neither.
-fn lesser(a: u16, b: u16) -> u16
-    ensures { λ r. ⌜ (r ≤ a) × (r ≤ b) ⌝ }
-{
-    if a <= b {
-        return a;
-    }
-    b
 }
 
 // Sets all numbers to 0: no turn has one yet.
@@ -90,7 +81,7 @@ fn number_turn(
     let until = row.end + p.gap;
     busy[k] = until;
     numbers[t] = (k + 1) as u16;
-    let earliest = lesser(g.earliest, until);
+    let earliest = lesser_u16(g.earliest, until);
     if k < g.used {
         return Groomers {
             used: g.used,

@@ -3,10 +3,10 @@ use Prim.Native.Nat.{ℕ}
 use mathlib.Core.Path.{_≡_}
 use mathlib.Core.List.{List}
 use lib.ListN.{length, take, drop}
-use Rattle.refusal.specs.Cause.{Cause}
+use Rattle.refusal.specs.Cause.{Cause, FirstAmong}
 use Rattle.sheet.specs.Read.{turnCount, sheetCauses}
 use Rattle.refusal.specs.Written.{atFront}
-use Rattle.sheet.specs.Accepted.{LentCause, FirstAmong}
+use Rattle.sheet.specs.Accepted.{LentCause}
 use Rattle.instance_spec.specs.Problem.{sheetTurns}
 use Rattle.assign_spec.specs.declared.AssignAnswer.{AssignAnswer}
 use Rattle.assign_spec.specs.Numbering.{numbersOf, usedOf, AssignPromises}

@@ -10,7 +10,7 @@ use native.Mathlib.Numerals.{add-one}
 use lib.Dec.{leb, eqb}
 use borrow.Author.Tests.{leb-true, le-leb, eqb-true, eq-eqb, ne-eqb}
 use Rattle.lists.proofs.Keeping.{keep-every, keep-holds, keep-all, keep-none, keep-sum}
-use Rattle.lists.specs.Lists.{sum, below, All}
+use Rattle.lists.specs.Lists.{sum, below, All, keep}
 use Rattle.lists.proofs.Bools.{not-both, fails}
 use Rattle.lists.proofs.Sums.{all-map}
 use Rattle.model.specs.Turns.{Turns, PositiveLengths, NoDrivers}
@@ -18,7 +18,7 @@ use Rattle.model.specs.Choice.{has, chosen}
 use Rattle.model.specs.Feasible.{worthOf, OneTurnASlope}
 use Rattle.model.proofs.Bound.{apart-set}
 use Rattle.best_spec.specs.Table.{turnOrder, Best, bestOver, bestWorth}
-use Rattle.best_spec.specs.Groomers.{keep, ownTurns, groomerWorth, groomersWorth, OwnSet, MostOfGroomer}
+use Rattle.best_spec.specs.Groomers.{ownTurns, groomerWorth, groomersWorth, OwnSet, MostOfGroomer}
 use Rattle.best_spec.proofs.Members.{among-all, setChoice, set-from, set-earns}
 use Rattle.best_spec.proofs.Ordering.{Ordered, empty, first, order-ordered, order-range, order-sum}
 use Rattle.best_spec.proofs.Tables.{best-none, best-earns, best-every, leads-groomer, apart-among, best-feasible, taking-best}

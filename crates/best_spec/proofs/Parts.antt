@@ -7,12 +7,12 @@ use native.Mathlib.Omega.{arith}
 use native.Mathlib.Decide.{decLt, ℕ-discrete}
 use lib.Dec.{eqb}
 use borrow.Author.Tests.{eq-eqb, ne-eqb}
-use Rattle.lists.specs.Lists.{All, none, more}
+use Rattle.lists.specs.Lists.{All, none, more, keep}
 use Rattle.lists.proofs.Bools.{fails}
 use Rattle.lists.proofs.Sums.{all-map, all-append}
 use Rattle.model.specs.Turns.{Turns}
 use Rattle.best_spec.specs.Table.{turnOrder, Best, bestOver, isAmong}
-use Rattle.best_spec.specs.Groomers.{keep, ownTurns}
+use Rattle.best_spec.specs.Groomers.{ownTurns}
 use Rattle.best_spec.proofs.Members.{among-all, among-both}
 use Rattle.best_spec.proofs.Ordering.{Ordered, empty, first, order-ordered}
 use Rattle.best_spec.proofs.Tables.{best-every, leads-groomer}

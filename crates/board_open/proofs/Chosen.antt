@@ -6,17 +6,17 @@ use mathlib.Core.List.{List}
 use native.Mathlib.Omega.{arith}
 use native.Mathlib.Decide.{decLt}
 use lib.Dec.{ltb}
-use lib.ListN.{length, List·getD-eq-default}
+use lib.ListN.{List·getD-eq-default}
 use borrow.Author.Tests.{lt-ltb, le-ltb}
 use Rattle.refusal.specs.Number.{malformedBoard}
 use Rattle.model.specs.Choice.{has, chosen}
 use Rattle.choice_map.specs.Choice.{chosenIn, choiceIn, onesIn}
-use Rattle.board.specs.Board.{boardHeader, boardTurns, boardMap, boardChoice}
+use Rattle.board.specs.Board.{boardTurns, boardMap, boardChoice}
 use Rattle.board_open.specs.Open.{malformed, openOf}
 use Rattle.board_open.specs.Chosen.{counted, countOf, turnChosen}
 use Rattle.choice_map.proofs.Clean.{choice-has, choice-length}
 use Rattle.choice_map.proofs.Counts.{ones-turns}
-use Rattle.board_open.proofs.Openings.{opened, formed-header, formed-clear, formed-map}
+use Rattle.board_open.proofs.Openings.{opened, formed-clear, formed-map, part-header}
 
 -- ---- the code's cases
 
@@ -33,9 +33,6 @@ module _ (b : List ℕ) {r : Bool} (e : r ≡ malformed b) where
     pub chosen-formed : malformed b ≡ false
     chosen-formed = sym e ∙ f
 
-    pub chosen-header : boardHeader ≤ length b
-    chosen-header = formed-header b chosen-formed
-
     pub count-given : {map : List ℕ} {k : ℕ} → map ≡ boardMap b → k ≡ onesIn map → counted 0 k ≡ countOf b
     unfolding countOf
     count-given m k = rw (← e, f, k, m)
@@ -49,7 +46,7 @@ module _ (b : List ℕ) {r : Bool} (e : r ≡ malformed b) where
       unfolding turnChosen
       chosen-given h m c = c ∙ rw (← e, f, ← p, lt-ltb t n h, m)
 
-pub ruleset chosen-cases = (count-refused, count-given, chosen-refused, chosen-formed, chosen-header, chosen-past, chosen-given)
+pub ruleset chosen-cases = (count-refused, count-given, chosen-refused, chosen-formed, part-header, chosen-past, chosen-given)
 
 -- ---- on a board that opens
 

@@ -9,7 +9,7 @@ use lib.Seq.{take-at, drop-at, drop-drop}
 use borrow.Author.Tests.{eq-eqb, le-ltb}
 use Rattle.wire.specs.Number.{bytesOf, Bytes}
 use Rattle.wire.specs.Mark.{boardMark, opensWith}
-use Rattle.wire.proofs.Numbers.{value-read}
+use Rattle.wire.proofs.Numbers.{value-read, bytes-append}
 use Rattle.model.specs.Steps.{Step}
 use Rattle.choice_map.specs.Choice.{mapBytes, mapOf}
 use Rattle.board.specs.Board.{boardHeader, boardTurns, boardSteps, boardTally, boardWorth, stepsPlace, boardLength, boardMap, boardChoice, writtenSteps, stepBytes, countBytes, headBytes, boardOf}
@@ -21,10 +21,6 @@ use Rattle.board.proofs.StepBytes.{SmallSteps, step-bytes-length, step-bytes-be
 pub board-parts : (S : List Bool) (xs : List Step) (t w : ℕ) → boardOf S xs t w ≡ headBytes (length S) (length xs) t w ++ (mapOf S ++ stepBytes xs)
 unfolding boardOf countBytes headBytes
 board-parts S xs t w = refl
-
-bytes-append : {a b : List ℕ} → Bytes a → Bytes b → Bytes (a ++ b)
-bytes-append Bytes.none q = q
-bytes-append (Bytes.more h p) q = Bytes.more h (bytes-append p q)
 
 module _ (S : List Bool) (xs : List Step) (t w : ℕ) where
   pub board-length : length (boardOf S xs t w) ≡ boardLength (length S) (length xs)

@@ -28,7 +28,7 @@ use Rattle.sheet.proofs.Accepting.{accepted-iff}
 use Rattle.sheet.proofs.Readings.{sheet-numbered}
 use Rattle.board.specs.Board.{boardTurns, boardTally, boardWorth, boardChoice, writtenSteps}
 use Rattle.board_open.specs.Open.{malformed}
-pub use Rattle.board_open.proofs.OpenCauses.{formed-board}
+use Rattle.board_open.proofs.OpenCauses.{formed-board}
 use Rattle.board_open.proofs.OpenCauses.{board-formed}
 use Rattle.instance_spec.specs.Problem.{sheetTurns}
 use Rattle.instance_spec.proofs.SheetTurns.{sheet-count, sheet-lengths}

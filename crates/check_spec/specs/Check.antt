@@ -7,14 +7,14 @@ use mathlib.Core.Logic.{_≢_, _⊎_}
 use lib.Dec.{eqb}
 use lib.IntN.{ℤ}
 use Rattle.refusal.specs.Number.{malformedBoard, chosenConflict, notMaximal, wrongStep, turnLeftOpen, wrongSums}
-use Rattle.refusal.specs.Cause.{Cause, _when_}
+use Rattle.refusal.specs.Cause.{Cause, _when_, FirstAmong}
 use Rattle.model.specs.Turns.{Turns, Conflict}
 use Rattle.model.specs.Steps.{Step, isOpen, initial, afterStep, afterSteps, tally}
 use Rattle.model.specs.Choice.{has, chosen}
 use Rattle.model.specs.Rules.{independent, maximal, right, allRight, noneOpen, sums, Right, Each, KeepsRules}
 use Rattle.model.specs.Ceiling.{ceiling}
 use Rattle.sheet.specs.Read.{turnCount, sheetCauses}
-use Rattle.sheet.specs.Accepted.{SheetCause, placeOf, FirstAmong}
+use Rattle.sheet.specs.Accepted.{SheetCause, placeOf}
 use Rattle.instance_spec.specs.Problem.{sheetTurns}
 use Rattle.check_spec.specs.declared.CheckAnswer.{CheckAnswer}
 use Rattle.board.specs.Board.{boardTurns, boardSteps, boardTally, boardWorth, boardChoice, writtenSteps}

@@ -27,11 +27,12 @@ use Rattle.board.specs.Board.{boardTally, boardWorth, boardChoice, writtenSteps
 use Rattle.instance_spec.specs.Problem.{sheetTurns}
 use Rattle.instance_spec.proofs.SheetTurns.{sheet-count, sheet-lengths}
 use Rattle.check_spec.specs.Check.{Passes, checkOf, checked}
-use Rattle.check_spec.proofs.Passing.{formed-board, parts-pass, passes-iff, passes-answer, passes-promises}
+use Rattle.check_spec.proofs.Passing.{parts-pass, passes-iff, passes-answer, passes-promises}
 use Rattle.check_spec.proofs.CheckCauses.{keeps-no-cause, passes-no-cause}
 use Rattle.plan_spec.specs.Plan.{planCauses, plannedBoard, planOf}
 use Rattle.plan_spec.proofs.PlanCauses.{plan-number, plan-accepted-iff}
 use Rattle.plan_spec.proofs.Planned.{planned-back, plan-written}
+use Rattle.board_open.proofs.OpenCauses.{formed-board}
 use Rattle.claim.specs.Claim.{ByMethod, Claim}
 use Rattle.refusal.proofs.Outcome.{enough-iff}
 

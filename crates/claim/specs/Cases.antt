@@ -18,7 +18,9 @@ use Rattle.board_open.specs.Open.{openOf, stepsPart}
 use Rattle.check_spec.specs.Check.{checkOf, checked}
 use Rattle.plan_spec.specs.Plan.{planOf}
 use Rattle.listing_spec.specs.List.{listOf}
-use Rattle.claim.specs.Shift.{shift, shiftTable, shiftWritten, shiftBoard, shiftSteps, stepsExchanged, shiftListing, header, emptyBoard, lateTurn, wrongWorth, oneAndThree, oneToFill}
+use Rattle.sheet.specs.Shift.{shift}
+use Rattle.board.specs.Shift.{shiftBoard}
+use Rattle.claim.specs.Shift.{shiftTable, shiftWritten, shiftSteps, stepsExchanged, shiftListing, header, emptyBoard, lateTurn, wrongWorth, oneAndThree, oneToFill}
 use Rattle.refusal.specs.Outcome.{beside}
 
 -- lent places hold 9 before

@@ -12,7 +12,7 @@ use Rattle.lists.specs.Lists.{tab}
 use Rattle.wire.specs.Number.{valueAt}
 use Rattle.refusal.specs.declared.WriteAnswer.{WriteAnswer}
 use Rattle.refusal.specs.Outcome.{Outcome, beside}
-use Rattle.write_spec.specs.Write.{countsOf, writeOf}
+use Rattle.write_spec.specs.Write.{writeOf}
 use Rattle.draw_spec.specs.DrawnSheet.{drawOf}
 use Rattle.sheet.specs.declared.answer.ReadAnswer.{ReadAnswer}
 use Rattle.assign_spec.specs.declared.AssignAnswer.{AssignAnswer}
@@ -25,6 +25,7 @@ use Rattle.board_open.specs.Open.{openOf}
 use Rattle.board_open.specs.Chosen.{countOf, turnChosen}
 use Rattle.search_spec.specs.declared.ImproveAnswer.{ImproveAnswer}
 use Rattle.search_spec.specs.Improve.{improveOf}
+use Rattle.turn.specs.Turn.{countsOf}
 use Rattle.corpus.specs.declared.entries.Line.{Line}
 use Rattle.corpus.specs.declared.entries.Line.the-variants.{Two, Four}
 use Rattle.corpus.specs.Line.{askedAt, askedLong, numbersIn, tableIn, choicesIn, shown, readLine, writeLine, checkLine, assignLine, bestLine, improveLine, chargeLine, openLine}

@@ -1,12 +1,12 @@
 // One function for each entry of the library: it makes the call and gives what the case's line says.
 ghost use mathlib.Core.Path.{_≡_};
-ghost use mathlib.Core.Bool.{cond};
 ghost use Prim.Native.Nat.{_≤_, _/_, min};
 ghost use lib.ListN.{length, take};
+ghost use Rattle.turn.specs.Turn.{countsOf};
 ghost use Rattle.refusal.specs.Outcome.{beside};
 ghost use Rattle.sheet.specs.Read.{readOf};
 ghost use Rattle.sheet.specs.Screen.{readShortOf};
-ghost use Rattle.write_spec.specs.Write.{countsOf, writeOf};
+ghost use Rattle.write_spec.specs.Write.{writeOf};
 ghost use Rattle.draw_spec.specs.DrawnSheet.{drawOf};
 ghost use Rattle.check_spec.specs.Check.{checkOf};
 ghost use Rattle.plan_spec.specs.Plan.{planOf};
@@ -22,6 +22,8 @@ use assign_spec::AssignAnswer;
 use best_spec::BestAnswer;
 use check_spec::CheckAnswer;
 use hall_spec::ChargeAnswer;
+use numbers::lesser_usize;
+use numbers::one_if_u16;
 use refusal::WriteAnswer;
 use search_spec::ImproveAnswer;
 use sheet::ReadAnswer;
@@ -59,18 +61,12 @@ fn asked_long(numbers: &[u8]) -> u64
     (asked(numbers, 0) as u64) * 4294967296 + (asked(numbers, 4) as u64)
 }
 
-fn lesser(a: usize, b: usize) -> usize
-    ensures { λ r. ⌜ (r ≡ min a b) × (r ≤ a) × (r ≤ b) ⌝ }
-{
-    if a < b { a } else { b }
-}
-
 // Fills the front of the table with the numbers that stand in the bytes; returns how many they are.
 fn unpack(bytes: &[u8], table: &mut [u16]) -> usize
     ensures { λ r. ⌜ (r ≡ min (length (now (bytes .entry)) / 2) (length (now (table .entry)))) × (r ≤ length (now (table .entry))) ⌝ }
     ensures { λ r. ⌜ take r (now (table .exit)) ≡ numbersIn (now (bytes .entry)) r ⌝ }
 {
-    let count = lesser(bytes.len() / 2, table.len());
+    let count = lesser_usize(bytes.len() / 2, table.len());
     let mut i = 0;
     while i < count {
         table[i] = wire::word_at(bytes, 2 * i);
@@ -79,20 +75,13 @@ fn unpack(bytes: &[u8], table: &mut [u16]) -> usize
     count
 }
 
-// A bool as a number.
-fn flag(b: bool) -> u16
-    ensures { λ r. ⌜ r ≡ cond b 1 0 ⌝ }
-{
-    if b { 1 } else { 0 }
-}
-
 // Puts 1 to the place of each turn that the board chooses, and 0 to the others.
 fn choices(board: &[u8], turns: &mut [u16])
     ensures { λ _. ⌜ now (turns .exit) ≡ choicesIn (now (board .entry)) (length (now (turns .entry))) ⌝ }
 {
     let mut i = 0;
     while i < turns.len() {
-        turns[i] = flag(board_open::chooses(board, i));
+        turns[i] = one_if_u16(board_open::chooses(board, i));
         i += 1;
     }
 }
@@ -205,7 +194,7 @@ pub fn improve(limit: &[u8], sheet: &[u8], map: &mut [u8]) -> Line
     let a: ImproveAnswer = improve::improve(sheet, asked_long(limit), &mut *map);
     Line::Four(
         a.refusal,
-        flag(a.whole) as u64,
+        one_if_u16(a.whole) as u64,
         a.worth as u64,
         a.above as u64,
         a.visits,

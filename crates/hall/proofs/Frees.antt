@@ -12,7 +12,6 @@ use Rattle.lists.proofs.Bools.{and-1, and-2, every-not, every-fails, and-false}
 use Rattle.model.specs.Choice.{has, choose, chooseEach}
 use Rattle.model.proofs.Choices.{put-keeps, choose-not, each-kept, each-both}
 use Rattle.sheet.specs.Kind.{mostTurns}
-use Rattle.best_spec.specs.Groomers.{keep}
 use Rattle.instance.specs.declared.ways.Row.{Row}
 use Rattle.instance.specs.declared.columns.Size.{Size}
 use Rattle.instance.specs.Columns.{rowIn}
@@ -23,6 +22,7 @@ use Rattle.hall_spec.specs.Plan.{fitsAmong}
 use Rattle.hall_steps.specs.declared.one_kind.OneKind.{OneKind}
 use Rattle.hall_steps.specs.OneKind.{kindHall}
 use Rattle.hall_steps.specs.Bounds.{HallHeld}
+use Rattle.lists.specs.Lists.{keep}
 use Rattle.hall.specs.OneKind.{meant}
 use Rattle.hall.specs.Supply.{freeRow, freeIn, RowInHall, Supplied}
 use Rattle.hall.proofs.Supplies.{row-in-hall, supplied-none}

@@ -1,16 +1,16 @@
 // Choosing windows: those of a list of numbers, from its last to its first, each with which the set stays
 // allowed. A shift's turns are chosen so too, with another test of what fits.
 ghost use mathlib.Core.Path.{_≡_};
-ghost use mathlib.Core.Bool.{false, cond};
+ghost use mathlib.Core.Bool.{false};
 ghost use Prim.Native.Nat.{_*_, _≤_, _<_};
 ghost use lib.ListN.{length, take, replicate};
+ghost use Rattle.lists.specs.Lists.{keep};
 ghost use Rattle.model.specs.Choice.{choose, chooseEach};
 ghost use Rattle.sheet.specs.Kind.{mostTurns};
 ghost use Rattle.choice_map.specs.Choice.{choiceIn, Clean};
 ghost use Rattle.board.specs.Board.{stepSize, stepsIn};
 ghost use Rattle.selection.specs.Bounds.{StepsOf};
 ghost use Rattle.selection.specs.Asked.{NumbersOf};
-ghost use Rattle.best_spec.specs.Groomers.{keep};
 ghost use Rattle.hall_spec.specs.Hall.{staysAllowed};
 ghost use Rattle.hall_spec.specs.Plan.{fitsAmong, chooseAmong};
 ghost use Rattle.hall_steps.specs.OneKind.{kindHall, ofKind};
@@ -25,6 +25,9 @@ use hall_steps::OneKind;
 use instance::MOST_TURNS;
 use instance::PLACES;
 use instance::row_at;
+use numbers::as_place;
+use numbers::lesser_usize;
+use numbers::one_if_usize;
 use selection::ASKED;
 use selection::put_asked;
 
@@ -92,18 +95,6 @@ fn choose_beside(
     }
 }
 
-fn index(x: u16) -> usize
-    ensures { λ r. ⌜ r ≡ x ⌝ }
-{
-    x as usize
-}
-
-fn one_if(b: bool) -> usize
-    ensures { λ r. ⌜ (r ≡ cond b 1 0) × (r ≤ 1) ⌝ }
-{
-    if b { 1 } else { 0 }
-}
-
 // The windows of a list whose vehicles are not among those of the chosen ones, in the same order, to the front of a
 // place; returns how many they are. Each window is put there, and the next over it unless its vehicle is free: so
 // there is no branch to guess.
@@ -124,7 +115,7 @@ fn put_free(
     while i < list.len() {
         let t = list[i];
         free[count] = t;
-        count += one_if(is_free(a.units, used, row_at(cols, index(t))));
+        count += one_if_usize(is_free(a.units, used, row_at(cols, as_place(t))));
         i += 1;
     }
     count
@@ -152,12 +143,6 @@ fn choose_free(
     choose_beside(a, any, cols, &free[..count], &mut *map, &mut *used);
 }
 
-fn fewer(x: usize, y: usize) -> usize
-    ensures { λ r. ⌜ (r ≤ x) × (r ≤ y) ⌝ }
-{
-    if x < y { x } else { y }
-}
-
 // Chooses windows of the kind, or any, from the list's last number to its first, into a map that has none chosen.
 // First come the numbers behind as many as there are windows: after these most vehicles have a window, and the
 // windows of these vehicles are left out of the others.
@@ -169,7 +154,7 @@ fn choose_each(a: OneKind, any: bool, cols: &[u16; PLACES], list: &[u16], map: &
     ensures { λ _. ⌜ Clean (a .size .count) (now (map .exit)) ⌝ }
 {
     let mut used = [0u8; USED];
-    let later = fewer(list.len(), a.size.count);
+    let later = lesser_usize(list.len(), a.size.count);
     choose_beside(a, any, cols, &list[later..], &mut *map, &mut used);
     choose_free(a, any, cols, &list[..later], &mut *map, &mut used);
 }

@@ -33,10 +33,6 @@ module _ (change units drawn price : ℕ) where
   unfolding movedMinute
   moved-within h = rw (le-ltb units drawn h)
 
-  -- only where more than the units is drawn does it rise
-  pub moved-rises : price < movedMinute change units drawn price → units < drawn
-  moved-rises h = elim (decLt units drawn) [ yes l ↦ l | no l ↦ absurd (omega (arith, moved-within (omega arith))) ]
-
   pub moved-highest : price ≤ highestMinutePrice → movedMinute change units drawn price ≤ highestMinutePrice
   moved-highest h = elim (decLt units drawn) [ yes l ↦ omega (arith, moved-over l) | no l ↦ omega (arith, moved-within (omega arith)) ]
 

@@ -26,8 +26,9 @@ use Rattle.instance.proofs.Rows.{count-is, slope-at, groomer-at, start-at, end-
 use Rattle.hall_spec.specs.Hall.{mostUnits, mostVehicles, Hall, vehicle, draw, chargesAt}
 use Rattle.hall_spec.proofs.Windows.{in-charges}
 use Rattle.hall_by_prices_spec.specs.Prices.{priceParts, minutePrice, minutesCost, windowPays, windowCounts, alone, richestOf, vehicleBest, supplyCost, hallLimit}
+use Rattle.limit_spec.specs.Prices.{mostPrice}
 use Rattle.hall_look.specs.declared.HallSize.{HallSize}
-use Rattle.hall_look.specs.Look.{mostPrice, vehiclePlaces, hallFor, pricesBelow, rowCounts, bestsSum, windowBefore, HallPosed, MinuteSums, WindowRow, Bests, WindowsTaken}
+use Rattle.hall_look.specs.Look.{vehiclePlaces, hallFor, pricesBelow, rowCounts, bestsSum, windowBefore, HallPosed, MinuteSums, WindowRow, Bests, WindowsTaken}
 use Rattle.hall_look.proofs.SumCases.{below-more}
 
 -- ---- what a window's minutes cost, by sums

@@ -14,7 +14,8 @@ use Rattle.turn.specs.Turn.{shiftMinutes, mostWorth}
 use Rattle.instance.specs.declared.ways.Row.{Row}
 use Rattle.hall_spec.specs.Hall.{mostUnits}
 use Rattle.hall_by_prices_spec.specs.Prices.{minutePrice}
-use Rattle.hall_look.specs.Look.{mostPrice, sumPlaces, pricesBelow, rowCost, rowCounts, MinuteSumsTo, MinuteSums, WindowRow}
+use Rattle.limit_spec.specs.Prices.{mostPrice}
+use Rattle.hall_look.specs.Look.{sumPlaces, pricesBelow, rowCost, rowCounts, MinuteSumsTo, MinuteSums, WindowRow}
 
 pub price-is : (prices : List ℕ) (m : ℕ) {x : ℕ} → x ≡ getD prices m 0 → x ≡ minutePrice prices m
 unfolding minutePrice

@@ -11,11 +11,8 @@ use Rattle.hall_spec.specs.Hall.{mostUnits, mostVehicles, Hall}
 use Rattle.shares.specs.Taking.{hallBy}
 use Rattle.hall_steps.specs.Bounds.{HallHeld}
 use Rattle.hall_by_prices_spec.specs.Prices.{priceParts, minutePrice, windowCounts, richestOf, vehicleBest}
+use Rattle.limit_spec.specs.Prices.{mostPrice}
 use Rattle.hall_look.specs.declared.HallSize.{HallSize}
-
--- the greatest 16-bit number
-abbrev pub mostPrice : ℕ
-mostPrice = 65535
 
 -- a sum before each minute, and one of all
 abbrev pub sumPlaces : ℕ

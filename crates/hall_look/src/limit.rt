@@ -4,11 +4,12 @@ ghost use mathlib.Core.Bool.{cond};
 ghost use Prim.Native.Nat.{_+_, _*_, _/_, _≤_, _<_};
 ghost use lib.Dec.{ltb};
 ghost use lib.ListN.{length, getD, set, replicate};
+ghost use Rattle.limit_spec.specs.Prices.{mostPrice};
 ghost use Rattle.turn.specs.Turn.{shiftMinutes};
 ghost use Rattle.sheet.specs.Kind.{mostTurns};
 ghost use Rattle.hall_spec.specs.Hall.{mostUnits, mostVehicles};
 ghost use Rattle.hall_by_prices_spec.specs.Prices.{priceParts, supplyCost, hallLimit};
-ghost use Rattle.hall_look.specs.Look.{mostPrice, vehiclePlaces, hallFor, bestsSum, HallPosed, MinuteSums, Bests, WindowsTaken};
+ghost use Rattle.hall_look.specs.Look.{vehiclePlaces, hallFor, bestsSum, HallPosed, MinuteSums, Bests, WindowsTaken};
 use super::HallSize;
 use super::sums::MINUTES;
 use super::sums::PARTS;
@@ -16,9 +17,9 @@ use super::sums::SUMS;
 use super::sums::counts_for;
 use super::sums::put_sums;
 use instance::PLACES;
-use instance::as_place;
-use instance::as_u32;
 use instance::row_at;
+use numbers::as_place;
+use numbers::as_u32;
 
 // A place for each number of a vehicle; place 0 is not used.
 pub const VEHICLES: usize = 61;

@@ -2,11 +2,12 @@
 ghost use mathlib.Core.Path.{_≡_};
 ghost use Prim.Native.Nat.{_*_, _-_, _≤_, _<_};
 ghost use lib.ListN.{length};
+ghost use Rattle.limit_spec.specs.Prices.{mostPrice};
 ghost use Rattle.turn.specs.Turn.{shiftMinutes, mostWorth};
 ghost use Rattle.hall_by_prices_spec.specs.Prices.{minutePrice};
-ghost use Rattle.hall_look.specs.Look.{mostPrice, sumPlaces, rowCost, rowCounts, MinuteSums, WindowRow};
+ghost use Rattle.hall_look.specs.Look.{sumPlaces, rowCost, rowCounts, MinuteSums, WindowRow};
 use instance::Row;
-use instance::as_u32;
+use numbers::as_u32;
 
 pub const MINUTES: usize = turn::SHIFT_MINUTES as usize;
 

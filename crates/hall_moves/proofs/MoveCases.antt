@@ -33,7 +33,8 @@ use Rattle.hall.proofs.Supplies.{draw-start, draw-done, draw-next}
 use Rattle.hall_by_prices_spec.specs.Prices.{minutePrice}
 use Rattle.hall_by_prices_spec.specs.Hall.{highestMinutePrice, movedMinute, movedMinutes}
 use Rattle.hall_look.specs.declared.HallSize.{HallSize}
-use Rattle.hall_look.specs.Look.{mostPrice, hallFor, HallPosed, WindowRow}
+use Rattle.hall_look.specs.Look.{hallFor, HallPosed, WindowRow}
+use Rattle.limit_spec.specs.Prices.{mostPrice}
 use Rattle.hall_moves.specs.Moves.{mostDrawn, noMove, mostMove, movePlaces, moveBy, movedBy, MovesTo, EachTo, FewMoves, PricesFit, FewDrawn, RoomForMore, DrawnBy}
 use Rattle.hall_look.proofs.LookCases.{few-windows, window-inside, window-row}
 

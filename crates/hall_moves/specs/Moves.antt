@@ -12,7 +12,7 @@ use Rattle.hall_spec.specs.Hall.{mostUnits, Hall, drawnAt}
 use Rattle.hall_spec.specs.Plan.{roundedUp}
 use Rattle.hall_by_prices_spec.specs.Prices.{minutePrice}
 use Rattle.hall_by_prices_spec.specs.Hall.{highestMinutePrice}
-use Rattle.hall_look.specs.Look.{mostPrice}
+use Rattle.limit_spec.specs.Prices.{mostPrice}
 
 -- the most that windows draw at a minute: all of them, and all units each
 abbrev pub mostDrawn : ℕ

@@ -2,19 +2,22 @@
 ghost use mathlib.Core.Path.{_≡_};
 ghost use Prim.Native.Nat.{_+_, _-_, _≤_, _<_, min};
 ghost use lib.ListN.{length, replicate};
+ghost use Rattle.limit_spec.specs.Prices.{mostPrice};
 ghost use Rattle.turn.specs.Turn.{shiftMinutes, mostWorth};
 ghost use Rattle.choice_map.specs.Choice.{choiceIn, Clean};
 ghost use Rattle.hall_spec.specs.Hall.{mostUnits};
 ghost use Rattle.hall.specs.Supply.{Drawn};
 ghost use Rattle.hall_by_prices_spec.specs.Hall.{highestMinutePrice, movedMinutes};
-ghost use Rattle.hall_look.specs.Look.{mostPrice, hallFor, HallPosed, WindowRow};
+ghost use Rattle.hall_look.specs.Look.{hallFor, HallPosed, WindowRow};
 ghost use Rattle.hall_moves.specs.Moves.{mostDrawn, noMove, mostMove, movePlaces, moveBy, movedBy, MovesTo, EachTo, FewMoves, PricesFit, FewDrawn, RoomForMore, DrawnBy};
 use hall_look::HallSize;
 use hall_look::MINUTES;
 use instance::PLACES;
 use instance::Row;
-use instance::as_u32;
 use instance::row_at;
+use numbers::as_u32;
+use numbers::left_u32;
+use numbers::lesser_u32;
 
 const HIGHEST_MINUTE_PRICE: u32 = 65535;
 
@@ -22,19 +25,6 @@ const HIGHEST_MINUTE_PRICE: u32 = 65535;
 const MOST_LISTED: usize = 192;
 
 const MOVES: usize = MOST_LISTED + 1;
-
-fn smaller(x: u32, y: u32) -> u32
-    ensures { λ r. ⌜ r ≡ min x y ⌝ }
-{
-    if x < y { x } else { y }
-}
-
-// What is left of x, not below 0.
-fn left_after(x: u32, y: u32) -> u32
-    ensures { λ r. ⌜ r ≡ x - y ⌝ }
-{
-    if x < y { 0 } else { x - y }
-}
 
 // A move is held as a number, so that prices move alike whether up or down: this one is none, what is above it is up,
 // what is below it down. No price falls by more.
@@ -81,7 +71,7 @@ fn moved_minute(by: u32, price: u32) -> u16
     requires { ⌜ (by ≤ mostMove) × (price ≤ mostPrice) ⌝ }
     ensures { λ r. ⌜ r ≡ min highestMinutePrice (price + by - noMove) ⌝ }
 {
-    smaller(left_after(price + by, NO_MOVE), HIGHEST_MINUTE_PRICE) as u16
+    lesser_u32(left_u32(price + by, NO_MOVE), HIGHEST_MINUTE_PRICE) as u16
 }
 
 // The move of each minute, where it is known what is drawn then.

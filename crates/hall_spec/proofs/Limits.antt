@@ -4,8 +4,7 @@ use mathlib.Core.Bool.{Bool, true, false}
 use mathlib.Core.List.{List}
 use Prim.Native.Nat.{ℕ, _≤_, _<_}
 use native.Mathlib.Omega.{arith}
-use lib.IntN.{ℤ, pos, negsuc}
-use lib.Signed.{mag, leZ}
+use lib.IntN.{ℤ}
 use lib.ListN.{length}
 use Rattle.lists.proofs.Bools.{cond-most}
 use Rattle.model.specs.Turns.{Turns}
@@ -13,11 +12,11 @@ use Rattle.model.specs.Steps.{Step, residual, above, isOpen, initial, lessened,
 use Rattle.model.specs.Rules.{Right, Each, done, step}
 use Rattle.model.proofs.Residuals.{lessened-closed, residual-after-by}
 use Rattle.model.proofs.Planned.{planBy-right, steps-most, opens-most}
-use Rattle.model.proofs.Limits.{Within, AllWithin, within-mag, within-range, initial-within, amount-within, lessened-within}
+use Rattle.model.proofs.Limits.{Within, AllWithin, initial-within, amount-within, lessened-within}
 use Rattle.hall_spec.specs.Hall.{Hall, windowCount, isSmall}
 use Rattle.hall_spec.specs.Plan.{turnsAmong, smallTakes, smallSteps}
 use Rattle.hall_spec.proofs.Takes.{takes-most, small-taking}
-use Rattle.hall_spec.proofs.Open.{OnlyKind, first-only, after-only}
+use Rattle.hall_spec.proofs.Open.{OnlyKind, after-only}
 
 module _ (H : Hall) (supplied : 0 < H .units) where
   abbrev T : Turns
@@ -50,16 +49,6 @@ module _ (H : Hall) (supplied : 0 < H .units) where
     run-within k h done = h
     run-within k h (step {s = s} {x = x} q qs) =
         run-within (after-only (isSmall H) (small-taking H) s x k) (next-within 60000 s x k (amount-within T 60000 h q .1) h) qs
-
-    -- after any right steps each residual is between -59,999 and 60,000
-    pub small-residuals : {xs : List Step} → Each next (Right T) (initial T) xs → (t : ℕ) →
-        let z = residual (final next (initial T) xs) t in
-        (leZ (negsuc 59998) z ≡ true) × (leZ z (pos 60000) ≡ true) × (mag z ≤ 60000)
-    small-residuals {xs} r t =
-        let z = residual (final next (initial T) xs) t in
-        let w : Within 60000 z = run-within (first-only (isSmall H) H) first-within r t in
-        let b = within-range 59998 z w in
-        (b .0, b .1, within-mag 60000 z w)
 
   -- there are at most as many steps as windows
   pub small-few : length (smallSteps H) ≤ windowCount H

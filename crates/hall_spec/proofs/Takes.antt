@@ -42,18 +42,5 @@ module _ (H : Hall) where
       go false true = portion
       go false false = omega arith
 
-  -- at most twice the amount, from any that draws no more than the units
-  pub takes-twice : 0 < H .units → (j amount t : ℕ) → draw H t ≤ H .units → smallTakes H j amount t ≤ 2 * amount
-  unfolding smallTakes
-  takes-twice h j amount t l = go (sameVehicle H j t) (shareMinute H j t)
-    where
-      portion : roundedUp (2 * draw H t * amount) (H .units) ≤ 2 * amount
-      portion = up-below (2 * draw H t * amount) (H .units) (2 * amount) h (omega (arith, mul-le-mul-right amount l))
-
-      go : (v m : Bool) → cond v amount (cond m (roundedUp (2 * draw H t * amount) (H .units)) 0) ≤ 2 * amount
-      go true m = omega arith
-      go false true = portion
-      go false false = omega arith
-
   pub small-taking : Taking (afterStepBy (smallTakes H)) (takenBy (smallTakes H))
   small-taking = taking-by (smallTakes H) (λ j amount. takes-vehicle j amount j (is-vehicle H j j refl))

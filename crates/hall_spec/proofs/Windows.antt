@@ -2,7 +2,7 @@
 use mathlib.Core.Path.{_≡_, refl, sym}
 use mathlib.Core.Bool.{Bool, true, false, cond}
 use mathlib.Core.List.{List}
-use Prim.Native.Nat.{ℕ, _+_, _*_, _≤_, _<_, max}
+use Prim.Native.Nat.{ℕ, _+_, _*_, _≤_, _<_}
 use native.Mathlib.Omega.{arith}
 use lib.Dec.{ltb, leb}
 use lib.IntN.{ℤ}
@@ -56,14 +56,6 @@ module _ (H : Hall) where
   -- two windows that charge at one minute share it
   pub charges-share : (minute x y : ℕ) → chargesAt H minute x ≡ true → chargesAt H minute y ≡ true → shareMinute H x y ≡ true
   charges-share minute x y e f = lt-share x y (omega (arith, charges-in minute x e, charges-in minute y f)) (omega (arith, charges-in minute x e, charges-in minute y f))
-
-  -- and two that share one charge at the later of their starts
-  pub share-charges : (x y : ℕ) → H .windows .start x < H .windows .end x → H .windows .start y < H .windows .end y → shareMinute H x y ≡ true →
-      (minute : ℕ) × (chargesAt H minute x ≡ true) × (chargesAt H minute y ≡ true)
-  share-charges x y hx hy e =
-      let h = share-lt x y e in
-      let minute = max (H .windows .start x) (H .windows .start y) in
-      (minute, in-charges minute x (omega arith) (omega arith), in-charges minute y (omega arith) (omega arith))
 
   pub drawAt-charging : (minute t : ℕ) → chargesAt H minute t ≡ true → drawAt H minute t ≡ draw H t
   unfolding drawAt

@@ -8,10 +8,10 @@ ghost use Rattle.hall_steps.specs.Bounds.{HallHeld};
 use instance::PLACES;
 use instance::Row;
 use instance::Size;
-use instance::as_u32;
 use instance::put_row;
 use instance::row_at;
 use local_ratio::value_if;
+use numbers::as_u32;
 
 // The hall's units, how many windows it has, and which of them are meant: the wide ones, or the small.
 pub struct OneKind {

@@ -1,7 +1,6 @@
 // A sheet's turns as the engine holds them: in columns of numbers; and by which ways two turns conflict.
 mod columns;
 mod flags;
-mod numbers;
 mod posing;
 mod ways;
 
@@ -16,8 +15,6 @@ pub use columns::starts;
 pub use flags::SLOPES;
 pub use flags::is_clear;
 pub use flags::set_flag;
-pub use numbers::as_place;
-pub use numbers::as_u32;
 pub use posing::SHIFT_GAP;
 pub use posing::load;
 pub use posing::load_as;

@@ -5,7 +5,7 @@ ghost use mathlib.Core.Path.{_≡_};
 ghost use Prim.Native.Nat.{_<_};
 ghost use Rattle.model.specs.Turns.{overlapping};
 ghost use Rattle.instance.specs.Ways.{sharedOf, waysOf, conflicting};
-use super::numbers::as_u32;
+use numbers::as_u32;
 
 // What the engine asks of a turn. Driver 0 stands for none.
 pub struct Row {

@@ -9,9 +9,9 @@ ghost use Rattle.instance_by_end.specs.Placing.{byEnd, placeAt, PutByEnd
 use instance::PLACES;
 use instance::Row;
 use instance::Size;
-use instance::as_place;
 use instance::put_row;
 use instance::row_at;
+use numbers::as_place;
 
 // All turns in order of end, those of one end by number; nothing is said of what the spare numbers hold
 // afterwards.

@@ -27,7 +27,7 @@ fn limit_with(
     ensures { λ r. ⌜ r ≡ priceSum (turnsIn e (now (cols .entry))) (e .slopes) (now (prices .entry))
         + bestWorth (countedTurns (turnsIn e (now (cols .entry))) (e .slopes) (now (prices .entry))) ⌝ }
 {
-    if 0 < shift_look::driver_seen(e.size, cols) {
+    if shift_look::any_driver(e.size, cols) {
         shift_look::put_orders(e, cols, &mut *orders, &mut *room);
         return shift_look::limit_at(e, cols, &*orders, prices);
     }

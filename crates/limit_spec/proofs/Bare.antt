@@ -5,10 +5,10 @@ use mathlib.Core.List.{List, [], _∷_}
 use Prim.Native.Nat.{ℕ, _+_}
 use lib.Dec.{eqb}
 use lib.ListN.{replicate}
-use Rattle.lists.specs.Lists.{sum, below}
+use Rattle.lists.specs.Lists.{sum, below, keep}
 use Rattle.model.specs.Turns.{Turns, oneGroomer}
 use Rattle.best_spec.specs.Table.{Best, laterFirst, turnOrder, inTheWay, blocked, bestTable, bestOver, bestWorth, marked, bestChoice}
-use Rattle.best_spec.specs.Groomers.{keep, ownTurns, groomerWorth, groomersWorth}
+use Rattle.best_spec.specs.Groomers.{ownTurns, groomerWorth, groomersWorth}
 
 -- turns with other worths
 abbrev pub withWorths : Turns → (ℕ → ℕ) → Turns

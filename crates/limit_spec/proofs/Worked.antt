@@ -10,7 +10,8 @@ use Rattle.lists.specs.Sorting.{insertBy, sortBy}
 use Rattle.model.specs.Turns.{overlapping, overlap, oneGroomer, oneDriver, byDriver}
 use Rattle.instance_spec.specs.Problem.{problemOf, sheetTurns}
 use Rattle.best_spec.specs.Table.{laterFirst, turnOrder, greater, inTheWay, blocked, bestTable, bestOver}
-use Rattle.best_spec.specs.Groomers.{keep, ownTurns, groomerWorth, groomersWorth}
+use Rattle.best_spec.specs.Groomers.{ownTurns, groomerWorth, groomersWorth}
+use Rattle.lists.specs.Lists.{keep}
 use Rattle.limit_spec.specs.Prices.{slopePrice, turnPrice, paysTurn, paidBy, countsFor, pricedTurns, priceSum, limitBy}
 use Rattle.limit_spec.specs.Limit.{limitCauses, sheetLimit, limitOf}
 use Rattle.limit_spec.specs.Cases.{LimitCases}

@@ -1,12 +1,8 @@
 -- Limits worked by hand, through the definition that the entry's contract cites (request P-1). Assumes nothing.
 use mathlib.Core.Path.{_≡_}
-use mathlib.Core.List.{List, [], _∷_}
-use Prim.Native.Nat.{ℕ}
+use mathlib.Core.List.{[], _∷_}
+use Rattle.sheet.specs.Shift.{shift}
 use Rattle.limit_spec.specs.Limit.{limitIs, limitOf}
-
--- document 01's shift: two groomers, three slopes, four turns; (slope, groomer, start, end, worth) are (1,1,0,60,100) (2,1,30,90,150) (1,2,0,120,80) (3,2,120,180,90)
-abbrev pub shift : List ℕ
-shift = 0x47 ∷ 0x52 ∷ 0x4D ∷ 0x02 ∷ 0x03 ∷ 0x00 ∷ 0x04 ∷ 0x1F ∷ 0x01 ∷ 0x01 ∷ 0x00 ∷ 0x00 ∷ 0x00 ∷ 0x3C ∷ 0x00 ∷ 0x64 ∷ 0x15 ∷ 0x02 ∷ 0x00 ∷ 0x1E ∷ 0x00 ∷ 0x96 ∷ 0x1F ∷ 0x01 ∷ 0x02 ∷ 0x00 ∷ 0x00 ∷ 0x00 ∷ 0x78 ∷ 0x00 ∷ 0x50 ∷ 0x1D ∷ 0x03 ∷ 0x00 ∷ 0x78 ∷ 0x00 ∷ 0x3C ∷ 0x00 ∷ 0x5A ∷ []
 
 pub record LimitCases : Type 0 where
   -- no prices: 150 of groomer 1 and 90 of groomer 2

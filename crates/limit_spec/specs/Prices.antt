@@ -11,6 +11,10 @@ use Rattle.model.specs.Turns.{Turns, byDriver, Holds, OneDriver}
 use Rattle.model.specs.Feasible.{Distinct}
 use Rattle.best_spec.specs.Groomers.{groomersWorth}
 
+-- the greatest price that a list can hold, the greatest 16-bit number
+abbrev pub mostPrice : ℕ
+mostPrice = 65535
+
 -- the price of slope s: slopes are numbered from 1, and their prices come first
 unfoldable pub slopePrice : List ℕ → ℕ → ℕ
 slopePrice prices s = getD prices (s - 1) 0

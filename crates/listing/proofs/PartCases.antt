@@ -17,8 +17,9 @@ use Rattle.lists.proofs.Sums.{tab-length, tab-at, tab-same}
 use Rattle.choice_map.specs.Choice.{choiceIn}
 use Rattle.choice_map.proofs.Clean.{zeros-at, zeros-clean}
 use Rattle.listing_spec.specs.declared.Sums.{Sums}
-use Rattle.listing_spec.specs.Round.{startsAt, startsBelow, roundFrom, roundOf, shiftMinutes, StartsApart}
+use Rattle.listing_spec.specs.Round.{startsAt, startsBelow, roundFrom, roundOf, StartsApart}
 use Rattle.listing_spec.specs.Text.{lineOf, linesOf, headingOf, groomerText, groomersFrom, sumsLine, listingOf}
+use Rattle.turn.specs.Turn.{shiftMinutes}
 use Rattle.listing.specs.Notes.{noteOf, notesOf, noteText, notesText, NotesBelow, Marked}
 use Rattle.instance.specs.declared.columns.Size.{Size}
 use Rattle.instance.specs.Columns.{turnsBy}

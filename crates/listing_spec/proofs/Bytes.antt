@@ -9,7 +9,7 @@ use Rattle.text.specs.Decimal.{decimal}
 use Rattle.text.proofs.Width.{decimal-width}
 use Rattle.refusal.specs.Cause.{firstOf}
 use Rattle.lists.specs.Lists.{sum, below, In, here, later}
-use Rattle.model.specs.Turns.{Turns, PositiveLengths}
+use Rattle.model.specs.Turns.{Turns}
 use Rattle.model.specs.Steps.{tally}
 use Rattle.model.specs.Choice.{choice}
 use Rattle.model.specs.Rules.{Independent}
@@ -18,13 +18,14 @@ use Rattle.model.proofs.Limits.{sums-limits}
 use Rattle.model.proofs.Ceilings.{ceiling-thrice}
 use Rattle.model.proofs.Promised.{planned-keeps}
 use Rattle.sheet.specs.Kind.{mostTurns}
-use Rattle.sheet.specs.Read.{countsIn, turnCount, sheetCauses}
+use Rattle.sheet.specs.Read.{countsIn, sheetCauses}
 use Rattle.sheet.proofs.Unrefused.{few-groomers, few-slopes, few-turns}
-use Rattle.turn.specs.Turn.{mostWorth}
+use Rattle.turn.specs.Turn.{mostWorth, shiftMinutes}
 use Rattle.instance_spec.specs.Problem.{sheetTurns}
-use Rattle.instance_spec.proofs.SheetTurns.{sheet-count, sheet-lengths, sheet-ends, sheet-worths, sheet-slopes, sheet-groomers}
+use Rattle.instance_spec.proofs.SheetTurns.{sheet-count, sheet-lengths, sheet-ends, sheet-worths, sheet-slopes}
+use Rattle.listing_spec.proofs.Listed.{below-count, starts, from-1, to-most}
 use Rattle.listing_spec.specs.declared.Sums.{Sums}
-use Rattle.listing_spec.specs.Round.{roundOf, shiftMinutes, StartsApart}
+use Rattle.listing_spec.specs.Round.{roundOf, StartsApart}
 use Rattle.listing_spec.specs.Text.{labelled, twoLabelled, headingOf, lineOf, linesOf, groomerText, groomersFrom, sumsLine, listingOf, groomerWord, slopeWord, worthWord, sumWord, tallyWord, ceilingWord, hyphen, lineFeed}
 use Rattle.listing_spec.specs.List.{sumsFor, listingFor, sheetListing}
 use Rattle.listing_spec.proofs.Rounds.{apart-starts, round-is, rounds-count}
@@ -111,39 +112,30 @@ module _ (s : List ℕ) (z : firstOf (sheetCauses s) ≡ 0) where
   abbrev T : Turns
   T = sheetTurns s
 
-  inside : (u : ℕ) → u < T .count → u < turnCount s
-  inside u l = omega (arith, sheet-count s z)
-
   few : T .count ≤ mostTurns
   few = omega (arith, sheet-count s z, few-turns s z)
 
-  lengths : PositiveLengths T
-  lengths = sheet-lengths s z
-
   ends : (u : ℕ) → u < T .count → T .end u ≤ shiftMinutes
-  ends u l = sheet-ends s z u (inside u l)
+  ends u l = sheet-ends s z u (below-count s z u l)
 
   worths : (u : ℕ) → u < T .count → T .worth u ≤ mostWorth
-  worths u l = sheet-worths s z u (inside u l)
-
-  starts : (u : ℕ) → u < T .count → T .start u < shiftMinutes
-  starts u l = omega (arith, lengths u l, ends u l)
+  worths u l = sheet-worths s z u (below-count s z u l)
 
   short : (u : ℕ) → u < T .count → length (lineOf T u) ≤ 30
-  short u l = line-bytes T u (starts u l) (ends u l) (omega (arith, sheet-slopes s z u (inside u l) .1, few-slopes s z)) (worths u l)
+  short u l = line-bytes T u (starts s z u l) (ends u l) (omega (arith, sheet-slopes s z u (below-count s z u l) .1, few-slopes s z)) (worths u l)
 
   -- 16 headings of 11 bytes, 120 turns of 30, and the last line of 47
   pub listing-bytes : length (sheetListing s) ≤ 3823
   unfolding sheetListing listingFor listingOf sumsFor
   listing-bytes =
-      let apart : Independent T (choice T) = planned-keeps T lengths .apart in
+      let apart : Independent T (choice T) = planned-keeps T (sheet-lengths s z) .apart in
       let sums = sums-limits T worths few (planned-right T) (choice T) in
       omega (
         arith,
         length-append (groomersFrom T (choice T) (countsIn s .groomers) 1) (sumsLine (sumsFor T)),
-        groomers-bytes T (choice T) (apart-starts T (choice T) apart lengths) starts short (countsIn s .groomers) 1 (omega (arith, few-groomers s z)),
-        rounds-count T (choice T) (countsIn s .groomers) (λ u l. sheet-groomers s z u (inside u l) .0) (λ u l. sheet-groomers s z u (inside u l) .1) starts,
-        chosen-few T (choice T) apart (countsIn s .slopes) (λ u l. sheet-slopes s z u (inside u l) .0) (λ u l. sheet-slopes s z u (inside u l) .1),
+        groomers-bytes T (choice T) (apart-starts T (choice T) apart (sheet-lengths s z)) (starts s z) short (countsIn s .groomers) 1 (omega (arith, few-groomers s z)),
+        rounds-count T (choice T) (countsIn s .groomers) (from-1 s z) (to-most s z) (starts s z),
+        chosen-few T (choice T) apart (countsIn s .slopes) (λ u l. sheet-slopes s z u (below-count s z u l) .0) (λ u l. sheet-slopes s z u (below-count s z u l) .1),
         few-groomers s z,
         few-slopes s z,
         sums-bytes (sumsFor T) (sums .1) (sums .0) (omega (arith, sums .0, ceiling-thrice T (planned-right T))),

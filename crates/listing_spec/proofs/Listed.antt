@@ -13,7 +13,7 @@ use Rattle.lists.specs.Lists.{sum, below}
 use Rattle.model.specs.Turns.{Turns, PositiveLengths}
 use Rattle.model.specs.Choice.{choice}
 use Rattle.model.specs.Pick.{steps}
-use Rattle.model.proofs.Promised.{planned-keeps}
+use Rattle.model.proofs.Promised.{planned-keeps, planned-length}
 use Rattle.sheet.specs.Read.{countsIn, turnCount, sheetCauses}
 use Rattle.sheet.specs.Accepted.{Accepted}
 use Rattle.sheet.proofs.Accepting.{lent-accepted-iff}
@@ -25,8 +25,8 @@ use Rattle.board_open.proofs.Written.{map-read}
 use Rattle.instance_spec.specs.Problem.{sheetTurns}
 use Rattle.instance_spec.proofs.SheetTurns.{sheet-count, sheet-starts, sheet-lengths, sheet-ends, sheet-groomers}
 use Rattle.plan_spec.specs.Plan.{boardFor, plannedBoard}
-use Rattle.plan_spec.proofs.Boards.{choice-count}
-use Rattle.listing_spec.specs.Round.{roundOf, Round, StartsApart, shiftMinutes}
+use Rattle.turn.specs.Turn.{shiftMinutes}
+use Rattle.listing_spec.specs.Round.{roundOf, Round, StartsApart}
 use Rattle.listing_spec.specs.List.{sheetListing, listCauses, listOf, FirstListCause}
 use Rattle.listing_spec.proofs.Rounds.{apart-starts, round-is, rounds-ones}
 
@@ -34,13 +34,13 @@ module _ (s : List ℕ) (z : firstOf (sheetCauses s) ≡ 0) where
   abbrev T : Turns
   T = sheetTurns s
 
-  below-count : (u : ℕ) → u < T .count → u < turnCount s
+  pub below-count : (u : ℕ) → u < T .count → u < turnCount s
   below-count u h = omega (arith, sheet-count s z)
 
   lengths : PositiveLengths T
   lengths = sheet-lengths s z
 
-  starts : (u : ℕ) → u < T .count → T .start u < shiftMinutes
+  pub starts : (u : ℕ) → u < T .count → T .start u < shiftMinutes
   starts u h = omega (arith, sheet-starts s z u (below-count u h), sheet-ends s z u (below-count u h))
 
   apart : StartsApart T (choice T)
@@ -50,19 +50,19 @@ module _ (s : List ℕ) (z : firstOf (sheetCauses s) ≡ 0) where
   pub sheet-rounds : (h : ℕ) → Round T (choice T) h (roundOf T (choice T) h)
   sheet-rounds h = round-is T (choice T) h apart starts
 
-  from-1 : (u : ℕ) → u < T .count → 1 ≤ T .groomer u
+  pub from-1 : (u : ℕ) → u < T .count → 1 ≤ T .groomer u
   from-1 u h = sheet-groomers s z u (below-count u h) .0
 
-  to-most : (u : ℕ) → u < T .count → T .groomer u ≤ countsIn s .groomers
+  pub to-most : (u : ℕ) → u < T .count → T .groomer u ≤ countsIn s .groomers
   to-most u h = sheet-groomers s z u (below-count u h) .1
 
   map-is : boardMap (plannedBoard s) ≡ mapOf (choice T)
   unfolding plannedBoard boardFor
-  map-is = map-read (choice T) (steps T) _ _ (omega (arith, choice-count T, sheet-count s z, few-turns s z))
+  map-is = map-read (choice T) (steps T) _ _ (omega (arith, planned-length T, sheet-count s z, few-turns s z))
 
   -- there are as many turn lines as ones in the map of the planner's board
   pub sheet-lines : sum (λ k. length (roundOf T (choice T) (k + 1))) (below (countsIn s .groomers)) ≡ onesIn (boardMap (plannedBoard s))
-  sheet-lines = rounds-ones T (choice T) (countsIn s .groomers) (choice-count T) from-1 to-most starts ∙ sym (ap onesIn map-is)
+  sheet-lines = rounds-ones T (choice T) (countsIn s .groomers) (planned-length T) from-1 to-most starts ∙ sym (ap onesIn map-is)
 
 -- ---- refused
 

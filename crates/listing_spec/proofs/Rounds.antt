@@ -19,7 +19,8 @@ use Rattle.lists.proofs.Sums.{sum-add, sum-zero, sum-same, sum-swap, sum-hit, a
 use Rattle.choice_map.specs.Choice.{onesIn, mapOf}
 use Rattle.choice_map.proofs.Clean.{map-choice, map-clean}
 use Rattle.choice_map.proofs.Counts.{ones-turns}
-use Rattle.listing_spec.specs.Round.{shiftMinutes, startsAt, startsBelow, roundFrom, roundOf, Rising, Round, StartsApart}
+use Rattle.turn.specs.Turn.{shiftMinutes}
+use Rattle.listing_spec.specs.Round.{startsAt, startsBelow, roundFrom, roundOf, Rising, Round, StartsApart}
 use Rattle.listing_spec.specs.Round as round
 
 -- ---- two of a groomer's chosen turns that start together share that minute

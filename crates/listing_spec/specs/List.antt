@@ -2,7 +2,7 @@
 use Prim.Native.Nat.{ℕ}
 use mathlib.Core.List.{List}
 use lib.ListN.{length}
-use Rattle.refusal.specs.Cause.{Cause}
+use Rattle.refusal.specs.Cause.{Cause, FirstAmong}
 use Rattle.refusal.specs.Written.{Written, writtenUnless}
 use Rattle.model.specs.Turns.{Turns}
 use Rattle.model.specs.Steps.{tally}
@@ -10,7 +10,7 @@ use Rattle.model.specs.Pick.{steps}
 use Rattle.model.specs.Choice.{chosen, choice}
 use Rattle.model.specs.Ceiling.{ceiling}
 use Rattle.sheet.specs.Read.{countsIn, sheetCauses}
-use Rattle.sheet.specs.Accepted.{LentCause, FirstAmong}
+use Rattle.sheet.specs.Accepted.{LentCause}
 use Rattle.instance_spec.specs.Problem.{sheetTurns}
 use Rattle.listing_spec.specs.declared.Sums.{Sums}
 use Rattle.listing_spec.specs.Text.{listingOf}

@@ -5,7 +5,7 @@ use mathlib.Core.Logic.{_↔_}
 use mathlib.Core.Bool.{Bool, true, cond, _&&_}
 use mathlib.Core.List.{List, [], _∷_, _++_}
 use lib.Dec.{eqb}
-pub use Rattle.turn.specs.Turn.{shiftMinutes}
+use Rattle.turn.specs.Turn.{shiftMinutes}
 use Rattle.lists.specs.Lists.{All, In}
 use Rattle.model.specs.Turns.{Turns}
 use Rattle.model.specs.Choice.{has}

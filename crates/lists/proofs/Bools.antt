@@ -11,6 +11,9 @@ use Rattle.lists.specs.Lists.{every}
 pub not-both : {b : Bool} → b ≡ true → b ≡ false → ⊥
 not-both p q = true≢false (sym p ∙ q)
 
+pub never : {A : Type 0} → false ≡ true → A
+never e = absurd (true≢false (sym e))
+
 -- a test that cannot pass fails
 pub fails : (b : Bool) → (b ≡ true → ⊥) → b ≡ false
 fails true h = absurd (h refl)

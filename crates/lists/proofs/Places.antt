@@ -1,17 +1,26 @@
 -- Lists read and put place by place. None of this is in the source. Assumes nothing.
-use mathlib.Core.Path.{_≡_, sym, _∙_}
+use mathlib.Core.Path.{_≡_, refl, sym, ap, _∙_}
 use mathlib.Core.Logic.{_≢_}
 use mathlib.Core.List.{List, _∷_}
-use Prim.Native.Nat.{ℕ, _+_, _≤_, _<_}
+use Prim.Native.Nat.{ℕ, zero, suc, _+_, _≤_, _<_}
 use native.Mathlib.Omega.{arith}
 use native.Mathlib.Numerals.{add-one}
-use lib.ListN.{length, getD, drop, set, length-set, replicate, length-replicate, getD-replicate}
-use lib.Seq.{getD-set-same, getD-set-other, drop-cons, ext-getD}
+use lib.ListN.{length, getD, take, drop, set, length-set, replicate, length-replicate, getD-replicate}
+use lib.Seq.{getD-set-same, getD-set-other, drop-cons, ext-getD, length-take-le}
 use Rattle.lists.proofs.Bools.{up-to}
 use Rattle.lists.specs.Lists.{FilledTo}
 
 pub drop-step : (l : List ℕ) (j : ℕ) → j < length l → drop j l ≡ getD l j 0 ∷ drop (j + 1) l
 drop-step l j h = rw (add-one, drop-cons l j 0 h)
+
+-- the length of the first k places
+pub taken-length : (k : ℕ) (l : List ℕ) → k ≤ length l → k ≡ length (take k l)
+taken-length k l h = sym (length-take-le k l h)
+
+pub take-zeros : (k j : ℕ) → k ≤ j → _≡_ {A = List ℕ} (take k (replicate j 0)) (replicate k 0)
+take-zeros zero j h = refl
+take-zeros (suc k) zero h = absurd (omega arith)
+take-zeros (suc k) (suc j) h = ap (λ (l : List ℕ). 0 ∷ l) (take-zeros k j (omega arith))
 
 -- what holds of what stands for each number before k, at its own place, and of what is put for k
 pub put-at : (P : ℕ → ℕ → Type 0) (place : ℕ → ℕ) (l : List ℕ) (k x : ℕ) → place k < length l → ((i : ℕ) → i < k → place i ≢ place k)

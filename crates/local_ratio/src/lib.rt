@@ -2,6 +2,7 @@
 mod counting;
 mod residuals;
 
+pub use counting::BLOCK;
 pub use counting::apply_step;
 pub use residuals::first_open;
 pub use residuals::is_open;

@@ -23,10 +23,10 @@ use Rattle.board.specs.Board.{boardTurns, boardMap, boardChoice}
 use Rattle.check_spec.specs.Check.{BoardKeeps}
 use Rattle.check_spec.proofs.Passing.{passes-parts}
 use Rattle.play_spec.specs.declared.Standing.{Standing}
-use Rattle.play_spec.specs.Day.{overMinutes, delayIn, dayOf, works, doingAt, DayIs, DoingIs, NoEarlier, OnTime}
+use Rattle.play_spec.specs.Day.{overMinutes, delayIn, dayOf, works, doingAt, DayIs, DoingIs, OnTime}
 use Rattle.play_spec.specs.Standing.{lastMinute, freshOf, standingAfter, StandingIs}
 use Rattle.play_spec.proofs.Stints.{day-laid}
-use Rattle.play_spec.proofs.Delayed.{longer-later, on-time}
+use Rattle.play_spec.proofs.Delayed.{on-time}
 use Rattle.play_spec.proofs.Planned.{worked-planned, hand-planned}
 use Rattle.play_spec.proofs.Days.{day-is, doing-is}
 use Rattle.play_spec.proofs.Standings.{standing-is}
@@ -186,8 +186,3 @@ play-alike s b delays lent other room =
       answer = same;
       standings = λ z. first-places s b delays lent z ∙ sym (first-places s b delays other (ap (λ (a : PlayAnswer). a .refusal) (sym same) ∙ z));
     }
-
--- no turn begins earlier by a longer delay
-pub play-later : (s b short long : List ℕ) → ((u : ℕ) → delayIn short u ≤ delayIn long u) → (g : ℕ) → NoEarlier (dayAt s b short g) (dayAt s b long g)
-unfolding dayAt
-play-later s b short long more g = longer-later (sheetTurns s) (delayIn short) (delayIn long) more (boardChoice b) (suc g)

@@ -7,13 +7,13 @@ use mathlib.Core.List.{List, [], _∷_, _++_}
 use lib.ListN.{length, drop}
 use lib.Dec.{eqb}
 use Rattle.refusal.specs.Number.{badDelays}
-use Rattle.refusal.specs.Cause.{Cause, _when_}
+use Rattle.refusal.specs.Cause.{Cause, _when_, FirstAmong}
 use Rattle.lists.specs.Lists.{tab}
 use Rattle.turn.specs.Turn.{shiftMinutes}
 use Rattle.sheet.specs.Read.{countsIn, turnCount}
 use Rattle.instance_spec.specs.Problem.{sheetTurns}
 use Rattle.board.specs.Board.{boardChoice}
-use Rattle.sheet.specs.Accepted.{placeOf, FirstAmong}
+use Rattle.sheet.specs.Accepted.{placeOf}
 use Rattle.check_spec.specs.Check.{checkCauses, CheckCause}
 use Rattle.play_spec.specs.declared.Stint.{Stint}
 use Rattle.play_spec.specs.Day.{mostDelay, delayIn, delaysFit, dayOf}

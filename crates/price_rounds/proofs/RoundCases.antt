@@ -1,7 +1,7 @@
 -- The rounds by their cases, each premise in the form in which the code's calls and tests leave it. Assumes nothing.
-use Prim.Native.Nat.{ℕ, zero, suc, _+_, _-_, _<_, _≤_}
+use Prim.Native.Nat.{ℕ, _+_, _-_, _<_, _≤_}
 use mathlib.Core.Path.{_≡_, refl, sym, ap, _∙_}
-use mathlib.Core.List.{List, _∷_}
+use mathlib.Core.List.{List}
 use mathlib.Core.Bool.{Bool, true, false, cond, _||_}
 use native.Mathlib.Omega.{arith}
 use lib.Dec.{ltb, eqb}
@@ -29,6 +29,7 @@ use Rattle.price_rule.specs.declared.RuleFor.{RuleFor}
 use Rattle.price_rule.specs.declared.RuleFor.the-variants.{Shift, Hall}
 use Rattle.price_rule.specs.Rules.{sizeOf, pricesOf, changeOf, ruleLimit, relaxedOf, fitsOf, movedOf, choiceOf, ruleWorth, roundRule, RulePosed}
 use Rattle.price_rule.proofs.RuleCases.{rule-held, choice-made, choice-worth}
+use Rattle.lists.proofs.Places.{take-zeros}
 use Rattle.price_rounds.specs.declared.Task.{Task}
 use Rattle.price_rounds.specs.declared.Reached.{Reached}
 use Rattle.price_rounds.specs.Rounds.{roundsFrom, chosenFrom, stageOf, BetterKept, Reaches, RoundsStart, BetweenLooks}
@@ -79,11 +80,6 @@ pub ruleset better-cases = (better-none, better-put, better-clean, better-room, 
 
 abbrev mostPrices : ℕ
 mostPrices = shiftMinutes
-
-take-zeros : (k j : ℕ) → k ≤ j → _≡_ {A = List ℕ} (take k (replicate j 0)) (replicate k 0)
-take-zeros zero j h = refl
-take-zeros (suc k) zero h = absurd (omega arith)
-take-zeros (suc k) (suc j) h = ap (λ (l : List ℕ). 0 ∷ l) (take-zeros k j (omega arith))
 
 prices-most : (r : RuleFor) (cols : List ℕ) → RulePosed r cols → pricesOf r ≤ mostPrices
 unfolding pricesOf RulePosed

@@ -8,7 +8,6 @@ use mir.Syntax.{w64}
 use mir.Val.{Fits}
 use lib.ListN.{length, take, drop, replicate, length-append}
 use lib.Seq.{take-length, drop-at}
-use Rattle.best_spec.specs.Groomers.{keep}
 use Rattle.turn.specs.Turn.{shiftMinutes, mostWorth}
 use Rattle.model.specs.Choice.{has, chosen, fits, chooseEach}
 use Rattle.choice_map.specs.Choice.{choiceIn, Clean}
@@ -35,6 +34,7 @@ use Rattle.hall_by_prices_spec.specs.Prices.{hallLimit, hallRelaxed}
 use Rattle.hall_by_prices_spec.specs.Hall.{movedMinutes}
 use Rattle.hall_look.specs.declared.HallSize.{HallSize}
 use Rattle.hall_look.specs.Look.{hallFor, HallPosed}
+use Rattle.lists.specs.Lists.{keep}
 use Rattle.price_rule.specs.declared.RuleFor.{RuleFor}
 use Rattle.price_rule.specs.declared.RuleFor.the-variants.{Shift, Hall}
 use Rattle.price_rule.specs.Rules.{sizeOf, pricesOf, changeOf, ruleLimit, relaxedOf, fitsOf, movedOf, choiceOf, choosingList, ruleWorth, ShiftPosed, RulePosed, OrderedFor, RunsFor}

@@ -16,7 +16,7 @@ use Rattle.refusal.proofs.Outcome.{unless-first, unless-none}
 use Rattle.wire.specs.Number.{bytesOf, puts}
 use Rattle.wire.proofs.Puts.{puts-length}
 use Rattle.model.specs.Turns.{Turns}
-use Rattle.model.specs.Choice.{chosen, fits, choice}
+use Rattle.model.specs.Choice.{chosen, fits, choice, worthOfChoice}
 use Rattle.sheet.specs.declared.answer.ReadAnswer.{ReadAnswer}
 use Rattle.sheet.specs.Kind.{mostTurns}
 use Rattle.sheet.specs.Read.{countsIn, turnCount, sheetCauses}
@@ -34,7 +34,6 @@ use Rattle.instance_spec.proofs.SheetTurns.{sheet-slopes, sheet-groomers, sheet
 use Rattle.instance.proofs.Rows.{count-is}
 use Rattle.selection.proofs.Unchosen.{zeros-size}
 use Rattle.plan_spec.specs.Plan.{boardFor}
-use Rattle.plan_spec.proofs.Boards.{choice-count}
 use Rattle.best_table.specs.OrderAndTable.{Ranged}
 use Rattle.limit_spec.specs.Prices.{priceSum, limitBy}
 use Rattle.limit_spec.specs.Limit.{priceCount}
@@ -48,12 +47,15 @@ use Rattle.refine_spec.specs.Shift.{relaxedSet, movedPrices, shiftRule, greates
 use Rattle.refine_spec.specs.Refine.{refineCauses, boardWith, refinementOf, notRefined, refineOf}
 use Rattle.refine_spec.proofs.Rounds.{chosen-worth}
 use Rattle.refine_spec.proofs.Relaxed.{relaxed-counted}
+use Rattle.lists.proofs.Places.{taken-length}
+use Rattle.plan.proofs.Answers.{plan-room}
+use Rattle.model.proofs.Promised.{planned-length}
 use Rattle.refine.specs.declared.planned.Planned.{Planned}
 use Rattle.price_rule.specs.declared.RuleFor.the-variants.{Shift}
 use Rattle.price_rule.specs.Rules.{sizeOf, pricesOf, changeOf, ruleLimit, relaxedOf, fitsOf, movedOf, choiceOf, ruleWorth, roundRule, ShiftPosed, RulePosed}
 use Rattle.price_rounds.specs.declared.Reached.{Reached}
 use Rattle.price_rounds.specs.Rounds.{roundsFrom, Reaches, RoundsStart}
-use Rattle.refine.specs.PlannedBoard.{shiftRounds, choiceWorth, PlannedIn}
+use Rattle.refine.specs.PlannedBoard.{shiftRounds, PlannedIn}
 use Rattle.refine_spec.specs.Answer.{refinedBy, refineRefused}
 use Rattle.refine.proofs.BoardCases.{changed-size, board-changed}
 use Rattle.instance.proofs.Posed.{loaded-held, loaded-turns}
@@ -94,14 +96,11 @@ pub map-given : (n : ℕ) → n ≤ mostTurns → {size : ℕ} → size ≡ mapB
 map-given n h s = sym (zeros-size n h s) ∙ s
 
 module _ (p : Size) (cols lent : List ℕ) {plan : Planned} {board map : List ℕ} (u : PlannedIn p cols lent plan board map) where
-  pub start-worth : plan .worth ≡ choiceWorth (turnsBy p cols) (choiceIn (p .count) map)
-  start-worth = u .worth-is ∙ ap (choiceWorth (turnsBy p cols)) (sym (u .choice-is))
+  pub start-worth : plan .worth ≡ worthOfChoice (turnsBy p cols) (choiceIn (p .count) map)
+  start-worth = u .worth-is ∙ ap (worthOfChoice (turnsBy p cols)) (sym (u .choice-is))
 
   pub write-room : {map′ : List ℕ} → boardLength (p .count) (p .count) ≤ length lent → Clean (p .count) map′ → boardHeader + length map′ ≤ length board
   write-room h q = omega (arith, q .size, ap (λ (l : List ℕ). length l) (u .board-is), puts-length (boardFor (turnsBy p cols)) lent 0)
-
-pub lent-list : (k : ℕ) (prices : List ℕ) → k ≤ length prices → k ≡ length (take k prices)
-lent-list k prices l = sym (length-take-le k prices l)
 
 pub posed-held : (e : Extent) (cols : List ℕ) → ShiftPosed e cols → Held (e .size) cols
 posed-held e cols w = w .held
@@ -134,7 +133,7 @@ module _ (e : Extent) (cols lent : List ℕ) {plan : Planned} {board map : List 
     made : length (x .choice) ≡ T .count
     made = ap (λ (S : List Bool). length S) (sym (reached .choice)) ∙ choice-length (e .size .count) map′ ∙ sym (count-is (e .size) cols)
 
-    worth-made : r .worth ≡ choiceWorth T (x .choice)
+    worth-made : r .worth ≡ worthOfChoice T (x .choice)
     unfolding roundsFrom startFrom roundRule ruleWorth sizeOf
     worth-made = reached .worth ∙ chosen-worth (roundRule (Shift e) cols) rounds (startFrom (roundRule (Shift e) cols) (changeOf (Shift e) cols) (replicate (pricesOf (Shift e)) 0) (choice T)) refl
 
@@ -149,22 +148,19 @@ module _ (e : Extent) (cols lent : List ℕ) {plan : Planned} {board map : List 
     wide = rw (count-is (e .size) cols) room
 
     board-is : board′ ≡ boardWith T (x .choice) ++ drop (length (boardWith T (x .choice))) lent
-    board-is = w ∙ rw (u .board-is, planned, worth-made, map-made) (board-changed T (choice T) (x .choice) (choice-count T) made lent wide)
+    board-is = w ∙ rw (u .board-is, planned, worth-made, map-made) (board-changed T (choice T) (x .choice) (planned-length T) made lent wide)
 
     pub refine-written : length list ≡ length (take (e .slopes + e .size .count) prices) → refinedBy (record { refusal = 0; bytes = plan .bytes; worth = r .worth; limit = r .limit; rounds = r .rounds }) board′ (list ++ drop (e .slopes + e .size .count) prices)
         ≡ refinementOf (turnsIn e cols) (shiftRounds e cols rounds (choice (turnsIn e cols))) lent prices
     unfolding refinementOf
     refine-written k =
         let l : length list ≡ e .slopes + e .size .count = k ∙ length-take-le (e .slopes + e .size .count) prices enough in
-        let bytes : plan .bytes ≡ length (boardWith T (x .choice)) = u .bytes-are ∙ ap (λ (v : List ℕ). length v) planned ∙ changed-size T (choice T) (x .choice) (choice-count T) made in
+        let bytes : plan .bytes ≡ length (boardWith T (x .choice)) = u .bytes-are ∙ ap (λ (v : List ℕ). length v) planned ∙ changed-size T (choice T) (x .choice) (planned-length T) made in
         rw (bytes, reached .worth, reached .limit, reached .rounds, board-is, ← l, reached .list-is)
 
-pub ruleset written-cases = (map-given, posed-held, lent-list, start-worth, write-room, rounds-start, map-kept, refine-written)
+pub ruleset written-cases = (map-given, posed-held, taken-length, start-worth, write-room, rounds-start, map-kept, refine-written)
 
 -- ---- the answer
-
-pub refine-room : (n : ℕ) (board : List ℕ) {p : Size} {size : ℕ} → p ≡ shiftSize n → size ≡ boardLength n n → size ≤ length board → boardLength (p .count) (p .count) ≤ length board
-refine-room n board q h l = rw q (omega (arith, h))
 
 pub refine-list : (n slopes : ℕ) (prices : List ℕ) {p : Size} → p ≡ shiftSize n → slopes + n ≤ length prices → slopes + p .count ≤ length prices
 refine-list n slopes prices q l = rw q l
@@ -239,4 +235,4 @@ module _ (s cols : List ℕ) (rounds : ℕ) (board prices : List ℕ) {r : ReadA
             rw (le-ltb (length board) (boardLength (turnCount s) (turnCount s)) (omega (arith, h, turns-are)), le-ltb (length prices) (priceCount s) (omega (arith, slopes-are, turns-are))) in
             z ∙ rw (unless-none (refineCauses s (length board) (length prices)) (refinementOf (sheetTurns s) (shiftRefined (sheetTurns s) (countsIn s .groomers) (countsIn s .slopes) rounds) board prices) (λ k. notRefined k board prices) (later none), refined-is (record { size = p; slopes = r .slopes }) cols (countsIn s .groomers) numbers rounds, posed, slopes-are)
 
-pub ruleset answer-cases = (refine-fault, refine-short, refine-few, refine-posed, refine-list, refine-room, refine-done)
+pub ruleset answer-cases = (refine-fault, refine-short, refine-few, refine-posed, refine-list, plan-room, refine-done)

@@ -2,7 +2,7 @@
 use Prim.Native.Nat.{ℕ, _+_, _≤_}
 use mathlib.Core.Path.{_≡_, refl, sym, ap, _∙_}
 use mathlib.Core.List.{List, _++_, append-assoc}
-use mathlib.Core.Bool.{Bool, false}
+use mathlib.Core.Bool.{Bool}
 use native.Mathlib.Omega.{arith}
 use lib.ListN.{length, take, drop, length-append}
 use lib.Seq.{take-at, take-append-seam, drop-append-add, drop-append-seam}
@@ -11,22 +11,21 @@ use Rattle.wire.proofs.Puts.{puts-at, puts-front, puts-length, puts-append}
 use Rattle.model.specs.Turns.{Turns}
 use Rattle.model.specs.Steps.{tally}
 use Rattle.model.specs.Pick.{steps}
-use Rattle.model.specs.Choice.{chosen, choice}
+use Rattle.model.specs.Choice.{chosen, choice, worthOfChoice}
 use Rattle.choice_map.specs.Choice.{mapBytes, choiceIn, mapOf, Clean}
 use Rattle.choice_map.proofs.Clean.{map-length, map-choice, map-clean}
 use Rattle.board.specs.Board.{worthPlace, boardHeader, boardWorth, boardMap, boardLength, stepBytes, countBytes, headBytes}
-use Rattle.board_open.specs.Open.{malformed}
-use Rattle.board_open.proofs.Openings.{formed-header}
 use Rattle.board_open.proofs.Written.{board-parts, map-read}
 use Rattle.instance.specs.declared.columns.Size.{Size}
 use Rattle.instance.specs.Columns.{turnsBy, Held}
 use Rattle.instance.proofs.Rows.{count-is}
 use Rattle.plan_spec.specs.Plan.{boardFor}
-use Rattle.plan_spec.proofs.Boards.{choice-count, board-most, ReadsBack, board-back}
+use Rattle.plan_spec.proofs.Boards.{board-most, ReadsBack, board-back}
 use Rattle.refusal.specs.Written.{atFront}
 use Rattle.refine_spec.specs.Refine.{boardWith}
 use Rattle.refine_spec.proofs.Boards.{with-size, with-most}
-use Rattle.refine.specs.PlannedBoard.{choiceWorth}
+use Rattle.plan.proofs.Space.{board-opens, board-header}
+use Rattle.model.proofs.Promised.{planned-length}
 use Rattle.round_parts.proofs.RankCases.{all-copied}
 
 -- ---- what the planned board has
@@ -38,17 +37,11 @@ module _ (p : Size) (cols b : List ℕ) (held : Held p cols) (e : b ≡ boardFor
   back : ReadsBack T b
   back = rw e (board-back T (omega (arith, count-is p cols, held .few)) (λ t h. held .worths t (omega (arith, count-is p cols))))
 
-  pub plan-opens : malformed b ≡ false
-  plan-opens = back .planned-opens
-
-  pub plan-header : boardHeader ≤ length b
-  plan-header = formed-header b plan-opens
-
-  pub plan-worth : {w : ℕ} → w ≡ boardWorth b → w ≡ choiceWorth (turnsBy p cols) (choice (turnsBy p cols))
+  pub plan-worth : {w : ℕ} → w ≡ boardWorth b → w ≡ worthOfChoice (turnsBy p cols) (choice (turnsBy p cols))
   plan-worth h = h ∙ back .worth
 
   choice-size : length (choice T) ≡ p .count
-  choice-size = choice-count T ∙ count-is p cols
+  choice-size = planned-length T ∙ count-is p cols
 
   map-of : boardMap b ≡ mapOf (choice T)
   unfolding boardFor
@@ -71,7 +64,7 @@ module _ (p : Size) (cols b : List ℕ) (held : Held p cols) (e : b ≡ boardFor
       pub plan-clean : Clean (p .count) map′
       plan-clean = rw copied (rw choice-size at (map-clean (choice T)))
 
-pub ruleset plan-cases = (plan-opens, plan-header, plan-worth, plan-room, plan-choice, plan-clean)
+pub ruleset plan-cases = (board-opens, board-header, plan-worth, plan-room, plan-choice, plan-clean)
 
 -- ---- at the front of lent bytes
 
@@ -108,7 +101,7 @@ module _ (T : Turns) where
   ahead S = countBytes (length S) (length (steps T)) ++ bytesOf 4 (tally (steps T))
 
   abbrev changing : List Bool → List ℕ
-  changing S = bytesOf 4 (choiceWorth T S) ++ mapOf S
+  changing S = bytesOf 4 (worthOfChoice T S) ++ mapOf S
 
   regrouped : (a b c d e : List ℕ) → (a ++ (b ++ c)) ++ (d ++ e) ≡ (a ++ b) ++ ((c ++ d) ++ e)
   regrouped a b c d e = simp append-assoc
@@ -116,21 +109,21 @@ module _ (T : Turns) where
   three-parts : (S : List Bool) → boardWith T S ≡ ahead S ++ (changing S ++ stepBytes (steps T))
   unfolding boardWith headBytes
   three-parts S =
-      board-parts S (steps T) (tally (steps T)) (choiceWorth T S)
-      ∙ regrouped (countBytes (length S) (length (steps T))) (bytesOf 4 (tally (steps T))) (bytesOf 4 (choiceWorth T S)) (mapOf S) (stepBytes (steps T))
+      board-parts S (steps T) (tally (steps T)) (worthOfChoice T S)
+      ∙ regrouped (countBytes (length S) (length (steps T))) (bytesOf 4 (tally (steps T))) (bytesOf 4 (worthOfChoice T S)) (mapOf S) (stepBytes (steps T))
 
   ahead-length : (S : List Bool) → length (ahead S) ≡ worthPlace
   unfolding countBytes
   ahead-length S = refl
 
   changing-length : (S : List Bool) → length (changing S) ≡ 4 + mapBytes (length S)
-  changing-length S = length-append (bytesOf 4 (choiceWorth T S)) (mapOf S) ∙ ap (λ (n : ℕ). 4 + n) (map-length S)
+  changing-length S = length-append (bytesOf 4 (worthOfChoice T S)) (mapOf S) ∙ ap (λ (n : ℕ). 4 + n) (map-length S)
 
   module _ (S other : List Bool) (size : length S ≡ T .count) (same : length other ≡ T .count) where
     pub changed-size : length (boardWith T S) ≡ length (boardWith T other)
     changed-size = with-size T S size ∙ sym (with-size T other same)
 
-    pub board-changed : (lent : List ℕ) → boardLength (T .count) (T .count) ≤ length lent → puts (puts lent 0 (boardWith T S)) worthPlace (bytesOf 4 (choiceWorth T other) ++ mapOf other) ≡ atFront (boardWith T other) lent
+    pub board-changed : (lent : List ℕ) → boardLength (T .count) (T .count) ≤ length lent → puts (puts lent 0 (boardWith T S)) worthPlace (bytesOf 4 (worthOfChoice T other) ++ mapOf other) ≡ atFront (boardWith T other) lent
     board-changed lent room =
         let rest = drop (length (boardWith T S)) lent in
         let k : length S ≡ length other = size ∙ sym same in

@@ -4,9 +4,8 @@ use mathlib.Core.Bool.{Bool}
 use mathlib.Core.List.{List}
 use Prim.Native.Nat.{ℕ}
 use lib.ListN.{length}
-use Rattle.model.specs.Turns.{Turns}
 use Rattle.wire.specs.Number.{puts}
-use Rattle.model.specs.Choice.{chosen, choice}
+use Rattle.model.specs.Choice.{choice, worthOfChoice}
 use Rattle.choice_map.specs.Choice.{choiceIn, Clean}
 use Rattle.instance.specs.declared.columns.Size.{Size}
 use Rattle.instance.specs.Columns.{turnsBy}
@@ -21,16 +20,12 @@ use Rattle.refine.specs.declared.planned.Planned.{Planned}
 abbrev pub shiftRounds : Extent → List ℕ → ℕ → List Bool → Stage
 shiftRounds e cols rounds S = roundsFrom (Shift e) cols rounds S
 
--- what a choice is worth
-abbrev pub choiceWorth : Turns → List Bool → ℕ
-choiceWorth T S = chosen (T .count) S (T .worth)
-
 -- ---- as statements
 
 -- the planned board stands at the front of lent bytes, with its bytes and its worth as numbers and its choice in a map
 pub record PlannedIn (p : Size) (cols lent : List ℕ) (r : Planned) (board map : List ℕ) : Type 0 where
   pub board-is : board ≡ puts lent 0 (boardFor (turnsBy p cols))
   pub bytes-are : r .bytes ≡ length (boardFor (turnsBy p cols))
-  pub worth-is : r .worth ≡ choiceWorth (turnsBy p cols) (choice (turnsBy p cols))
+  pub worth-is : r .worth ≡ worthOfChoice (turnsBy p cols) (choice (turnsBy p cols))
   pub choice-is : choiceIn (p .count) map ≡ choice (turnsBy p cols)
   pub clean : Clean (p .count) map

@@ -4,12 +4,12 @@ ghost use mathlib.Core.List.{_++_};
 ghost use Prim.Native.Nat.{_+_, _≤_};
 ghost use lib.ListN.{length};
 ghost use Rattle.wire.specs.Number.{bytesOf, puts};
-ghost use Rattle.model.specs.Choice.{choice};
+ghost use Rattle.model.specs.Choice.{choice, worthOfChoice};
 ghost use Rattle.choice_map.specs.Choice.{mapBytes, choiceIn, Clean};
 ghost use Rattle.board.specs.Board.{worthPlace, boardHeader, boardLength};
 ghost use Rattle.instance.specs.Columns.{columnPlaces, turnsBy, Held};
 ghost use Rattle.plan_spec.specs.Plan.{boardFor};
-ghost use Rattle.refine.specs.PlannedBoard.{choiceWorth, PlannedIn};
+ghost use Rattle.refine.specs.PlannedBoard.{PlannedIn};
 use instance::PLACES;
 use instance::Size;
 
@@ -22,7 +22,7 @@ pub struct Planned {
 // Copies the map of a planned board; returns its worth.
 fn copy_choice(p: Size, cols: &[u16; PLACES], b: &[u8], map: &mut [u8]) -> u32
     requires { ⌜ Held p (now cols) × (now b ≡ boardFor (turnsBy p (now cols))) × (length (now map) ≡ mapBytes (p .count)) ⌝ }
-    ensures { λ r. ⌜ r ≡ choiceWorth (turnsBy p (now (cols .entry))) (choice (turnsBy p (now (cols .entry)))) ⌝ }
+    ensures { λ r. ⌜ r ≡ worthOfChoice (turnsBy p (now (cols .entry))) (choice (turnsBy p (now (cols .entry)))) ⌝ }
     ensures { λ _. ⌜ (choiceIn (p .count) (now (map .exit)) ≡ choice (turnsBy p (now (cols .entry)))) × Clean (p .count) (now (map .exit)) ⌝ }
 {
     let planned = board_open::map(b);

@@ -10,7 +10,7 @@ use lib.Dec.{eqb}
 use lib.ListN.{length, set, replicate, length-replicate}
 use lib.Seq.{getD-set-same, getD-set-other, set-getD, ext-getD}
 use borrow.Author.Tests.{eqb-true, eq-eqb, not-true}
-use Rattle.lists.specs.Lists.{tab, below, All, none, more}
+use Rattle.lists.specs.Lists.{tab, below, All, none, more, keep}
 use Rattle.lists.specs.Sorting.{insertBy, sortBy}
 use Rattle.lists.proofs.Bools.{not-both, fails, refuted, same-tests, and-1, and-2, and-of, and-false, or-1, or-2, or-false-1, or-false-2}
 use Rattle.lists.proofs.Sums.{all-below, all-map, all-both, all-append, tab-length, tab-at, tab-same}
@@ -22,7 +22,6 @@ use Rattle.model.proofs.Minutes.{conflict-is, no-conflict-is}
 use Rattle.model.proofs.Choices.{put-keeps, none-chosen, choose-cases, choose-not, each-both, each-kept}
 use Rattle.model.proofs.Filled.{fits-apart, apart-fits, stays-unfit}
 use Rattle.best_spec.specs.Table.{isAmong}
-use Rattle.best_spec.specs.Groomers.{keep}
 use Rattle.best_spec.proofs.Members.{among-all, among-both, among-cons}
 use Rattle.refine_spec.specs.Selection.{poorerFirst, byWorth, choiceFrom, AskedBefore, relaxed-first, worth-more, lower-number, ChosenBefore, ChosenFrom}
 use Rattle.refine_spec.proofs.Selection.{each-length, each-full, Poorer, by-worth, by-number, first-poorer, poorer-first, worth-order, worth-range, worth-among, from-length}

@@ -27,7 +27,8 @@ use Rattle.board.proofs.WrittenSteps.{steps-small}
 use Rattle.instance_spec.specs.Problem.{sheetTurns}
 use Rattle.instance_spec.proofs.SheetTurns.{sheet-count, sheet-lengths, sheet-worths}
 use Rattle.check_spec.specs.Check.{Passes}
-use Rattle.check_spec.proofs.Passing.{formed-board, parts-pass}
+use Rattle.check_spec.proofs.Passing.{parts-pass}
+use Rattle.board_open.proofs.OpenCauses.{formed-board}
 use Rattle.refine_spec.specs.Refine.{boardWith}
 
 -- everything that was written

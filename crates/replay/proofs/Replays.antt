@@ -2,7 +2,7 @@
 use Prim.Native.Nat.{ℕ, _+_, _-_, _<_, _≤_}
 use mathlib.Core.Path.{_≡_, refl, sym, _∙_, ap}
 use mathlib.Core.List.{List, [], _∷_}
-use mathlib.Core.Bool.{Bool, true, false, not, cond, true≢false}
+use mathlib.Core.Bool.{Bool, true, false, not, cond}
 use native.Mathlib.Omega.{arith}
 use native.Mathlib.Nat.{zero-add}
 use lib.IntN.{ℤ}
@@ -137,9 +137,6 @@ module _ (T : Turns) (s : List ℤ) (places bytes : List ℕ) (m : ℕ) where
   replay-start-closed = record { within = omega arith; closed = λ t h. absurd (omega arith) }
 
 pub ruleset replay-cases = (replay-start-right, replay-start-after, replay-start-costs, replay-start-closed, replay-more-right, replay-more-after, replay-more-costs, replay-stop, replay-done-right, replay-done-after, replay-done-costs)
-
-pub never : {A : Type 0} → false ≡ true → A
-never e = absurd (true≢false (sym e))
 
 -- ---- the faults of steps
 

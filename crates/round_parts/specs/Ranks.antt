@@ -3,7 +3,7 @@ use mathlib.Core.Bool.{Bool}
 use mathlib.Core.List.{List, _++_}
 use Prim.Native.Nat.{ℕ}
 use Rattle.model.specs.Choice.{has}
-use Rattle.best_spec.specs.Groomers.{keep}
+use Rattle.lists.specs.Lists.{keep}
 
 -- all turns of a list, and behind them those of a set
 unfoldable pub withChosen : List Bool → List ℕ → List ℕ

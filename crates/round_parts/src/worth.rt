@@ -5,8 +5,8 @@ ghost use Rattle.choice_map.specs.Choice.{choiceIn, Clean};
 ghost use Rattle.instance.specs.Columns.{turnsBy, Held};
 use instance::PLACES;
 use instance::Size;
-use instance::as_u32;
 use instance::row_at;
+use numbers::as_u32;
 
 // The worths of the turns that a map has chosen, together; only these are gone through.
 pub fn worth_chosen(p: Size, cols: &[u16; PLACES], map: &[u8]) -> u32

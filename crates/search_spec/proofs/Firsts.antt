@@ -8,7 +8,8 @@ use lib.Dec.{ltb}
 use lib.ListN.{length}
 use borrow.Author.Tests.{ltb-true, ltb-false}
 use Rattle.model.specs.Turns.{Turns}
-use Rattle.search_spec.specs.Search.{Progress, worthOfChoice, compared}
+use Rattle.model.specs.Choice.{worthOfChoice}
+use Rattle.search_spec.specs.Search.{Progress, compared}
 use Rattle.search_spec.specs.Sets.{comparedAll, ListedSet, here, there, FirstMost, no-more, less-before}
 
 pub listed-some : {U : List Bool} {As : List (List Bool)} → ListedSet U As → 1 ≤ length As

@@ -10,12 +10,12 @@ use lib.ListN.{length, set, take, length-set, length-replicate}
 use lib.Seq.{getD-set-same, getD-set-other, ext-getD, take-all}
 use Rattle.lists.proofs.Bools.{fails, not-both}
 use Rattle.model.specs.Turns.{Turns, PositiveLengths}
-use Rattle.model.specs.Choice.{has, fits}
+use Rattle.model.specs.Choice.{has, fits, worthOfChoice}
 use Rattle.model.proofs.Choices.{none-chosen}
 use Rattle.model.proofs.Filled.{NoConflict, put-apart}
 use Rattle.model.proofs.Minutes
 use Rattle.model.proofs.Readings.{apart-reads}
-use Rattle.search_spec.specs.Search.{Progress, worthOfChoice, compared, visited, cutShort, searchFrom, noneTaken, fromPlan, searchAll}
+use Rattle.search_spec.specs.Search.{Progress, compared, visited, cutShort, searchFrom, noneTaken, fromPlan, searchAll}
 use Rattle.search_spec.specs.Sets.{setsFrom, setsOf, oneMore, visitCosts, paidFor, setsWithin, comparedAll, ListedSet, here, there, SetOf, ComesBefore, SetsInOrder, empty, leads, Compares}
 use Rattle.search_spec.proofs.Firsts.{listed-some, compared-first}
 use Rattle.search_spec.proofs.Promised.{whole-visits}

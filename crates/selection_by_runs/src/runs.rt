@@ -5,7 +5,7 @@ ghost use lib.ListN.{length};
 ghost use Rattle.sheet.specs.Kind.{mostTurns};
 ghost use Rattle.instance.specs.Columns.{columnPlaces, turnsBy, Held};
 ghost use Rattle.shift_look.specs.OrdersAndCounts.{paidTo, Ordered};
-ghost use Rattle.selection_by_runs.specs.Runs.{driverColumns, runTurn, runEndAt, withRunPlace, NotReached, OrderFits, ColumnsTo, RunsOf};
+ghost use Rattle.selection_by_runs.specs.Runs.{driverColumns, endOf, runTurn, runEndAt, withRunPlace, NotReached, OrderFits, ColumnsTo, RunsOf};
 use super::BY_DRIVER;
 use super::BY_GROOMER;
 use super::ENDS;
@@ -14,7 +14,7 @@ use super::RUNS;
 use instance::MOST_TURNS;
 use instance::PLACES;
 use instance::Size;
-use instance::as_place;
+use numbers::as_place;
 use shift_look::DRIVERS;
 use shift_look::ORDERS;
 use shift_look::TOS;
@@ -52,7 +52,7 @@ fn placed_at(orders: &[u16; ORDERS], at: usize, k: usize) -> Placed
 // The first place from low on whose run comes to place k, or k itself.
 fn first_near(runs: &[u16; RUNS], at: usize, low: usize, k: usize) -> usize
     requires { ⌜ (k < mostTurns) × (low ≤ k) × (at ≤ driverColumns) ⌝ }
-    ensures { λ r. ⌜ NotReached (now (runs .entry)) at low r k × (r ≤ k) ⌝ }
+    ensures { λ r. ⌜ NotReached (now (runs .entry)) at low r k × (r ≤ k) × (low ≤ r) × (r < k → k < endOf (now (runs .entry)) at r) ⌝ }
 {
     let mut j = low;
     while j < k {

@@ -13,11 +13,11 @@ ghost use Rattle.shares.specs.Taking.{hallBy, rowTakes, SharesBy, HalfDr
 use instance::PLACES;
 use instance::Row;
 use instance::Size;
-use instance::as_u32;
 use instance::overlap;
 use instance::row_at;
 use local_ratio::lessen;
 use local_ratio::value_if;
+use numbers::as_u32;
 
 // The free minutes between two windows: none.
 pub const HALL_GAP: u16 = 0;

@@ -8,7 +8,7 @@ use native.Mathlib.Omega.{arith}
 use native.Mathlib.Nat.{zero-add}
 use lib.ListN.{length, take}
 use borrow.Author.Tests.{ltb-true, lt-ltb, leb-true, le-leb, not-true}
-use Rattle.refusal.specs.Cause.{There, firstOf}
+use Rattle.refusal.specs.Cause.{There, firstOf, FirstAmong}
 use Rattle.refusal.proofs.Places.{causeAt, there-at, at-there, there-left, there-right, there-split}
 use Rattle.wire.specs.Mark.{opensWith}
 use Rattle.turn.specs.Turn.{mostWorth, mostDriver, turnCauses}
@@ -19,7 +19,7 @@ use Rattle.sheet.specs.Record.{widthOf, endAt, firstCursor, recordCauses
 use Rattle.sheet.specs.Read.{headerBytes, countsIn, turnCount, countCauses, headerCauses, recordsCauses, causesFor, sheetCauses}
 use Rattle.sheet.proofs.SoundKinds.{garage-sound, mark-iff}
 use Rattle.sheet.proofs.Maps.{bad-map-iff}
-use Rattle.sheet.specs.Accepted.{cursorOf, recordMap, turnOf, placeOf, CauseFor, short-header, other-mark, groomer-count, slope-count, turn-count, no-map, wrong-map, short-fields, slope, groomer, time, worth, driver, bytes-behind, FirstCause, FirstAmong}
+use Rattle.sheet.specs.Accepted.{cursorOf, recordMap, turnOf, placeOf, CauseFor, short-header, other-mark, groomer-count, slope-count, turn-count, no-map, wrong-map, short-fields, slope, groomer, time, worth, driver, bytes-behind, FirstCause}
 use Rattle.refusal.proofs.Order.{first-same}
 
 other-mark-iff : {mark : List ℕ} → ThreeBytes mark → (s : List ℕ) → (not (opensWith mark s) ≡ true) ↔ (take 3 s ≢ mark)

@@ -5,7 +5,7 @@ use mathlib.Core.List.{List, [], _∷_, _++_}
 use mathlib.Core.Logic.{_↔_}
 use native.Mathlib.Omega.{arith}
 use lib.ListN.{length}
-use Rattle.refusal.specs.Cause.{firstOf, _when_}
+use Rattle.refusal.specs.Cause.{firstOf, _when_, FirstAmong}
 use Rattle.turn.specs.declared.Counts.{Counts}
 use Rattle.turn.specs.Turn.{rowNumbers, turnCauses}
 use Rattle.sheet.specs.declared.kind.Kind.{Kind}
@@ -13,7 +13,7 @@ use Rattle.sheet.specs.declared.record.Cursor.{Cursor}
 use Rattle.sheet.specs.Kind.{garage, Sound}
 use Rattle.sheet.specs.Record.{cursorAfter, firstCursor, recordCauses}
 use Rattle.sheet.specs.Read.{countsIn, turnCount, countCauses, headerCauses, recordsCauses, causesFor, readCausesFor, readFor, sheetCauses, readOf, Reading}
-use Rattle.sheet.specs.Accepted.{placeOf, LentCauseFor, ReadCauseFor, LentCause, FirstReadCause, FirstAmong, CauseFor, SheetCause, MoreCauseFor, MoreCause}
+use Rattle.sheet.specs.Accepted.{placeOf, LentCauseFor, ReadCauseFor, LentCause, FirstReadCause, CauseFor, SheetCause, MoreCauseFor, MoreCause}
 use Rattle.sheet.proofs.SoundKinds.{garage-sound}
 use Rattle.sheet.proofs.Causes.{causes-iff-for}
 use Rattle.refusal.specs.Outcome.{thenRoom}

@@ -1,22 +1,17 @@
 -- The turns of a sheet, by number, and the table that has their rows. Assumes nothing.
 use Prim.Native.Nat.{ℕ, zero, suc, _+_, _*_, _<_}
-use mathlib.Core.Path.{_≡_, sym, _∙_, ap, subst₂}
-use mathlib.Core.Bool.{Bool}
+use mathlib.Core.Path.{_≡_, _∙_, ap}
 use mathlib.Core.List.{List}
 use native.Mathlib.Omega.{arith}
 use native.Mathlib.Nat.{add-zero, zero-add}
 use lib.ListN.{length, getD}
 use Rattle.turn.specs.declared.Turn.{Turn}
-use Rattle.turn.specs.declared.Counts.{Counts}
-use Rattle.turn.specs.Turn.{rowNumbers, turnIn, InRange}
+use Rattle.turn.specs.Turn.{rowNumbers, turnIn}
 use Rattle.turn.proofs.Rows.{rows-length, turn-of-rows}
-use Rattle.sheet.specs.declared.kind.Kind.{Kind}
-use Rattle.sheet.specs.Kind.{Sound}
 use Rattle.sheet.specs.Record.{firstCursor}
-use Rattle.sheet.specs.Read.{countsIn, turnCount, turnsFrom, turnsOf, tableOf}
-use Rattle.sheet.specs.Accepted.{Records, none, more, AcceptedFor, cursorOf, turnOf}
+use Rattle.sheet.specs.Read.{turnCount, turnsFrom, turnsOf, tableOf}
+use Rattle.sheet.specs.Accepted.{cursorOf, turnOf}
 use Rattle.sheet.proofs.Readings.{turnsFrom-length}
-use Rattle.sheet.proofs.Accepting.{sheet-reads}
 
 -- ---- the turns; past the end a list reads as any turn that is named
 
@@ -47,17 +42,3 @@ module _ (s : List ℕ) where
   table-row i h = turn-of-rows (turnsOf s) i (turnOf s i) (omega (arith, turns-length)) ∙ turns-at (turnOf s i) i h
 
 -- ---- of an accepted sheet they are in range
-
-pub records-in-range : {K : Kind} {limits : Counts} {first : Bool} {p : Turn} {bytes : List ℕ} {ts : List Turn} → Records K limits first p bytes ts
-    → (d : Turn) (i : ℕ) → i < length ts → InRange limits (getD ts i d)
-records-in-range none d i h = absurd (omega arith)
-records-in-range (more map kept fits r) d zero h = fits
-records-in-range (more map kept fits r) d (suc i) h = records-in-range r d i (omega arith)
-
-module _ (K : Kind) (sound : Sound K) (s : List ℕ) (a : AcceptedFor K s) (i : ℕ) (h : i < turnCount s) where
-  pub accepted-in-range : InRange (countsIn s) (turnOf s i)
-  accepted-in-range =
-      let r = sheet-reads K sound s (a .counts) (a .turns) (a .sheet) in
-      let t : InRange (a .counts) (getD (a .turns) i (turnOf s i)) = records-in-range (a .sheet .records) (turnOf s i) i (omega (arith, r .3)) in
-      let e : getD (a .turns) i (turnOf s i) ≡ turnOf s i = ap (λ (ts : List Turn). getD ts i (turnOf s i)) (sym (r .2)) ∙ turns-at s (turnOf s i) i h in
-      subst₂ InRange (sym (r .1)) e t

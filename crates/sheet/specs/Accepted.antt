@@ -6,7 +6,7 @@ use mathlib.Core.List.{List, [], _∷_, _++_}
 use mathlib.Core.Bool.{Bool, true, false}
 use lib.ListN.{length, take}
 use Rattle.refusal.specs.Number.{truncated, badMagic, badMap, badTime, badWorth, badDriver, trailingBytes}
-pub use Rattle.refusal.specs.Cause.{FirstAmong}
+use Rattle.refusal.specs.Cause.{FirstAmong}
 use Rattle.turn.specs.declared.Turn.{Turn}
 use Rattle.turn.specs.declared.Counts.{Counts}
 use Rattle.turn.specs.Turn.{rowNumbers, InRange, shiftMinutes, mostWorth, mostDriver}

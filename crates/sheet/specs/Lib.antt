@@ -5,3 +5,4 @@ pub mod Layout
 pub mod Accepted
 pub mod Promises
 pub mod Screen
+pub mod Shift

@@ -116,10 +116,6 @@ readFor K s lent = unless (readCausesFor K s (length lent)) (beside (readAnswer 
 unfoldable pub sheetCauses : List ℕ → List Cause
 sheetCauses = causesFor garage
 
--- with the lent table's
-unfoldable pub readCauses : List ℕ → ℕ → List Cause
-readCauses = readCausesFor garage
-
 -- its answer
 abbrev pub answerOf : List ℕ → ReadAnswer
 answerOf = answerFor garage

@@ -5,10 +5,11 @@ use mathlib.Core.List.{List}
 use lib.ListN.{take, drop}
 use Rattle.refusal.specs.Number.{tooManyForScreen}
 use Rattle.turn.specs.Turn.{rowNumbers}
+use Rattle.refusal.specs.Cause.{FirstAmong}
 use Rattle.sheet.specs.declared.kind.Kind.{Kind}
 use Rattle.sheet.specs.Kind.{garage, withTurns}
 use Rattle.sheet.specs.Read.{readFor, Reading}
-use Rattle.sheet.specs.Accepted.{AcceptedFor, ReadCauseFor, FirstAmong}
+use Rattle.sheet.specs.Accepted.{AcceptedFor, ReadCauseFor}
 
 -- the most turns that the screen shows
 abbrev pub screenTurns : ℕ

@@ -22,9 +22,9 @@ use Rattle.instance.specs.declared.columns.Size.{Size}
 use Rattle.instance.specs.Columns.{rowIn, turnsBy}
 use Rattle.instance.proofs.Rows.{count-is, slope-at, worth-at}
 use Rattle.best_spec.specs.Table.{turnOrder}
-use Rattle.limit_spec.specs.Prices.{slopePrice, turnPrice, paysTurn, paidBy, countsFor}
+use Rattle.limit_spec.specs.Prices.{slopePrice, turnPrice, paysTurn, paidBy, countsFor, mostPrice}
 use Rattle.shift_look.specs.declared.Extent.{Extent}
-use Rattle.shift_look.specs.OrdersAndCounts.{byDrivers, turnsIn, placeDriver, placePrice, placesSum, paidFrom, paidTo, mostPrice, leftAfter, SumsTo, NumbersTo, PaymentsTo, CountsTo, PaidRun, Ordered, Priced}
+use Rattle.shift_look.specs.OrdersAndCounts.{byDrivers, turnsIn, placeDriver, placePrice, placesSum, paidFrom, paidTo, leftAfter, SumsTo, NumbersTo, PaymentsTo, CountsTo, PaidRun, Ordered, Priced}
 use Rattle.shift_look.proofs.SumCases.{drivers-sum}
 
 -- ---- a run's sum

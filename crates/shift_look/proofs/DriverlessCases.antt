@@ -1,10 +1,12 @@
 -- Turns of which none names a driver, by cases in the form in which the code leaves them. Assumes nothing.
-use Prim.Native.Nat.{ℕ, _+_, _-_, _*_, _≤_, _<_}
-use mathlib.Core.Path.{_≡_, sym, ap, _∙_}
-use mathlib.Core.Bool.{false, cond}
+use Prim.Native.Nat.{ℕ, zero, suc, _+_, _-_, _*_, _≤_, _<_, max}
+use mathlib.Core.Path.{_≡_, refl, sym, ap, _∙_}
+use mathlib.Core.Bool.{Bool, true, false, cond}
 use mathlib.Core.List.{List}
 use native.Mathlib.Omega.{arith}
+use native.Mathlib.Numerals.{add-one}
 use native.Mathlib.Decide.{ℕ-discrete}
+use borrow.Author.Tests.{lt-ltb, ltb-false}
 use mir.Syntax.{w32}
 use mir.Val.{Fits}
 use lib.Dec.{ltb}
@@ -18,9 +20,9 @@ use Rattle.instance.specs.Columns.{rowIn, turnsBy}
 use Rattle.instance.proofs.Rows.{count-is, slope-at}
 use Rattle.best_spec.specs.Table.{bestWorth}
 use Rattle.best_table.specs.OrderAndTable.{InTurnOrder, Befores, Chained, Filled}
-use Rattle.limit_spec.specs.Prices.{slopePrice, turnPrice, paysTurn, paidBy, countsFor, priceSum}
+use Rattle.limit_spec.specs.Prices.{slopePrice, turnPrice, paysTurn, paidBy, countsFor, priceSum, mostPrice}
 use Rattle.shift_look.specs.declared.Extent.{Extent}
-use Rattle.shift_look.specs.OrdersAndCounts.{countedTurns, turnsIn, slopesSum, mostPrice, Priced, CountsTo, DriversUpTo, DriversSeen}
+use Rattle.shift_look.specs.OrdersAndCounts.{countedTurns, turnsIn, slopesSum, greatestDriver, Priced, CountsTo}
 use Rattle.shift_look.proofs.SumCases.{driver-at}
 use Rattle.shift_look.proofs.CountCases.{count-is-left}
 use Rattle.shift_look.proofs.LookCases.{table-chained, table-first}
@@ -28,39 +30,49 @@ use Rattle.shift_look.proofs.LookCases.{table-chained, table-first}
 -- ---- the greatest driver
 
 module _ (p : Size) (cols : List ℕ) where
-  pub upto-start : (most : ℕ) → DriversUpTo (turnsBy p cols) 0 most
-  unfolding DriversUpTo
-  upto-start most t h = absurd (omega arith)
+  pub greatest-start : 0 ≡ greatestDriver (turnsBy p cols) 0
+  unfolding greatestDriver
+  greatest-start = refl
 
-  pub upto-more : (i most : ℕ) {a : Row} {r : ℕ} → i < p .count → a ≡ rowIn cols i → DriversUpTo (turnsBy p cols) i most → a .driver ≤ r → most ≤ r → DriversUpTo (turnsBy p cols) (i + 1) r
-  unfolding DriversUpTo
-  upto-more i most {a} {r} h ea u l m t k = go (ℕ-discrete t i)
-    where
-      go : Dec (t ≡ i) → turnsBy p cols .driver t ≤ r
-      go (yes e) = rw e (omega (arith, driver-at (record { size = p; slopes = 0 }) cols i h ea))
-      go (no d) = omega (arith, u t (omega arith))
+  pub greatest-more : (i g : ℕ) {a : Row} {r : ℕ} → i < p .count → a ≡ rowIn cols i → g ≡ greatestDriver (turnsBy p cols) i → r ≡ max (a .driver) g → r ≡ greatestDriver (turnsBy p cols) (i + 1)
+  unfolding greatestDriver
+  greatest-more i g h ea e q = rw (add-one, q, e, driver-at (record { size = p; slopes = 0 }) cols i h ea) refl
 
-  pub upto-done : (i most : ℕ) → p .count ≤ i → i ≤ p .count → DriversUpTo (turnsBy p cols) i most → DriversUpTo (turnsBy p cols) (p .count) most
-  upto-done i most a b u = let e : i ≡ p .count = omega arith in rw e at u
+  pub greatest-done : (i g : ℕ) → p .count ≤ i → i ≤ p .count → g ≡ greatestDriver (turnsBy p cols) i → g ≡ greatestDriver (turnsBy p cols) (p .count)
+  greatest-done i g a b e = let q : i ≡ p .count = omega arith in rw q at e
 
-pub ruleset greatest-cases = (upto-start, upto-more, upto-done)
+pub ruleset greatest-cases = (greatest-start, greatest-more, greatest-done)
 
--- another number than 0 says nothing, and the greatest all that there is to say
-module _ (T : Turns) (i r : ℕ) where
-  pub seen-some : 0 < r → DriversSeen T i r
-  unfolding DriversSeen
-  seen-some h z = absurd (omega arith)
+greatest-above : (T : Turns) (i t : ℕ) → t < i → T .driver t ≤ greatestDriver T i
+unfolding greatestDriver
+greatest-above T zero t h = absurd (omega arith)
+greatest-above T (suc i) t h = go (ℕ-discrete t i) (greatest-above T i t)
+  where
+    go : Dec (t ≡ i) → (t < i → T .driver t ≤ greatestDriver T i) → T .driver t ≤ max (T .driver i) (greatestDriver T i)
+    go (yes e) ih = rw e (omega arith)
+    go (no d) ih = omega (arith, ih (omega arith))
 
-  pub seen-greatest : DriversUpTo T i r → DriversSeen T i r
-  unfolding DriversSeen
-  seen-greatest u z = u
+-- whether there is one, by the first turn or by all of them
+module _ (p : Size) (cols : List ℕ) where
+  pub any-none : p .count ≡ 0 → false ≡ ltb 0 (greatestDriver (turnsBy p cols) (p .count))
+  unfolding greatestDriver
+  any-none e = rw e refl
 
-pub ruleset seen-cases = (seen-some, seen-greatest)
+  pub any-first : {a : Row} → (p .count ≡ 0 → ⊥) → a ≡ rowIn cols 0 → 0 < a .driver → true ≡ ltb 0 (greatestDriver (turnsBy p cols) (p .count))
+  any-first {a} n ea h =
+      let l : 0 < p .count = omega (arith, n) in
+      sym (lt-ltb 0 (greatestDriver (turnsBy p cols) (p .count)) (omega (arith, h, driver-at (record { size = p; slopes = 0 }) cols 0 l ea, greatest-above (turnsBy p cols) (p .count) 0 l)))
 
--- with 0, no turn names one
-pub none-named : (e : Extent) (cols : List ℕ) {r : ℕ} → r ≤ 0 → DriversSeen (turnsBy (e .size) cols) (e .size .count) r → NoDrivers (turnsIn e cols)
-unfolding DriversSeen DriversUpTo
-none-named e cols z u t h = omega (arith, u z t (omega (arith, count-is (e .size) cols)))
+  pub any-greatest : {g : ℕ} → g ≡ greatestDriver (turnsBy p cols) (p .count) → ltb 0 g ≡ ltb 0 (greatestDriver (turnsBy p cols) (p .count))
+  any-greatest e = rw e refl
+
+pub ruleset any-cases = (any-none, any-first, any-greatest)
+
+-- where there is none, no turn names one
+pub none-named : (e : Extent) (cols : List ℕ) {r : Bool} → r ≡ false → r ≡ ltb 0 (greatestDriver (turnsBy (e .size) cols) (e .size .count)) → NoDrivers (turnsIn e cols)
+none-named e cols z u t h =
+    let q : ltb 0 (greatestDriver (turnsBy (e .size) cols) (e .size .count)) ≡ false = sym u ∙ z in
+    omega (arith, ltb-false 0 (greatestDriver (turnsBy (e .size) cols) (e .size .count)) q, greatest-above (turnsBy (e .size) cols) (e .size .count) t (omega (arith, count-is (e .size) cols)))
 
 -- ---- what a turn pays
 
@@ -105,7 +117,7 @@ module _ (e : Extent) (cols prices : List ℕ) (none : NoDrivers (turnsIn e cols
       driverless-fits l = omega (arith, f .most 0 (omega arith) (omega arith), w .few)
 
 -- the prices that the limit has in it are those of the slopes
-pub driverless-prices : (e : Extent) (cols prices : List ℕ) {r a : ℕ} → r ≤ 0 → DriversSeen (turnsBy (e .size) cols) (e .size .count) r → a ≡ slopesSum prices (e .slopes) → a ≡ priceSum (turnsIn e cols) (e .slopes) prices
+pub driverless-prices : (e : Extent) (cols prices : List ℕ) {r : Bool} {a : ℕ} → r ≡ false → r ≡ ltb 0 (greatestDriver (turnsBy (e .size) cols) (e .size .count)) → a ≡ slopesSum prices (e .slopes) → a ≡ priceSum (turnsIn e cols) (e .slopes) prices
 driverless-prices e cols prices z u q = q ∙ sym (prices-slopes (turnsIn e cols) (e .slopes) prices (none-named e cols z u))
 
 pub ruleset slope-count-cases = (slope-counts, slope-above, slope-listed)

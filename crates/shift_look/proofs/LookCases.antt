@@ -13,9 +13,9 @@ use Rattle.instance.specs.Columns.{turnsBy}
 use Rattle.best_spec.specs.Table.{laterFirst, turnOrder, inTheWay, blocked, bestWorth, marked, bestChoice}
 use Rattle.best_table.specs.OrderAndTable.{placeBefore, wholeWay, InTurnOrder, Befores, Counts, Chained, Filled, Readable, Firsts}
 use Rattle.best_table.proofs.BestCases.{turns-chained, filled-entries, filled-firsts, turns-readable, way-best, first-entry}
-use Rattle.limit_spec.specs.Prices.{priceSum}
+use Rattle.limit_spec.specs.Prices.{priceSum, mostPrice}
 use Rattle.shift_look.specs.declared.Extent.{Extent}
-use Rattle.shift_look.specs.OrdersAndCounts.{countedTurns, turnsIn, mostPrice, CountsTo, Ordered, Priced}
+use Rattle.shift_look.specs.OrdersAndCounts.{countedTurns, turnsIn, CountsTo, Ordered, Priced}
 
 -- ---- counts change no order
 

@@ -6,18 +6,18 @@ use mathlib.Core.Bool.{Bool, true, false, cond}
 use mathlib.Core.List.{List, [], _∷_}
 use native.Mathlib.Omega.{arith}
 use native.Mathlib.Decide.{ℕ-discrete, decLt}
-use lib.Dec.{ltb, leb, eqb}
+use lib.Dec.{leb, eqb}
 use lib.ListN.{length, drop, getD, length-drop}
 use lib.Seq.{getD-drop}
-use borrow.Author.Tests.{ltb-true, lt-ltb, leb-true, le-leb, eqb-true, eq-eqb, ne-eqb}
+use borrow.Author.Tests.{leb-true, le-leb, eq-eqb, ne-eqb}
 use Rattle.lists.specs.Lists.{sum, All, none, more}
 use Rattle.lists.proofs.Bools.{and-1, and-2, and-of, not-both}
 use Rattle.lists.proofs.Sums.{sum-point}
-use Rattle.model.specs.Turns.{Turns, PositiveLengths, byDriver, oneGroomer}
+use Rattle.model.specs.Turns.{Turns, PositiveLengths, byDriver}
 use Rattle.model.proofs.Conflicts
 use Rattle.best_spec.specs.Table.{turnOrder, inTheWay, blocked}
 use Rattle.best_spec.proofs.Ordering.{Leads, by-groomer, by-end, by-number, Before, Ordered, empty, first, ordered-at, order-ordered, order-sum}
-use Rattle.best_spec.proofs.Tables.{leads-groomer, way-stops}
+use Rattle.best_spec.proofs.Tables.{leads-groomer, way-stops, way-is, is-way}
 use Rattle.best_table.specs.OrderAndTable.{placeBefore}
 use Rattle.best_table.proofs.OrderCases.{order-length, order-within}
 use Rattle.best_table.proofs.BestCases.{before-within}
@@ -104,17 +104,6 @@ module _ (D : Turns) where
 
   -- ---- what is in the way
 
-  pub way-is : (t u : ℕ) → inTheWay D t u ≡ true → (D .groomer t ≡ D .groomer u) × (D .start t < D .end u + D .gap)
-  unfolding inTheWay oneGroomer
-  way-is t u e = (
-    eqb-true (D .groomer t) (D .groomer u) (and-1 (eqb (D .groomer t) (D .groomer u)) (ltb (D .start t) (D .end u + D .gap)) e),
-    ltb-true (D .start t) (D .end u + D .gap) (and-2 (eqb (D .groomer t) (D .groomer u)) (ltb (D .start t) (D .end u + D .gap)) e),
-  )
-
-  pub is-way : (t u : ℕ) → D .groomer t ≡ D .groomer u → D .start t < D .end u + D .gap → inTheWay D t u ≡ true
-  unfolding inTheWay oneGroomer
-  is-way t u g h = and-of (eqb (D .groomer t) (D .groomer u)) (ltb (D .start t) (D .end u + D .gap)) (eq-eqb (D .groomer t) (D .groomer u) g) (lt-ltb (D .start t) (D .end u + D .gap) h)
-
   passed-way : (t : ℕ) (us : List ℕ) (k : ℕ) → k < blocked D t us → inTheWay D t (getD us k 0) ≡ true
   unfolding blocked
   passed-way t [] k h = absurd (omega arith)
@@ -166,11 +155,11 @@ module _ (D : Turns) where
 
       not-past : (j : ℕ) → j < D .count → PaysAs D (at j) (at i) → Dec (j < placeBefore D i) → j < placeBefore D i
       not-past j h q (yes l) = l
-      not-past j h q (no l) = absurd (not-both (is-way (at i) (at j) (sym (q .same)) (q .near)) (past-way i j h hi (omega arith)))
+      not-past j h q (no l) = absurd (not-both (is-way D (at i) (at j) (sym (q .same)) (q .near)) (past-way i j h hi (omega arith)))
 
       inside : (j : ℕ) → j < D .count → from ≤ j → j < placeBefore D i → Dec (i < j) → PaysAs D (at j) (at i)
       inside j h a b (yes l) =
-          let (g, n) = way-is (at i) (at j) (behind-way i j h l b) in
+          let (g, n) = way-is D (at i) (at j) (behind-way i j h l b) in
           record { named = d; same = sym g; no-later = ends-fall i j l h g; near = n }
       inside j h a b (no l) =
           let s = r .same j a (omega arith) in

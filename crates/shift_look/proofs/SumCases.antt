@@ -24,9 +24,9 @@ use Rattle.best_spec.specs.Table.{turnOrder}
 use Rattle.best_spec.proofs.Ordering as ordering
 use Rattle.best_table.specs.OrderAndTable.{entryPlaces}
 use Rattle.best_table.proofs.OrderCases.{order-length, order-within}
-use Rattle.limit_spec.specs.Prices.{slopePrice, turnPrice, priceSum}
+use Rattle.limit_spec.specs.Prices.{slopePrice, turnPrice, priceSum, mostPrice}
 use Rattle.shift_look.specs.declared.Extent.{Extent}
-use Rattle.shift_look.specs.OrdersAndCounts.{byDrivers, turnsIn, placeDriver, placePrice, placesSum, slopesSum, mostPrice, NamedFrom, SumsTo, SummedTo, Ordered, Priced}
+use Rattle.shift_look.specs.OrdersAndCounts.{byDrivers, turnsIn, placeDriver, placePrice, placesSum, slopesSum, NamedFrom, SumsTo, SummedTo, Ordered, Priced}
 
 -- ---- the slopes' prices
 

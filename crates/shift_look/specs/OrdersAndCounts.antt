@@ -3,7 +3,7 @@ use mathlib.Core.Path.{_≡_}
 use mathlib.Core.Logic.{_≢_, _↔_}
 use mathlib.Core.Bool.{true, cond}
 use mathlib.Core.List.{List}
-use Prim.Native.Nat.{ℕ, _+_, _-_, _*_, _≤_, _<_}
+use Prim.Native.Nat.{ℕ, zero, suc, _+_, _-_, _*_, _≤_, _<_, max}
 use lib.Dec.{ltb}
 use lib.ListN.{length, getD, set}
 use Rattle.lists.specs.Lists.{sum, below}
@@ -14,12 +14,8 @@ use Rattle.sheet.specs.Kind.{mostTurns, mostSlopes}
 use Rattle.instance.specs.declared.columns.Size.{Size}
 use Rattle.instance.specs.Columns.{columnPlaces, turnsBy}
 use Rattle.best_table.specs.OrderAndTable.{placeBefore, entryPlaces}
-use Rattle.limit_spec.specs.Prices.{slopePrice, turnPrice, paysTurn, paidBy, countsFor}
+use Rattle.limit_spec.specs.Prices.{slopePrice, turnPrice, paysTurn, paidBy, countsFor, mostPrice}
 use Rattle.shift_look.specs.declared.Extent.{Extent}
-
--- the greatest 16-bit number
-abbrev pub mostPrice : ℕ
-mostPrice = 65535
 
 -- turns with their drivers for groomers: their order is driver by driver, each driver's from the one that ends last
 unfoldable pub byDrivers : Turns → Turns
@@ -83,19 +79,16 @@ withRun orders i t from to = set (set (set orders (2 * mostTurns + i) t) (3 * mo
 unfoldable pub leftAfter : Turns → List ℕ → ℕ → ℕ
 leftAfter T paid t = T .worth t - getD paid t 0
 
+-- the greatest driver that one of the first i turns names, 0 where none does
+unfoldable pub greatestDriver : Turns → ℕ → ℕ
+greatestDriver T zero = 0
+greatestDriver T (suc i) = max (T .driver i) (greatestDriver T i)
+
 -- ---- as statements
 
 -- drivers have their numbers
 pub record Driven (p : Size) (cols : List ℕ) : Type 0 where
   pub drivers : (t : ℕ) → t < p .count → turnsBy p cols .driver t ≤ mostDriver
-
--- the first i turns name no driver above a number
-unfoldable pub DriversUpTo : Turns → ℕ → ℕ → Type 0
-DriversUpTo T i most = (t : ℕ) → t < i → T .driver t ≤ most
-
--- with 0, none of the first i turns names a driver; another number says nothing
-unfoldable pub DriversSeen : Turns → ℕ → ℕ → Type 0
-DriversSeen T i seen = seen ≤ 0 → DriversUpTo T i seen
 
 -- the first i groomers of some columns are the drivers, and the rest is as it was
 pub record DriversPut (cols room : List ℕ) (i : ℕ) : Type 0 where

@@ -4,12 +4,12 @@ ghost use Prim.Native.Nat.{_+_, _-_, _*_, _≤_, _<_};
 ghost use lib.ListN.{length, getD};
 ghost use Rattle.sheet.specs.Kind.{mostTurns, mostSlopes};
 ghost use Rattle.instance.specs.Columns.{turnsBy};
-ghost use Rattle.limit_spec.specs.Prices.{paidBy, priceSum};
-ghost use Rattle.shift_look.specs.OrdersAndCounts.{turnsIn, paidFrom, paidTo, mostPrice, leftAfter, Priced, Ordered};
+ghost use Rattle.limit_spec.specs.Prices.{paidBy, priceSum, mostPrice};
+ghost use Rattle.shift_look.specs.OrdersAndCounts.{turnsIn, paidFrom, paidTo, leftAfter, Priced, Ordered};
 ghost use Rattle.shift_look.specs.OrdersAndCounts.{SumsTo, NumbersTo, PaymentsTo, CountsTo};
 use super::Extent;
 use super::ORDERS;
-use super::driverless::driver_seen;
+use super::driverless::any_driver;
 use super::driverless::put_slope_counts;
 use super::runs::FROMS;
 use super::runs::TOS;
@@ -139,7 +139,7 @@ pub fn put_counts(
     ensures { λ _. ⌜ CountsTo (turnsIn e (now (cols .entry))) (e .slopes) (now (prices .entry)) (now (counts .exit)) (e .size .count) ⌝ }
     ensures { λ r. ⌜ (r ≡ priceSum (turnsIn e (now (cols .entry))) (e .slopes) (now (prices .entry))) × (r ≤ (mostSlopes + mostTurns) * mostPrice) ⌝ }
 {
-    if 0 < driver_seen(e.size, cols) {
+    if any_driver(e.size, cols) {
         return put_counts_with_drivers(e, cols, orders, prices, &mut *counts);
     }
     put_slope_counts(e, cols, prices, &mut *counts);

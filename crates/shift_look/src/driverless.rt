@@ -2,6 +2,7 @@
 // left out, and for the limit that order too.
 ghost use mathlib.Core.Path.{_≡_};
 ghost use Prim.Native.Nat.{_+_, _≤_, _<_};
+ghost use lib.Dec.{ltb};
 ghost use lib.ListN.{length};
 ghost use Rattle.sheet.specs.Kind.{mostTurns};
 ghost use Rattle.model.specs.Turns.{NoDrivers};
@@ -9,7 +10,7 @@ ghost use Rattle.instance.specs.Columns.{turnsBy, Held};
 ghost use Rattle.best_spec.specs.Table.{bestWorth};
 ghost use Rattle.best_table.specs.OrderAndTable.{Ranged};
 ghost use Rattle.limit_spec.specs.Prices.{countsFor, priceSum};
-ghost use Rattle.shift_look.specs.OrdersAndCounts.{countedTurns, turnsIn, orderPlaces, Priced, CountsTo, DriversUpTo, DriversSeen};
+ghost use Rattle.shift_look.specs.OrdersAndCounts.{countedTurns, turnsIn, orderPlaces, greatestDriver, Priced, CountsTo};
 use super::Extent;
 use super::ORDERS;
 use super::counts::net_of;
@@ -21,39 +22,37 @@ use instance::MOST_TURNS;
 use instance::PLACES;
 use instance::Size;
 use instance::row_at;
+use numbers::greater_u16;
 
-fn greater(x: u16, y: u16) -> u16
-    ensures { λ r. ⌜ (x ≤ r) × (y ≤ r) ⌝ }
-{
-    if x < y { y } else { x }
-}
-
-// A number that no turn's driver is above.
-fn driver_bound(p: Size, cols: &[u16; PLACES]) -> u16
+// The greatest driver that a turn names, 0 where none does.
+fn greatest_driver(p: Size, cols: &[u16; PLACES]) -> u16
     requires { ⌜ p .count ≤ mostTurns ⌝ }
-    ensures { λ r. ⌜ DriversUpTo (turnsBy p (now (cols .entry))) (p .count) r ⌝ }
+    ensures { λ r. ⌜ r ≡ greatestDriver (turnsBy p (now (cols .entry))) (p .count) ⌝ }
 {
     let mut greatest: u16 = 0;
     let mut t = 0;
     while t < p.count {
         let row = row_at(cols, t);
-        greatest = greater(row.driver, greatest);
+        greatest = greater_u16(row.driver, greatest);
         t += 1;
     }
     greatest
 }
 
-// 0 only where no turn names a driver. The first turn is asked by itself: where turns have drivers it most often names
-// one, and the others need not be asked.
-pub fn driver_seen(p: Size, cols: &[u16; PLACES]) -> u16
+// Whether a turn names a driver. The first turn is asked by itself: where turns have drivers it most often names one,
+// and the others need not be asked.
+pub fn any_driver(p: Size, cols: &[u16; PLACES]) -> bool
     requires { ⌜ p .count ≤ mostTurns ⌝ }
-    ensures { λ r. ⌜ DriversSeen (turnsBy p (now (cols .entry))) (p .count) r ⌝ }
+    ensures { λ r. ⌜ r ≡ ltb 0 (greatestDriver (turnsBy p (now (cols .entry))) (p .count)) ⌝ }
 {
+    if p.count == 0 {
+        return false;
+    }
     let first = row_at(cols, 0);
     if 0 < first.driver {
-        return first.driver;
+        return true;
     }
-    driver_bound(p, cols)
+    0 < greatest_driver(p, cols)
 }
 
 // What turn t counts for.

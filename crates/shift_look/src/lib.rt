@@ -6,7 +6,7 @@ mod orders;
 mod runs;
 mod sums;
 
-pub use driverless::driver_seen;
+pub use driverless::any_driver;
 pub use driverless::limit_driverless;
 use instance::MOST_TURNS;
 use instance::Size;

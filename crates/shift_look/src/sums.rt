@@ -2,16 +2,17 @@
 ghost use mathlib.Core.Path.{_≡_};
 ghost use Prim.Native.Nat.{_*_, _≤_, _<_};
 ghost use lib.ListN.{length, getD, replicate};
+ghost use Rattle.limit_spec.specs.Prices.{mostPrice};
 ghost use Rattle.sheet.specs.Kind.{mostTurns, mostSlopes};
 ghost use Rattle.best_table.specs.OrderAndTable.{entryPlaces};
-ghost use Rattle.shift_look.specs.OrdersAndCounts.{turnsIn, placeDriver, slopesSum, mostPrice, Priced, Ordered, NamedFrom, SumsTo};
+ghost use Rattle.shift_look.specs.OrdersAndCounts.{turnsIn, placeDriver, slopesSum, Priced, Ordered, NamedFrom, SumsTo};
 use super::Extent;
 use super::ORDERS;
 use super::runs::DRIVERS;
 use best_table::ENTRIES;
 use instance::PLACES;
-use instance::as_u32;
 use instance::row_at;
+use numbers::as_u32;
 
 // The price at place i.
 pub fn price_at(prices: &[u16], i: usize) -> u32

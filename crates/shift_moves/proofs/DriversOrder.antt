@@ -1,64 +1,27 @@
 -- The drivers' order has each turn at just one place, and what a turn pays for stands there side by side. Assumes nothing.
-use Prim.Native.Nat.{ℕ, zero, suc, _+_, _≤_, _<_}
+use Prim.Native.Nat.{ℕ, _+_, _≤_, _<_}
 use mathlib.Core.Path.{_≡_, refl, sym, ap, _∙_}
-use mathlib.Core.Logic.{_≢_}
 use mathlib.Core.Bool.{Bool, true, false, cond, _&&_}
-use mathlib.Core.List.{List, [], _∷_}
+use mathlib.Core.List.{List}
 use native.Mathlib.Omega.{arith}
-use native.Mathlib.Decide.{ℕ-discrete}
-use lib.Dec.{ltb, leb, eqb}
-use lib.ListN.{length, getD}
-use borrow.Author.Tests.{ltb-true, lt-ltb, leb-true, le-leb, eq-eqb, ne-eqb}
-use Rattle.lists.specs.Lists.{sum, below, All, none, more}
+use lib.Dec.{ltb, leb}
+use lib.ListN.{getD}
+use borrow.Author.Tests.{ltb-true, lt-ltb, leb-true, le-leb}
+use Rattle.lists.specs.Lists.{below}
 use Rattle.lists.proofs.Bools.{and-1, and-2, fails, not-both}
-use Rattle.lists.proofs.Sums.{sum-zero, sum-same, sum-point, all-of}
+use Rattle.lists.proofs.Sums.{sum-zero, sum-same, all-of}
 use Rattle.sheet.specs.Kind.{mostTurns}
 use Rattle.model.specs.Turns.{Turns, oneDriver, byDriver}
 use Rattle.model.specs.Choice.{has, chosen}
 use Rattle.instance.specs.Columns.{turnsBy}
 use Rattle.best_spec.specs.Table.{turnOrder}
-use Rattle.best_spec.proofs.Ordering as ordering
-use Rattle.best_table.proofs.OrderCases.{order-length, order-within}
+use Rattle.best_table.proofs.OrderCases.{order-within}
 use Rattle.limit_spec.specs.Prices.{paysTurn}
 use Rattle.shift_look.specs.declared.Extent.{Extent}
 use Rattle.shift_look.specs.OrdersAndCounts.{byDrivers, turnsIn, driversTurn, paidFrom, paidTo, Ordered, Priced}
 use Rattle.refine_spec.specs.Shift.{turnPayers}
+use Rattle.shift_look.proofs.PaidRuns.{order-place, order-apart}
 use Rattle.shift_moves.specs.Moves.{payersBefore, TurnsOf, PaidRuns, EachOnce}
-
--- ---- an order of all turns
-
-module _ (T : Turns) where
-  before-apart : {x : ℕ} {ts : List ℕ} → All (ordering.Before T x) ts → (j : ℕ) → j < length ts → x ≢ getD ts j 0
-  before-apart none j h = absurd (omega arith)
-  before-apart (more b bs) zero h = b .apart
-  before-apart (more b bs) (suc j) h = before-apart bs j (omega arith)
-
-  ordered-apart : {ts : List ℕ} → ordering.Ordered T ts → (i j : ℕ) → i < j → j < length ts → getD ts i 0 ≢ getD ts j 0
-  ordered-apart ordering.empty i j l h = absurd (omega arith)
-  ordered-apart (ordering.first b o) i zero l h = absurd (omega arith)
-  ordered-apart (ordering.first b o) zero (suc j) l h = before-apart b j (omega arith)
-  ordered-apart (ordering.first b o) (suc i) (suc j) l h = ordered-apart o i j (omega arith) (omega arith)
-
-  -- two places have two turns
-  order-apart : (i j : ℕ) → i < j → j < T .count → getD (turnOrder T) i 0 ≢ getD (turnOrder T) j 0
-  order-apart i j l h = ordered-apart (ordering.order-ordered T) i j l (omega (arith, order-length T))
-
-place-of : (u : ℕ) (ts : List ℕ) → 1 ≤ sum (λ x. cond (eqb x u) 1 0) ts → (j : ℕ) × (j < length ts) × (getD ts j 0 ≡ u)
-place-of u [] h = absurd (omega arith)
-place-of u (x ∷ ts) h = go (ℕ-discrete x u) h (place-of u ts)
-  where
-    go : Dec (x ≡ u) → 1 ≤ cond (eqb x u) 1 0 + sum (λ x. cond (eqb x u) 1 0) ts → (1 ≤ sum (λ x. cond (eqb x u) 1 0) ts → (j : ℕ) × (j < length ts) × (getD ts j 0 ≡ u)) →
-        (j : ℕ) × (j < suc (length ts)) × (getD (x ∷ ts) j 0 ≡ u)
-    go (yes e) k ih = (0, omega arith, e)
-    go (no d) k ih = let z = rw (ne-eqb x u d) at k in let (j, l, q) = ih (omega arith) in (suc j, omega arith, q)
-
--- every turn has a place
-order-place : (T : Turns) (u : ℕ) → u < T .count → (j : ℕ) × (j < T .count) × (getD (turnOrder T) j 0 ≡ u)
-order-place T u h =
-    let f : ℕ → ℕ = λ x. cond (eqb x u) 1 0 in
-    let one : f u ≡ 1 = rw (eq-eqb u u refl) in
-    let (j, l, q) = place-of u (turnOrder T) (omega (arith, one, ordering.order-sum T f, sum-point f (T .count) u h)) in
-    (j, omega (arith, order-length T), q)
 
 -- ---- the drivers' order
 

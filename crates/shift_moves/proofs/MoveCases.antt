@@ -1,8 +1,8 @@
 -- Moved prices and changes, by cases in the form in which the code leaves them. Assumes nothing.
 use Prim.Native.Nat.{ℕ, suc, _+_, _-_, _*_, _/_, _≤_, _<_, max, min}
-use mathlib.Core.Path.{_≡_, refl, sym, ap, ap₂, _∙_}
+use mathlib.Core.Path.{_≡_, refl, sym, ap, _∙_}
 use mathlib.Core.Logic.{_≢_}
-use mathlib.Core.Bool.{Bool, cond}
+use mathlib.Core.Bool.{Bool, cond, false}
 use mathlib.Core.List.{List, _++_}
 use native.Mathlib.Omega.{arith}
 use native.Mathlib.Nat.{suc-mul, mul-le-mul}
@@ -10,7 +10,7 @@ use native.Mathlib.Decide.{decLt, ℕ-discrete}
 use mir.Syntax.{w32, w64}
 use mir.Val.{Fits}
 use lib.Dec.{ltb, eqb}
-use lib.ListN.{length, getD, set, length-set, length-append, List·getD-append}
+use lib.ListN.{length, getD, set, length-set, List·getD-append}
 use lib.Seq.{getD-set-same, getD-set-other, getD-append-add, ext-getD}
 use borrow.Author.Tests.{lt-ltb, le-ltb, eq-eqb, ne-eqb}
 use Rattle.lists.specs.Lists.{tab}
@@ -20,11 +20,13 @@ use Rattle.sheet.specs.Kind.{mostTurns, mostSlopes}
 use Rattle.model.specs.Turns.{Turns, NoDrivers}
 use Rattle.instance.specs.Columns.{rowIn, turnsBy}
 use Rattle.instance.proofs.Rows.{slope-at}
-use Rattle.limit_spec.specs.Prices.{slopePrice, turnPrice}
+use Rattle.limit_spec.specs.Prices.{slopePrice, turnPrice, mostPrice}
 use Rattle.shift_look.specs.declared.Extent.{Extent}
-use Rattle.shift_look.specs.OrdersAndCounts.{mostPrice, turnsIn, driversTurn, DriversSeen, Ordered, Priced}
+use Rattle.shift_look.specs.OrdersAndCounts.{turnsIn, driversTurn, greatestDriver, Ordered, Priced}
 use Rattle.shift_look.proofs.DriverlessCases.{none-named}
 use Rattle.refine_spec.specs.Shift.{highestPrice, slopePayers, turnPayers, movedPrice, turnChange, movedPrices}
+use Rattle.refine_spec.proofs.Shift.{moved-length}
+use Rattle.shift_look.proofs.SumCases.{priced-slopes}
 use Rattle.shift_moves.specs.Moves.{payerPlaces, numberBehind, timesTaken, payersBefore, nobody, payersAt, payersAfter, slopePayersIn, turnPayersIn, ownPlace, placeBehind, turnPricePlace, Taken, TurnsOf, SmallNumbers, Times, PaidRuns, Payers, FewPayers, EachOnce, MovedBy, MovedFor}
 use Rattle.shift_moves.proofs.DriversOrder.{turn-place, payers-are, no-payers}
 use Rattle.shift_moves.proofs.PayerCases.{sum-equal, times-most, payers-most}
@@ -271,10 +273,6 @@ module _ (T : Turns) (slopes : ℕ) (S : List Bool) (change : ℕ) (prices : Lis
   abbrev turnMoved : ℕ → ℕ
   turnMoved u = movedPrice (turnChange change) (turnPayers T S u) (turnPrice slopes prices u)
 
-  moved-length : length (movedPrices T slopes S change prices) ≡ slopes + T .count
-  unfolding movedPrices
-  moved-length = length-append (tab slopes slopeMoved) (tab (T .count) turnMoved) ∙ ap₂ _+_ (tab-length slopes slopeMoved) (tab-length (T .count) turnMoved)
-
   moved-slope : (k : ℕ) → k < slopes → getD (movedPrices T slopes S change prices) k 0 ≡ movedPrice change (slopePayers T S (k + 1)) (getD prices k 0)
   unfolding movedPrices slopePrice
   moved-slope k h =
@@ -292,7 +290,7 @@ module _ (T : Turns) (slopes : ℕ) (S : List Bool) (change : ℕ) (prices : Lis
     -- the slopes' prices first, then the turns'
     all-moved : length new ≡ length mid → ((k : ℕ) → k < slopes → getD new k 0 ≡ getD mid k 0) →
         ((u : ℕ) → u < T .count → getD new (slopes + u) 0 ≡ movedPrice (turnChange change) (turnPayers T S u) (getD mid (slopes + u) 0)) → new ≡ movedPrices T slopes S change prices
-    all-moved size front turns = ext-getD 0 new (movedPrices T slopes S change prices) (size ∙ a .size ∙ l ∙ sym moved-length) (λ i m. at i m (decLt i slopes))
+    all-moved size front turns = ext-getD 0 new (movedPrices T slopes S change prices) (size ∙ a .size ∙ l ∙ sym (moved-length T slopes S change prices)) (λ i m. at i m (decLt i slopes))
       where
         at : (i : ℕ) → i < length new → Dec (i < slopes) → getD new i 0 ≡ getD (movedPrices T slopes S change prices) i 0
         at i m (yes h) = front i h ∙ a .done i h ∙ sym (moved-slope i h)
@@ -331,13 +329,10 @@ module _ (e : Extent) (cols orders taken : List ℕ) (change : ℕ) (prices : Li
     unfolding turnsBy
     prices-moved new o b = record { is = λ S t. all-driven (turnsBy (e .size) cols) (e .slopes) S change prices mid new (w .list) (of-set S t) orders taken o t b }
 
-    pub prices-lowered : (new : List ℕ) {r c d : ℕ} → r ≤ 0 → DriversSeen (turnsBy (e .size) cols) (e .size .count) r → c ≡ turnChange change → d ≡ c → MovedBy d nobody (placeBehind (e .slopes)) (e .size .count) mid new
+    pub prices-lowered : (new : List ℕ) {r : Bool} {c d : ℕ} → r ≡ false → r ≡ ltb 0 (greatestDriver (turnsBy (e .size) cols) (e .size .count)) → c ≡ turnChange change → d ≡ c → MovedBy d nobody (placeBehind (e .slopes)) (e .size .count) mid new
         → MovedFor e cols taken change prices new
     unfolding turnsBy
     prices-lowered new z u q p b =
         record { is = λ S t. all-lowered (turnsBy (e .size) cols) (e .slopes) S change prices mid new (w .list) (of-set S t) (none-named e cols z u) (rw (p ∙ q) at b) }
 
-pub few-slopes : (e : Extent) (cols prices : List ℕ) → Priced e cols prices → e .slopes ≤ mostSlopes
-few-slopes e cols prices w = w .few-slopes
-
-pub ruleset prices-cases = (few-slopes, mid-list, prices-moved, prices-lowered)
+pub ruleset prices-cases = (priced-slopes, mid-list, prices-moved, prices-lowered)

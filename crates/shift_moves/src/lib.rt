@@ -3,25 +3,30 @@
 // where the run starts and where it ends, and sums along the order give the payers at each place.
 ghost use mathlib.Core.Path.{_≡_};
 ghost use mathlib.Core.Bool.{cond};
-ghost use Prim.Native.Nat.{_+_, _-_, _*_, _≤_, _<_, max, min};
+ghost use Prim.Native.Nat.{_+_, _-_, _*_, _≤_, _<_};
 ghost use lib.Dec.{ltb};
 ghost use lib.ListN.{length, getD, set, replicate};
+ghost use Rattle.limit_spec.specs.Prices.{mostPrice};
 ghost use Rattle.turn.specs.Turn.{mostWorth};
 ghost use Rattle.sheet.specs.Kind.{mostTurns, mostSlopes};
-ghost use Rattle.shift_look.specs.OrdersAndCounts.{mostPrice, turnsIn, Ordered, Priced};
+ghost use Rattle.shift_look.specs.OrdersAndCounts.{turnsIn, Ordered, Priced};
 ghost use Rattle.refine_spec.specs.Shift.{highestPrice, movedPrice, turnChange};
 ghost use Rattle.shift_moves.specs.Moves.{payerPlaces, numberBehind, payersAt, payersAfter, slopePayersIn, turnPayersIn, ownPlace, turnPricePlace};
 ghost use Rattle.shift_moves.specs.Moves.{nobody, placeBehind, Taken, SmallNumbers, Times, PaidRuns, Summable, Present, Payers, FewPayers, EachOnce, MovedBy, MovedFor};
 use instance::MOST_TURNS;
 use instance::PLACES;
-use instance::as_place;
-use instance::as_u32;
+use numbers::as_place;
+use numbers::as_u32;
+use numbers::greater_u32;
+use numbers::left_u16;
+use numbers::left_u32;
+use numbers::lesser_u32;
 use shift_look::DRIVERS;
 use shift_look::Extent;
 use shift_look::FROMS;
 use shift_look::ORDERS;
 use shift_look::TOS;
-use shift_look::driver_seen;
+use shift_look::any_driver;
 
 // The greatest number that a price list can hold.
 const MOST_PRICE: u32 = 65535;
@@ -39,38 +44,12 @@ fn as_u16(x: u32) -> u16
     x as u16
 }
 
-fn greater(x: u32, y: u32) -> u32
-    ensures { λ r. ⌜ r ≡ max x y ⌝ }
-{
-    if x < y { y } else { x }
-}
-
-fn smaller(x: u32, y: u32) -> u32
-    ensures { λ r. ⌜ r ≡ min x y ⌝ }
-{
-    if x < y { x } else { y }
-}
-
-// What is left of x, not below 0.
-fn left_after(x: u32, y: u32) -> u32
-    ensures { λ r. ⌜ r ≡ x - y ⌝ }
-{
-    if x < y { 0 } else { x - y }
-}
-
-// The same in 16 bits, so that a loop of it takes many prices at once.
-fn lowered(price: u16, change: u16) -> u16
-    ensures { λ r. ⌜ r ≡ price - change ⌝ }
-{
-    if price < change { 0 } else { price - change }
-}
-
 // The change of a turn's price.
 fn turn_change(c: u32) -> u32
     requires { ⌜ c ≤ mostWorth ⌝ }
     ensures { λ r. ⌜ (r ≡ turnChange c) × (r ≤ mostWorth) ⌝ }
 {
-    greater(1, c / 2)
+    greater_u32(1, c / 2)
 }
 
 // The highest price after a round. A price with two payers or more rises, to 60,000 at most; any other does not
@@ -92,7 +71,7 @@ fn moved_price(change: u32, payers: u16, price: u16) -> u16
     ensures { λ r. ⌜ r ≡ movedPrice change payers price ⌝ }
 {
     let raised = as_u32(price) + as_u32(payers) * change;
-    smaller(left_after(raised, change), most_price(payers)) as u16
+    lesser_u32(left_u32(raised, change), most_price(payers)) as u16
 }
 
 // Moves the price at place i.
@@ -194,7 +173,7 @@ fn lower_price(change: u16, prices: &mut [u16], i: usize)
     ensures { λ _. ⌜ now (prices .exit) ≡ set (now (prices .entry)) i (getD (now (prices .entry)) i 0 - change) ⌝ }
 {
     let price = prices[i];
-    prices[i] = lowered(price, change);
+    prices[i] = left_u16(price, change);
 }
 
 // Moves the prices of the turns where no turn names a driver: all of them fall.
@@ -245,7 +224,7 @@ pub fn move_prices(
     ensures { λ _. ⌜ MovedFor e (now (cols .entry)) (now (taken .entry)) change (now (prices .entry)) (now (prices .exit)) ⌝ }
 {
     move_slopes(e, cols, taken, change, &mut *prices);
-    if 0 < driver_seen(e.size, cols) {
+    if any_driver(e.size, cols) {
         move_turns(e, orders, taken, change, &mut *prices);
         return;
     }

@@ -2,8 +2,9 @@
 // leave as a part of a slice, have their place and length.
 ghost use mathlib.Core.Path.{_≡_};
 ghost use lib.ListN.{take, drop};
+ghost use Rattle.turn.specs.Turn.{countsOf};
 ghost use Rattle.sheet.specs.Read.{readOf};
-ghost use Rattle.write_spec.specs.Write.{countsOf, writeOf};
+ghost use Rattle.write_spec.specs.Write.{writeOf};
 ghost use Rattle.board_open.specs.Open.{openOf, stepsPart};
 ghost use Rattle.board_open.specs.Chosen.{countOf, turnChosen};
 ghost use Rattle.check_spec.specs.Check.{checkOf};

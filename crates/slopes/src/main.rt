@@ -23,8 +23,8 @@ fn answer(sheet: &[u8], text: &mut [u8]) -> usize
     listing::refused_line(&mut *text, a.refusal)
 }
 
-// Fills the front of these bytes from standard input, all of them where as many come; returns how
-// many came. A read that fails counts as the end of the input.
+// Bytes of standard input to the front of these, by io::read_full; returns how many came, no more than there is place for.
+// What a read gives no contract can say.
 fn gather(sheet: &mut [u8]) -> usize
     requires { ⌜ length (now sheet) ≡ inputBytes ⌝ }
     ensures { λ r. ⌜ r ≤ length (now (sheet .exit)) ⌝ }

@@ -24,6 +24,10 @@ from (suc k) x =
 pub value-bytes : (k x : ℕ) → x < 256 ^ k → valueOf (bytesOf k x) ≡ x
 value-bytes k x h = ap (λ (n : ℕ). valueFrom n (bytesOf k x)) (sym (div-eq-of-lt h)) ∙ from k x
 
+pub bytes-append : {a b : List ℕ} → Bytes a → Bytes b → Bytes (a ++ b)
+bytes-append none q = q
+bytes-append (more h p) q = more h (bytes-append p q)
+
 pub length-bytes : (k x : ℕ) → length (bytesOf k x) ≡ k
 length-bytes zero x = refl
 length-bytes (suc k) x = ap suc (length-bytes k x)

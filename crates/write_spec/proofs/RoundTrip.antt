@@ -3,7 +3,7 @@ use Prim.Native.Nat.{ℕ, _*_, _/_, _%_, _<_, _≤_}
 use mathlib.Core.Path.{_≡_, refl, sym, _∙_, ap, subst}
 use mathlib.Core.Logic.{_↔_}
 use mathlib.Core.Bool.{Bool, true, false, cond}
-use mathlib.Core.List.{List, [], _∷_, _++_}
+use mathlib.Core.List.{List, [], _∷_}
 use native.Mathlib.Omega.{arith}
 use lib.ListN.{length, take}
 use lib.Seq.{take-append-seam}
@@ -19,7 +19,7 @@ use Rattle.refusal.proofs.Order.{first-goes}
 use Rattle.refusal.proofs.Written.{wrote-enough, written-number}
 use Rattle.wire.specs.Number.{bytesOf, Bytes, none, more}
 use Rattle.wire.specs.Mark.{sheetMark}
-use Rattle.wire.proofs.Numbers.{bytes-below}
+use Rattle.wire.proofs.Numbers.{bytes-below, bytes-append}
 use Rattle.turn.specs.declared.Turn.{Turn}
 use Rattle.turn.specs.declared.Counts.{Counts}
 use Rattle.turn.specs.Turn.{rowNumbers, rows, tableRows, tableTurns, InRange}
@@ -55,10 +55,6 @@ unfolding sheetOf garage
 sheet-for counts ts l e = record { legal = l; body = allRecords ts; bytes = refl; records = records-written counts true (firstCursor .prev) (fine-all counts ts e) }
 
 -- ---- and its numbers are bytes
-
-bytes-append : {a b : List ℕ} → Bytes a → Bytes b → Bytes (a ++ b)
-bytes-append none q = q
-bytes-append (more h p) q = more h (bytes-append p q)
 
 field-below : (bit width v : ℕ) → Bytes (fieldBytes bit width v)
 field-below bit width v = go (eqb bit 0)

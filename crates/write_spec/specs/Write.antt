@@ -11,7 +11,6 @@ use Rattle.turn.specs.declared.Turn.{Turn}
 use Rattle.turn.specs.declared.Counts.{Counts}
 use Rattle.wire.specs.Mark.{sheetMark}
 use Rattle.turn.specs.declared.Refusals.{Refusals}
-pub use Rattle.turn.specs.Turn.{countsOf}
 use Rattle.turn.specs.Turn.{rowNumbers, tableRows, tableTurns, turnCauses}
 use Rattle.sheet.specs.Kind.{firstMap, garage}
 use Rattle.sheet.specs.Record.{firstCursor}

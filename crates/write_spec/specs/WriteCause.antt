@@ -7,8 +7,9 @@ use Rattle.refusal.specs.Number.{badCounts, tooManyTurns, badSlope, badGroomer,
 use Rattle.turn.specs.declared.Counts.{Counts}
 use Rattle.turn.specs.Turn.{rowNumbers, turnIn, tableRows, mostWorth, mostDriver}
 use Rattle.sheet.specs.Kind.{mostGroomers, mostSlopes, mostTurns}
-use Rattle.sheet.specs.Accepted.{Outside, WrongTime, FirstAmong}
+use Rattle.sheet.specs.Accepted.{Outside, WrongTime}
 use Rattle.refusal.specs.Words.{ThenRoom}
+use Rattle.refusal.specs.Cause.{FirstAmong}
 use Rattle.write_spec.specs.Write.{writtenTurns, sheetOf}
 
 -- place 0: the table's length; 1 to 3: the counts; then five places a turn; then the lent bytes

@@ -1,10 +1,11 @@
-use Rattle.refine.proofs.AnswerCases.{refine-room, answer-cases}
+use Rattle.plan.proofs.Answers.{plan-room}
+use Rattle.refine.proofs.AnswerCases.{answer-cases}
 use borrow.Author.Needs.{needs}
 use Rattle.refine.proofs.refine.Statement.{statement}
 use Rattle.refine.proofs.refine.Tie as tie
 
 refine-with-requires : tie.Need-refine-with-requires
-refine-with-requires c κs = ((search answer-cases, search answer-cases), (refine-room _ (c .before .before .before .before .before .before .before .before .before .before .before .before .before .before .before .before .args .board .now) (c .before .before .before .before .shift-size .ensures) (c .before .before .before .before .before .before .before .before .board-bytes .ensures) (c .before .before .before .before .before .before .before .if2 .left), search needs))
+refine-with-requires c κs = ((search answer-cases, search answer-cases), (plan-room _ (c .before .before .before .before .before .before .before .before .before .before .before .before .before .before .before .before .args .board .now) (c .before .before .before .before .shift-size .ensures) (c .before .before .before .before .before .before .before .before .board-bytes .ensures) (c .before .before .before .before .before .before .before .if2 .left), search needs))
 
 pub refine-spec : {M : Type 1} → statement M
 refine-spec =

@@ -4,7 +4,7 @@ use mathlib.Core.Path.{_≡_}
 use mathlib.Core.List.{_++_}
 use lib.ListN.{length, take, drop}
 use Rattle.sheet.specs.Kind.{mostTurns}
-use Rattle.best_spec.specs.Groomers.{keep}
+use Rattle.lists.specs.Lists.{keep}
 use Rattle.hall.specs.Supply.{freeIn}
 use borrow.Author.Needs.{needs}
 use Rattle.hall.proofs.Frees.{free-cases}

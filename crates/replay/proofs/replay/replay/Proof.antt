@@ -1,7 +1,8 @@
 -- Invariant: the steps left, from the residuals as they are, give what all steps give from the first ones: whether all are right, the residuals at the end, and the costs on top of the sum.
 -- Measure: the steps left.
 use borrow.Author.Needs.{needs}
-use Rattle.replay.proofs.Replays.{movesFrom, replay-cases, never}
+use Rattle.lists.proofs.Bools.{never}
+use Rattle.replay.proofs.Replays.{movesFrom, replay-cases}
 use Rattle.local_ratio.specs.Counting.{costsFrom}
 use Rattle.turn.specs.Turn.{mostWorth}
 use Rattle.local_ratio.specs.Bounds.{Residuals, ClosedTo}

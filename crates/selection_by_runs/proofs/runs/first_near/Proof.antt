@@ -1,4 +1,4 @@
--- Invariant: no run from low on and before j comes to k. Measure: the places left before k.
+-- Invariant: j is no earlier than low, and no run from low on and before j comes to k. Measure: the places left before k.
 use Rattle.selection_by_runs.proofs.RunCases.{near-cases}
 use Rattle.selection_by_runs.specs.Runs.{NotReached}
 use Prim.Native.Nat.{_-_, _≤_}
@@ -7,7 +7,7 @@ use Rattle.selection_by_runs.proofs.runs.first_near.Statement.{statemen
 use Rattle.selection_by_runs.proofs.runs.first_near.Tie as tie
 
 abbrev Inv-loop : tie.InvT-loop
-Inv-loop runs at low k j₀ j = (j ≤ k) × NotReached runs at low j k
+Inv-loop runs at low k j₀ j = (j ≤ k) × (low ≤ j) × NotReached runs at low j k
 
 abbrev μ-loop : tie.MeasureT-loop
 μ-loop runs at low k j₀ j = k - j
@@ -18,7 +18,7 @@ first-near-spec =
     (tie.spec
     Inv-loop
     μ-loop
-    (λ c. (search needs, search near-cases))
+    (λ c. (search needs, search needs, search near-cases))
     (λ c. search (needs, near-cases))
     (λ c. search (needs, near-cases))
     (λ c. search (needs, near-cases))
@@ -27,5 +27,5 @@ first-near-spec =
     (λ c. search (needs, near-cases))
     (λ c. search (needs, near-cases))
     (λ c. search (needs, near-cases))
-    (λ c. (search needs, search near-cases))
+    (λ c. (search needs, search needs, search near-cases))
     (λ c. search (needs, near-cases)))

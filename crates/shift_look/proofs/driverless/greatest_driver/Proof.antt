@@ -1,20 +1,21 @@
--- Invariant: no turn before t names a driver above the greatest so far. Measure: the turns left.
+-- Invariant: `greatest` is the greatest driver that a turn before t names. Measure: the turns left.
 use Rattle.shift_look.proofs.DriverlessCases.{greatest-cases}
-use Rattle.shift_look.specs.OrdersAndCounts.{DriversUpTo}
+use Rattle.shift_look.specs.OrdersAndCounts.{greatestDriver}
 use Rattle.instance.specs.Columns.{turnsBy}
+use mathlib.Core.Path.{_≡_}
 use Prim.Native.Nat.{_-_, _≤_}
 use borrow.Author.Needs.{needs}
-use Rattle.shift_look.proofs.driverless.driver_bound.Statement.{statement}
-use Rattle.shift_look.proofs.driverless.driver_bound.Tie as tie
+use Rattle.shift_look.proofs.driverless.greatest_driver.Statement.{statement}
+use Rattle.shift_look.proofs.driverless.greatest_driver.Tie as tie
 
 abbrev Inv-loop : tie.InvT-loop
-Inv-loop p cols greatest₀ t₀ greatest t = (t ≤ p .count) × DriversUpTo (turnsBy p cols) t greatest
+Inv-loop p cols greatest₀ t₀ greatest t = (t ≤ p .count) × (greatest ≡ greatestDriver (turnsBy p cols) t)
 
 abbrev μ-loop : tie.MeasureT-loop
 μ-loop p cols greatest₀ t₀ greatest t = p .count - t
 
-pub driver-bound-spec : {M : Type 1} → statement M
-driver-bound-spec =
+pub greatest-driver-spec : {M : Type 1} → statement M
+greatest-driver-spec =
     tie.close
     (tie.spec
     Inv-loop
