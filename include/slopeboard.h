@@ -73,7 +73,7 @@ enum {
     SLOPEBOARD_WRONG_SUMS = 17,       /* tally or worth is not its sum, or the worth is below the tally */
     SLOPEBOARD_PARTIAL_TURN = 18,     /* the length of a turn table is no multiple of six */
     SLOPEBOARD_BAD_DRIVER = 19,       /* a turn's driver is above 40 */
-    SLOPEBOARD_TOO_MANY_FOR_SCREEN = 20, /* more than 96 turns, for slopeboard_read_short */
+    SLOPEBOARD_TOO_MANY_FOR_SHORT = 20, /* more than 96 turns, for slopeboard_read_short */
     SLOPEBOARD_NOT_SINGLE_TURNS = 21, /* a slope has two turns, or a turn names a driver, for slopeboard_best */
     SLOPEBOARD_TOO_MANY_TO_SEARCH = 22, /* more than 64 turns, for slopeboard_improve */
     SLOPEBOARD_BAD_SEED = 23,         /* the seed is 0 or above SLOPEBOARD_MOST_SEED */

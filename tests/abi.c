@@ -135,7 +135,7 @@ static void reading(void) {
     EXPECT(memcmp(numbers, table, sizeof table) == 0);
     const uint8_t many[] = {0x47, 0x52, 0x4D, 2, 3, 0, 97};
     read = slopeboard_read_short(many, sizeof many, NULL, 0);
-    EXPECT(read.refusal == SLOPEBOARD_TOO_MANY_FOR_SCREEN && read.groomers == 0);
+    EXPECT(read.refusal == SLOPEBOARD_TOO_MANY_FOR_SHORT && read.groomers == 0);
 }
 
 /* The shift as it is written: its turns 0, 2, 1, 3. */

@@ -49,7 +49,7 @@ pub enum Refusal {
     /// A turn's driver is above 40.
     BadDriver = 19,
     /// More than 96 turns, which are too many for the short reader.
-    TooManyForScreen = 20,
+    TooManyForShort = 20,
     /// A slope has two turns, or a turn names a driver.
     NotSingleTurns = 21,
     /// More than 64 turns, which are too many to search.
@@ -89,7 +89,7 @@ const ALL: [Refusal; 26] = [
     Refusal::WrongSums,
     Refusal::PartialTurn,
     Refusal::BadDriver,
-    Refusal::TooManyForScreen,
+    Refusal::TooManyForShort,
     Refusal::NotSingleTurns,
     Refusal::TooManyToSearch,
     Refusal::BadSeed,

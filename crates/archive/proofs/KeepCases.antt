@@ -21,10 +21,10 @@ use Rattle.turn.specs.Turn.{rowNumbers, rows, turnsOfTable, tableRows}
 use Rattle.turn.proofs.Rows.{rows-length, turns-rows}
 use Rattle.sheet.specs.declared.answer.ReadAnswer.{ReadAnswer}
 use Rattle.sheet.specs.declared.record.Cursor.{Cursor}
-use Rattle.sheet.specs.Kind.{garage, mostTurns}
+use Rattle.sheet.specs.Kind.{shiftSheet, mostTurns}
 use Rattle.sheet.specs.Record.{widthOf, badMapFor, mapAt, endAt, cursorAfter, firstCursor, recordBytes, recordCauses}
 use Rattle.sheet.specs.Read.{headerBytes, countsIn, turnCount, turnsOf, tableOf, headerCauses, recordsCauses, causesFor, sheetCauses, answerOf}
-use Rattle.sheet.proofs.SoundKinds.{garage-sound}
+use Rattle.sheet.proofs.SoundKinds.{shift-sheet-sound}
 use Rattle.sheet.proofs.Headers.{header-numbered, header-fine}
 use Rattle.sheet.proofs.Scans.{record-numbered}
 use Rattle.sheet.proofs.Readings.{sheet-numbered}
@@ -125,27 +125,27 @@ turns-kept l s table maps n e f g = g ∙ ap₂ (λ (x : List ℕ) (k : ℕ). pu
 
 -- ---- an accepted sheet is as long as its maps say
 
-record-ends : (s : List ℕ) (limits : Counts) (c : Cursor) → firstOf (recordCauses garage s limits c) ≡ 0 → endAt s c ≤ length s
+record-ends : (s : List ℕ) (limits : Counts) (c : Cursor) → firstOf (recordCauses shiftSheet s limits c) ≡ 0 → endAt s c ≤ length s
 unfolding recordCauses
 record-ends s limits c e =
     let p = clear-cons (truncated when leb (length s) (c .at)) _ (omega arith) e in
-    let q = clear-cons (badMap when badMapFor (garage .maps) (c .first) (mapAt s c)) _ (omega arith) (p .1) in
+    let q = clear-cons (badMap when badMapFor (shiftSheet .maps) (c .first) (mapAt s c)) _ (omega arith) (p .1) in
     let r = clear-cons (truncated when ltb (length s) (endAt s c)) _ (omega arith) (q .1) in
     ltb-false (length s) (endAt s c) (r .0)
 
-records-long : (n : ℕ) (s : List ℕ) (limits : Counts) (c : Cursor) → firstOf (recordsCauses garage n s limits c) ≡ 0 → c .at ≤ length s → length s ≡ c .at + n + widths (mapsFrom n s (c .at))
+records-long : (n : ℕ) (s : List ℕ) (limits : Counts) (c : Cursor) → firstOf (recordsCauses shiftSheet n s limits c) ≡ 0 → c .at ≤ length s → length s ≡ c .at + n + widths (mapsFrom n s (c .at))
 unfolding recordsCauses mapsFrom widths cursorAfter endAt
 records-long zero s limits c e h = omega (arith, ltb-false (c .at) (length s) (clear-cons (trailingBytes when ltb (c .at) (length s)) [] (omega arith) e .0))
 records-long (suc n) s limits c e h =
-    let both = clear-append (recordCauses garage s limits c) (recordsCauses garage n s limits (cursorAfter s c)) (record-numbered garage (garage-sound .numbers) s limits c) e in
+    let both = clear-append (recordCauses shiftSheet s limits c) (recordsCauses shiftSheet n s limits (cursorAfter s c)) (record-numbered shiftSheet (shift-sheet-sound .numbers) s limits c) e in
     let fits = record-ends s limits c (both .0) in
     omega (arith, records-long n s limits (cursorAfter s c) (both .1) fits)
 
 pub sheet-whole : (s : List ℕ) → firstOf (sheetCauses s) ≡ 0 → (headerBytes ≤ length s) × (length s ≡ headerBytes + turnCount s + widths (mapsFrom (turnCount s) s headerBytes))
 unfolding sheetCauses causesFor firstCursor
 sheet-whole s e =
-    let both = clear-append (headerCauses garage s) (recordsCauses garage (turnCount s) s (countsIn s) firstCursor) (header-numbered garage (garage-sound .numbers) s) e in
-    let whole = header-fine garage (garage-sound .numbers) s (both .0) .whole in
+    let both = clear-append (headerCauses shiftSheet s) (recordsCauses shiftSheet (turnCount s) s (countsIn s) firstCursor) (header-numbered shiftSheet (shift-sheet-sound .numbers) s) e in
+    let whole = header-fine shiftSheet (shift-sheet-sound .numbers) s (both .0) .whole in
     (whole, records-long (turnCount s) s (countsIn s) firstCursor (both .1) whole)
 
 kept-size : (s : List ℕ) → firstOf (sheetCauses s) ≡ 0 → length (keptOf s) ≡ length s
@@ -157,7 +157,7 @@ kept-size s e =
 
 sheet-bytes : (s : List ℕ) → firstOf (sheetCauses s) ≡ 0 → length s ≤ headerBytes + recordBytes * mostTurns
 unfolding sheetCauses
-sheet-bytes = sheet-short garage garage-sound
+sheet-bytes = sheet-short shiftSheet shift-sheet-sound
 
 -- ---- the entry
 
@@ -178,17 +178,17 @@ module _ (s lent : List ℕ) {a : ReadAnswer} (e : a ≡ answerOf s) where
     keep-header = sheet-whole s (whole-accepted s e z) .0
 
     pub keep-whole : headerBytes + a .turns + widths (mapsFrom (a .turns) s headerBytes) ≤ length s
-    keep-whole = rw (whole-turns-for garage s e z) (omega (arith, sheet-whole s (whole-accepted s e z) .1))
+    keep-whole = rw (whole-turns-for shiftSheet s e z) (omega (arith, sheet-whole s (whole-accepted s e z) .1))
 
     table-turns : turnsOfTable (a .turns) (tableOf s) 0 ≡ turnsOf s
     unfolding tableOf
     table-turns =
-        let n : tableRows (rows (turnsOf s)) ≡ a .turns = omega (arith, rows-length (turnsOf s), turns-length s, whole-turns-for garage s e z) in
+        let n : tableRows (rows (turnsOf s)) ≡ a .turns = omega (arith, rows-length (turnsOf s), turns-length s, whole-turns-for shiftSheet s e z) in
         ap (λ (k : ℕ). turnsOfTable k (rows (turnsOf s)) 0) (sym n) ∙ turns-rows (turnsOf s)
 
     own-form : (u : List ℕ) → u ≡ puts lent 0 (formWith keptMark s (columnsBody (mapsFrom (a .turns) s headerBytes) (turnsOf s))) → u ≡ puts lent 0 (keptOf s)
     unfolding keptOf sheetMaps
-    own-form u p = p ∙ rw (whole-turns-for garage s e z)
+    own-form u p = p ∙ rw (whole-turns-for shiftSheet s e z)
 
     pub keep-done : (zeros : List ℕ) {t u : List ℕ} → (a .refusal ≡ 0 → t ≡ atFront (tableOf s) zeros) → length s ≤ length lent
         → u ≡ puts lent 0 (formWith keptMark s (columnsBody (mapsFrom (a .turns) s headerBytes) (turnsOfTable (a .turns) (take (rowNumbers * a .turns) t) 0)))
@@ -196,7 +196,7 @@ module _ (s lent : List ℕ) {a : ReadAnswer} (e : a ≡ answerOf s) where
     unfolding keepOf keepCauses
     keep-done zeros {t} {u} w h p =
         let fine = whole-accepted s e z in
-        let rows-are : turnsOfTable (a .turns) (take (rowNumbers * a .turns) t) 0 ≡ turnsOf s = ap (λ (l : List ℕ). turnsOfTable (a .turns) l 0) (whole-table-for garage s e z zeros w) ∙ table-turns in
+        let rows-are : turnsOfTable (a .turns) (take (rowNumbers * a .turns) t) 0 ≡ turnsOf s = ap (λ (l : List ℕ). turnsOfTable (a .turns) l 0) (whole-table-for shiftSheet s e z zeros w) ∙ table-turns in
         let put : u ≡ puts lent 0 (keptOf s) = own-form u (p ∙ ap (λ (ts : List Turn). puts lent 0 (formWith keptMark s (columnsBody (mapsFrom (a .turns) s headerBytes) ts))) rows-are) in
         let size = kept-size s fine in
         let front : u ≡ keptOf s ++ drop (length (keptOf s)) lent = put ∙ puts-front (keptOf s) lent (omega arith) in

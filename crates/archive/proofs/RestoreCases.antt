@@ -24,7 +24,7 @@ use Rattle.sheet.specs.declared.kind.Kind.{Kind}
 use Rattle.sheet.specs.declared.kind.Maps.{Maps}
 use Rattle.sheet.specs.declared.header.Header.{Header}
 use Rattle.sheet.specs.declared.header.Header.the-variants.{Found, Refused}
-use Rattle.sheet.specs.Kind.{garage, mostTurns}
+use Rattle.sheet.specs.Kind.{shiftSheet, mostTurns}
 use Rattle.sheet.specs.Record.{widthOf, recordBytes, badMapFor}
 use Rattle.sheet.specs.Read.{headerBytes, countsIn, turnCount, headerCauses, headerOf}
 use Rattle.sheet.specs.Layout.{recordOf}
@@ -43,7 +43,7 @@ use Rattle.archive_spec.proofs.Accepting.{archive-sound, form-numbered, kept-nu
 
 -- ---- the kind and the maps' part
 
-pub archive-made : {K : Kind} → K ≡ garage → _≡_ {A = Kind} (record { mark = keptMark; most = K .most; maps = K .maps; refusals = K .refusals }) archive
+pub archive-made : {K : Kind} → K ≡ shiftSheet → _≡_ {A = Kind} (record { mark = keptMark; most = K .most; maps = K .maps; refusals = K .refusals }) archive
 unfolding archive
 archive-made e = rw e
 

@@ -29,14 +29,14 @@ use sheet::width;
 use turn::Counts;
 use turn::Turn;
 
-// The garage's sheet with the mark of a kept form.
+// A shift's sheet with the mark of a kept form.
 fn archive() -> Kind
     ensures { λ r. ⌜ r ≡ archive ⌝ }
 {
-    let garage = sheet_read::garage();
-    let most = garage.most;
-    let maps = garage.maps;
-    let refusals = garage.refusals;
+    let shift = sheet_read::shift_sheet();
+    let most = shift.most;
+    let maps = shift.maps;
+    let refusals = shift.refusals;
     Kind {
         mark: wire::GRC,
         most: most,

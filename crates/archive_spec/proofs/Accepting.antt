@@ -16,12 +16,12 @@ use Rattle.wire.specs.Number.{Bytes}
 use Rattle.wire.specs.Mark.{opensWith, keptMark}
 use Rattle.turn.specs.declared.Turn.{Turn}
 use Rattle.turn.specs.declared.Counts.{Counts}
-use Rattle.sheet.specs.Kind.{garage, three, Sound}
+use Rattle.sheet.specs.Kind.{shiftSheet, three, Sound}
 use Rattle.sheet.specs.Record.{firstCursor}
 use Rattle.sheet.specs.Read.{headerBytes, countsIn, turnCount, headerCauses}
 use Rattle.sheet.specs.Layout.{headerFor}
 use Rattle.sheet.specs.Accepted.{Legal}
-use Rattle.sheet.proofs.SoundKinds.{garage-sound, mark-iff}
+use Rattle.sheet.proofs.SoundKinds.{shift-sheet-sound, mark-iff}
 use Rattle.sheet.proofs.Headers.{legal-counts, header-numbered, header-fine}
 use Rattle.sheet.proofs.Accepting.{HeaderReads, header-reads, header-stands}
 use Rattle.write_spec.specs.Write.{turnsCauses}
@@ -38,18 +38,18 @@ unfolding archive
 archive-sound =
     record {
       mark = three {a = 0x47} {b = 0x52} {c = 0x43} (omega arith) (omega arith) (omega arith);
-      groomers = garage-sound .groomers;
-      slopes = garage-sound .slopes;
-      turns = garage-sound .turns;
-      numbers = garage-sound .numbers;
+      groomers = shift-sheet-sound .groomers;
+      slopes = shift-sheet-sound .slopes;
+      turns = shift-sheet-sound .turns;
+      numbers = shift-sheet-sound .numbers;
     }
 
--- the counts that a header may name are the garage's
-pub archive-legal : {counts : Counts} {n : ℕ} → Legal archive counts n → Legal garage counts n
+-- the counts that a header may name are a shift's
+pub archive-legal : {counts : Counts} {n : ℕ} → Legal archive counts n → Legal shiftSheet counts n
 unfolding archive
 archive-legal l = record { groomers-from = l .groomers-from; groomers-to = l .groomers-to; slopes-from = l .slopes-from; slopes-to = l .slopes-to; turns-to = l .turns-to }
 
-pub legal-archive : {counts : Counts} {n : ℕ} → Legal garage counts n → Legal archive counts n
+pub legal-archive : {counts : Counts} {n : ℕ} → Legal shiftSheet counts n → Legal archive counts n
 unfolding archive
 legal-archive l = record { groomers-from = l .groomers-from; groomers-to = l .groomers-to; slopes-from = l .slopes-from; slopes-to = l .slopes-to; turns-to = l .turns-to }
 
@@ -79,13 +79,13 @@ module _ (k : List ℕ) (counts : Counts) (ms : List ℕ) (ts : List Turn) (f : 
   same = together-length (f .together)
 
   few : counts .groomers ≤ 255
-  few = omega (arith, f .legal .groomers-to, garage-sound .groomers)
+  few = omega (arith, f .legal .groomers-to, shift-sheet-sound .groomers)
 
   low : counts .slopes ≤ 255
-  low = omega (arith, f .legal .slopes-to, garage-sound .slopes)
+  low = omega (arith, f .legal .slopes-to, shift-sheet-sound .slopes)
 
   header : HeaderReads keptMark counts (length ts) (columnsBody ms ts)
-  header = header-reads (three {a = 0x47} {b = 0x52} {c = 0x43} (omega arith) (omega arith) (omega arith)) counts (length ts) (columnsBody ms ts) (omega (arith, f .legal .turns-to, garage-sound .turns))
+  header = header-reads (three {a = 0x47} {b = 0x52} {c = 0x43} (omega arith) (omega arith) (omega arith)) counts (length ts) (columnsBody ms ts) (omega (arith, f .legal .turns-to, shift-sheet-sound .turns))
 
   behind : drop headerBytes k ≡ columnsBody ms ts
   behind = rw (f .bytes) (header .behind)
@@ -129,14 +129,14 @@ module _ (k : List ℕ) (counts : Counts) (ms : List ℕ) (ts : List Turn) (f : 
   unfolding formCauses firstOf keptEnd archive
   form-clear =
       rw (maps-in, count, le-ltb (length k) (headerBytes + length ts) (omega (arith, long)))
-      (first-goes (mapsCauses (garage .maps) true ms) _ (maps-numbered (garage .maps) true ms) (maps-clear (f .together))
+      (first-goes (mapsCauses (shiftSheet .maps) true ms) _ (maps-numbered (shiftSheet .maps) true ms) (maps-clear (f .together))
       ∙ rw (le-ltb (length k) (headerBytes + length ts + widths ms) (omega (arith, long)), le-ltb (headerBytes + length ts + widths ms) (length k) (omega (arith, long))))
 
   -- what a kept form is made of is what is read of it
   pub kept-reads : KeptReads k counts ms ts
   unfolding keptCauses archive
   kept-reads =
-      let values : firstOf (turnsCauses (garage .refusals) (countsIn k) (keptTurns k)) ≡ 0 = rw (counts-in, turns-in) (turns-clear (f .together)) in
+      let values : firstOf (turnsCauses (shiftSheet .refusals) (countsIn k) (keptTurns k)) ≡ 0 = rw (counts-in, turns-in) (turns-clear (f .together)) in
       record {
         fine = first-goes (headerCauses archive k) _ (header-numbered archive (archive-sound .numbers) k) header-clear ∙ first-goes (formCauses k) _ (form-numbered k) form-clear ∙ values;
         counts-are = counts-in;

@@ -15,12 +15,12 @@ use Rattle.turn.specs.declared.Counts.{Counts}
 use Rattle.turn.specs.Turn.{turnCauses}
 use Rattle.turn.proofs.Ranges.{in-range-fine, fine-in-range, turn-numbered}
 use Rattle.sheet.specs.declared.kind.Maps.{Maps}
-use Rattle.sheet.specs.Kind.{garage}
+use Rattle.sheet.specs.Kind.{shiftSheet}
 use Rattle.sheet.specs.Record.{widthOf, badMapFor}
 use Rattle.sheet.specs.Layout.{recordOf}
 use Rattle.sheet.specs.Accepted.{Records}
 use Rattle.sheet.specs.Accepted as sheet
-use Rattle.sheet.proofs.SoundKinds.{garage-sound}
+use Rattle.sheet.proofs.SoundKinds.{shift-sheet-sound}
 use Rattle.sheet.proofs.Maps.{good-map-iff}
 use Rattle.sheet.proofs.Fields.{drop-front, record-length}
 use Rattle.write_spec.specs.Write.{turnsCauses}
@@ -53,7 +53,7 @@ columns-length ms ts e =
 
 -- ---- in a sheet
 
-pub together-records : {limits : Counts} {first : Bool} {p : Turn} {ms : List ℕ} {ts : List Turn} → Together limits first p ms ts → Records garage limits first p (recordsBody ms ts) ts
+pub together-records : {limits : Counts} {first : Bool} {p : Turn} {ms : List ℕ} {ts : List Turn} → Together limits first p ms ts → Records shiftSheet limits first p (recordsBody ms ts) ts
 unfolding recordsBody
 together-records none = sheet.none
 together-records (more map kept fits r) = sheet.more map kept fits (together-records r)
@@ -64,7 +64,7 @@ pub record Mapped (limits : Counts) (first : Bool) (p : Turn) (bytes : List ℕ)
   pub together : Together limits first p maps ts
   pub body : bytes ≡ recordsBody maps ts
 
-pub records-mapped : {limits : Counts} {first : Bool} {p : Turn} {bytes : List ℕ} {ts : List Turn} → Records garage limits first p bytes ts → Mapped limits first p bytes ts
+pub records-mapped : {limits : Counts} {first : Bool} {p : Turn} {bytes : List ℕ} {ts : List Turn} → Records shiftSheet limits first p bytes ts → Mapped limits first p bytes ts
 unfolding recordsBody
 records-mapped sheet.none = record { maps = []; together = none; body = refl }
 records-mapped (sheet.more {t = t} {m = m} map kept fits r) =
@@ -118,25 +118,25 @@ unfolding mapsCauses
 maps-numbered maps first [] = refl
 maps-numbered maps first (m ∷ ms) = maps-numbered maps false ms
 
-pub maps-clear : {limits : Counts} {first : Bool} {p : Turn} {ms : List ℕ} {ts : List Turn} → Together limits first p ms ts → firstOf (mapsCauses (garage .maps) first ms) ≡ 0
+pub maps-clear : {limits : Counts} {first : Bool} {p : Turn} {ms : List ℕ} {ts : List Turn} → Together limits first p ms ts → firstOf (mapsCauses (shiftSheet .maps) first ms) ≡ 0
 unfolding mapsCauses firstOf
 maps-clear none = refl
-maps-clear {first = first} (more {m = m} map kept fits r) = rw (good-map-iff (garage .maps) m first .1 map) (maps-clear r)
+maps-clear {first = first} (more {m = m} map kept fits r) = rw (good-map-iff (shiftSheet .maps) m first .1 map) (maps-clear r)
 
-pub turns-clear : {limits : Counts} {first : Bool} {p : Turn} {ms : List ℕ} {ts : List Turn} → Together limits first p ms ts → firstOf (turnsCauses (garage .refusals) limits ts) ≡ 0
+pub turns-clear : {limits : Counts} {first : Bool} {p : Turn} {ms : List ℕ} {ts : List Turn} → Together limits first p ms ts → firstOf (turnsCauses (shiftSheet .refusals) limits ts) ≡ 0
 unfolding turnsCauses firstOf
 turns-clear none = refl
 turns-clear {limits} (more {t = t} map kept fits r) =
-    first-goes (turnCauses (garage .refusals) limits t) _ (turn-numbered (garage .refusals) limits t (garage-sound .numbers)) (in-range-fine (garage .refusals) limits t fits) ∙ turns-clear r
+    first-goes (turnCauses (shiftSheet .refusals) limits t) _ (turn-numbered (shiftSheet .refusals) limits t (shift-sheet-sound .numbers)) (in-range-fine (shiftSheet .refusals) limits t fits) ∙ turns-clear r
 
 -- and the other way: maps and turns read from columns with which nothing is wrong go together
-pub together-read : (C : Columns) (s : List ℕ) (limits : Counts) (ms : List ℕ) (i : ℕ) (first : Bool) (p : Turn) → Going C i ms s p → firstOf (mapsCauses (garage .maps) first ms) ≡ 0
-    → firstOf (turnsCauses (garage .refusals) limits (turnsAcross (length ms) C i)) ≡ 0 → Together limits first p ms (turnsAcross (length ms) C i)
+pub together-read : (C : Columns) (s : List ℕ) (limits : Counts) (ms : List ℕ) (i : ℕ) (first : Bool) (p : Turn) → Going C i ms s p → firstOf (mapsCauses (shiftSheet .maps) first ms) ≡ 0
+    → firstOf (turnsCauses (shiftSheet .refusals) limits (turnsAcross (length ms) C i)) ≡ 0 → Together limits first p ms (turnsAcross (length ms) C i)
 unfolding mapsCauses turnsCauses turnsAcross
 together-read C s limits [] i first p g e f = none
 together-read C s limits (m ∷ ms) i first p g e f =
     let t = turnAcross C i in
-    let map = clear-cons (badMap when badMapFor (garage .maps) first m) (mapsCauses (garage .maps) false ms) (omega arith) e in
-    let turn = clear-append (turnCauses (garage .refusals) limits t) (turnsCauses (garage .refusals) limits (turnsAcross (length ms) C (i + 1))) (turn-numbered (garage .refusals) limits t (garage-sound .numbers)) f in
+    let map = clear-cons (badMap when badMapFor (shiftSheet .maps) first m) (mapsCauses (shiftSheet .maps) false ms) (omega arith) e in
+    let turn = clear-append (turnCauses (shiftSheet .refusals) limits t) (turnsCauses (shiftSheet .refusals) limits (turnsAcross (length ms) C (i + 1))) (turn-numbered (shiftSheet .refusals) limits t (shift-sheet-sound .numbers)) f in
     let next = going-next C i m ms s p g in
-    more (good-map-iff (garage .maps) m first .0 (map .0)) (next .0) (fine-in-range (garage .refusals) limits t (garage-sound .numbers) (turn .0)) (together-read C s limits ms (i + 1) false t (next .1) (map .1) (turn .1))
+    more (good-map-iff (shiftSheet .maps) m first .0 (map .0)) (next .0) (fine-in-range (shiftSheet .refusals) limits t (shift-sheet-sound .numbers) (turn .0)) (together-read C s limits ms (i + 1) false t (next .1) (map .1) (turn .1))

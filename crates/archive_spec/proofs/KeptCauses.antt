@@ -18,7 +18,7 @@ use Rattle.wire.specs.Number.{Bytes}
 use Rattle.turn.specs.Turn.{mostWorth, mostDriver, turnCauses}
 use Rattle.turn.proofs.Ranges.{outside-iff, past-iff}
 use Rattle.sheet.specs.declared.kind.Maps.{Maps}
-use Rattle.sheet.specs.Kind.{garage}
+use Rattle.sheet.specs.Kind.{shiftSheet}
 use Rattle.sheet.specs.Record.{badMapFor, cursorAfter, firstCursor}
 use Rattle.sheet.specs.Read.{countsIn, countCauses, headerCauses, causesFor}
 use Rattle.sheet.specs.Accepted.{CauseFor, WrongMap, cursorOf, Accepted}
@@ -84,7 +84,7 @@ module _ (k : List ℕ) where
   header-cause t = of-header (there-below t) (there-cause-for archive (archive-sound .mark) k (there-left _ t))
 
   turn-cause : (i : ℕ) → i < mapCount k → (j r : ℕ) → causeAt (turnCauses (archive .refusals) (countsIn k) (keptTurn k i)) r .there ≡ true → j ≡ causeAt (turnCauses (archive .refusals) (countsIn k) (keptTurn k i)) r .number → KeptCause k j (valuePlace k i r)
-  unfolding turnCauses archive garage
+  unfolding turnCauses archive shiftSheet
   turn-cause i h j zero e n = rw n (slope i h (outside-iff (keptTurn k i .slope) (countsIn k .slopes) .0 e))
   turn-cause i h j (suc zero) e n = rw n (groomer i h (outside-iff (keptTurn k i .groomer) (countsIn k .groomers) .0 e))
   turn-cause i h j (suc (suc zero)) e n = rw n (time i h (past-iff (keptTurn k i .start) (keptTurn k i .length) .0 e))
@@ -118,8 +118,8 @@ module _ (k : List ℕ) where
   unfolding archive
   map-cause j r t =
       let a = at-there t in
-      let m = map-at (garage .maps) true (keptMaps k) r (a .0) in
-      rw (a .1 ∙ m .1) (wrong-map r (m .0) (wrong-iff (garage .maps) r (keptMap k r) .0 (m .2)))
+      let m = map-at (shiftSheet .maps) true (keptMaps k) r (a .0) in
+      rw (a .1 ∙ m .1) (wrong-map r (m .0) (wrong-iff (shiftSheet .maps) r (keptMap k r) .0 (m .2)))
 
   -- behind the number of maps
   inner : List Cause
@@ -196,12 +196,12 @@ module _ (k : List ℕ) where
       let p : 6 + mapCount k + r ≡ 6 + (length (mapsCauses (archive .maps) true (keptMaps k)) + r) = omega (arith, maps-places (archive .maps) true (keptMaps k)) in
       rw p (inner-there (there-right (mapsCauses (archive .maps) true (keptMaps k)) (there-at ends r e)))
 
-  map-there : (i : ℕ) → i < mapCount k → WrongMap (garage .maps) i (keptMap k i) → There (keptCauses k) badMap (6 + i)
+  map-there : (i : ℕ) → i < mapCount k → WrongMap (shiftSheet .maps) i (keptMap k i) → There (keptCauses k) badMap (6 + i)
   unfolding inner archive
-  map-there i h w = inner-there (there-left _ (at-map (garage .maps) true (keptMaps k) i h (wrong-iff (garage .maps) i (keptMap k i) .1 w)))
+  map-there i h w = inner-there (there-left _ (at-map (shiftSheet .maps) true (keptMaps k) i h (wrong-iff (shiftSheet .maps) i (keptMap k i) .1 w)))
 
   pub kept-cause-there : {j r : ℕ} → KeptCause k j r → There (keptCauses k) j r
-  unfolding turnCauses archive garage ends formCauses
+  unfolding turnCauses archive shiftSheet ends formCauses
   kept-cause-there (of-header h c) = header-there h c
   kept-cause-there (few-maps h) = form-there (here (lt-ltb (length k) (columnsAt k) h))
   kept-cause-there (wrong-map i l h) = map-there i l h

@@ -12,12 +12,12 @@ use Rattle.wire.specs.Number.{Bytes, bytesOf, bytesAt}
 use Rattle.wire.specs.Mark.{sheetMark, keptMark}
 use Rattle.turn.specs.declared.Turn.{Turn}
 use Rattle.turn.specs.declared.Counts.{Counts}
-use Rattle.sheet.specs.Kind.{garage}
+use Rattle.sheet.specs.Kind.{shiftSheet}
 use Rattle.sheet.specs.Record.{firstCursor}
 use Rattle.sheet.specs.Read.{headerBytes, countsIn, turnCount, turnsOf, sheetCauses}
 use Rattle.sheet.specs.Layout.{headerFor}
 use Rattle.sheet.specs.Accepted.{Legal, SheetFor, Accepted}
-use Rattle.sheet.proofs.SoundKinds.{garage-sound}
+use Rattle.sheet.proofs.SoundKinds.{shift-sheet-sound}
 use Rattle.sheet.proofs.Readings.{sheet-numbered}
 use Rattle.sheet.proofs.Accepting.{sheet-reads}
 use Rattle.archive_spec.specs.Column.{widths}
@@ -30,12 +30,12 @@ use Rattle.archive_spec.proofs.KeptCauses.{keep-accepted-iff, restore-a
 
 -- a sheet with its maps named
 pub record SheetWith (s : List ℕ) (counts : Counts) (ms : List ℕ) (ts : List Turn) : Type 0 where
-  pub legal : Legal garage counts (length ts)
+  pub legal : Legal shiftSheet counts (length ts)
   pub together : Together counts true (firstCursor .prev) ms ts
   pub bytes : s ≡ headerFor sheetMark counts (length ts) ++ recordsBody ms ts
 
-pub with-sheet : {s : List ℕ} {counts : Counts} {ms : List ℕ} {ts : List Turn} → SheetWith s counts ms ts → SheetFor garage s counts ts
-unfolding garage
+pub with-sheet : {s : List ℕ} {counts : Counts} {ms : List ℕ} {ts : List Turn} → SheetWith s counts ms ts → SheetFor shiftSheet s counts ts
+unfolding shiftSheet
 with-sheet {ms = ms} {ts = ts} w = record { legal = w .legal; body = recordsBody ms ts; bytes = w .bytes; records = together-records (w .together) }
 
 -- every accepted sheet is one
@@ -43,8 +43,8 @@ pub record Named (s : List ℕ) (counts : Counts) (ts : List Turn) : Type 0 wher
   pub maps : List ℕ
   pub sheet : SheetWith s counts maps ts
 
-pub sheet-named : {s : List ℕ} {counts : Counts} {ts : List Turn} → SheetFor garage s counts ts → Named s counts ts
-unfolding garage
+pub sheet-named : {s : List ℕ} {counts : Counts} {ts : List Turn} → SheetFor shiftSheet s counts ts → Named s counts ts
+unfolding shiftSheet
 sheet-named {s} {counts} {ts} f =
     let m = records-mapped (f .records) in
     record { maps = m .maps; sheet = record { legal = f .legal; together = m .together; bytes = f .bytes ∙ ap (λ (l : List ℕ). headerFor sheetMark counts (length ts) ++ l) (m .body) } }
@@ -58,7 +58,7 @@ front-bytes a b c counts n body = refl
 module _ (s : List ℕ) (counts : Counts) (ms : List ℕ) (ts : List Turn) (w : SheetWith s counts ms ts) where
   reads : (firstOf (sheetCauses s) ≡ 0) × (countsIn s ≡ counts) × (turnsOf s ≡ ts) × (turnCount s ≡ length ts)
   unfolding sheetCauses
-  reads = sheet-reads garage garage-sound s counts ts (with-sheet w)
+  reads = sheet-reads shiftSheet shift-sheet-sound s counts ts (with-sheet w)
 
   pub sheet-maps : sheetMaps s ≡ ms
   unfolding sheetMaps
@@ -140,7 +140,7 @@ module _ (k : List ℕ) (a : AcceptedKept k) where
 
 accepted-clear : (s : List ℕ) → Accepted s → firstOf (sheetCauses s) ≡ 0
 unfolding sheetCauses
-accepted-clear s a = sheet-reads garage garage-sound s (a .counts) (a .turns) (a .sheet) .0
+accepted-clear s a = sheet-reads shiftSheet shift-sheet-sound s (a .counts) (a .turns) (a .sheet) .0
 
 kept-clear : (k : List ℕ) → AcceptedKept k → firstOf (keptCauses k) ≡ 0
 kept-clear k a = kept-reads k (a .counts) (a .maps) (a .turns) (a .kept) .fine

@@ -10,7 +10,7 @@ use Rattle.wire.specs.Mark.{keptMark}
 use Rattle.turn.specs.declared.Turn.{Turn}
 use Rattle.turn.specs.declared.Counts.{Counts}
 use Rattle.turn.specs.Turn.{InRange, mostWorth, mostDriver}
-use Rattle.sheet.specs.Kind.{garage}
+use Rattle.sheet.specs.Kind.{shiftSheet}
 use Rattle.sheet.specs.Record.{firstCursor}
 use Rattle.sheet.specs.Read.{countsIn}
 use Rattle.sheet.specs.Layout.{headerFor}
@@ -25,12 +25,12 @@ use Rattle.refusal.specs.Words.{ThenRoom}
 pub data Together (limits : Counts) : Bool → Turn → List ℕ → List Turn → Type 0 where
   none : {first : Bool} {p : Turn} → Together limits first p [] []
   more : {first : Bool} {p t : Turn} {m : ℕ} {ms : List ℕ} {ts : List Turn}
-      → GoodMap (garage .maps) first m → Carried m p t → InRange limits t → Together limits false t ms ts
+      → GoodMap (shiftSheet .maps) first m → Carried m p t → InRange limits t → Together limits false t ms ts
       → Together limits first p (m ∷ ms) (t ∷ ts)
 
 -- these bytes are a kept form with these counts, maps and turns: the mark, a legal header, the maps and the columns, and nothing behind them
 pub record KeptFor (k : List ℕ) (counts : Counts) (ms : List ℕ) (ts : List Turn) : Type 0 where
-  pub legal : Legal garage counts (length ts)
+  pub legal : Legal shiftSheet counts (length ts)
   pub together : Together counts true (firstCursor .prev) ms ts
   pub bytes : k ≡ headerFor keptMark counts (length ts) ++ columnsBody ms ts
 
@@ -63,7 +63,7 @@ valuePlace k i j = 8 + mapCount k + (5 * i + j)
 pub data KeptCause (k : List ℕ) : ℕ → ℕ → Type 0 where
   of-header : {j r : ℕ} → r < 5 → CauseFor archive k j r → KeptCause k j r
   few-maps : length k < columnsAt k → KeptCause k truncated 5
-  wrong-map : (i : ℕ) → i < mapCount k → WrongMap (garage .maps) i (keptMap k i) → KeptCause k badMap (6 + i)
+  wrong-map : (i : ℕ) → i < mapCount k → WrongMap (shiftSheet .maps) i (keptMap k i) → KeptCause k badMap (6 + i)
   too-short : length k < keptEnd k → KeptCause k truncated (6 + mapCount k)
   too-long : keptEnd k < length k → KeptCause k trailingBytes (7 + mapCount k)
   slope : (i : ℕ) → i < mapCount k → Outside (keptTurn k i .slope) (countsIn k .slopes) → KeptCause k badSlope (valuePlace k i 0)

@@ -6,7 +6,7 @@ use Rattle.wire.specs.Number.{bytesAt}
 use Rattle.wire.specs.Mark.{sheetMark, keptMark}
 use Rattle.turn.specs.declared.Turn.{Turn}
 use Rattle.sheet.specs.declared.kind.Kind.{Kind}
-use Rattle.sheet.specs.Kind.{garage}
+use Rattle.sheet.specs.Kind.{shiftSheet}
 use Rattle.sheet.specs.Record.{widthOf}
 use Rattle.sheet.specs.Read.{headerBytes, turnCount, turnsOf}
 use Rattle.sheet.specs.Layout.{recordOf}
@@ -57,9 +57,9 @@ keptOf s = keptWith s (sheetMaps s) (turnsOf s)
 
 -- ---- from a kept form
 
--- the kind of sheet whose header a kept form has: the garage's with another mark
+-- the kind of sheet whose header a kept form has: a shift's with another mark
 unfoldable pub archive : Kind
-archive = record { mark = keptMark; most = garage .most; maps = garage .maps; refusals = garage .refusals }
+archive = record { mark = keptMark; most = shiftSheet .most; maps = shiftSheet .maps; refusals = shiftSheet .refusals }
 
 -- its maps, which stand behind the header
 unfoldable pub keptMaps : List ℕ → List ℕ

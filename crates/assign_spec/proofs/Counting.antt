@@ -6,7 +6,7 @@ use native.Mathlib.Omega.{arith}
 use native.Mathlib.Decide.{decLt, ℕ-discrete}
 use lib.Dec.{eqb}
 use borrow.Author.Tests.{eqb-true, eq-eqb, not-false, not-true}
-use Rattle.lists.specs.Lists.{every, sum, below}
+use Rattle.lists.specs.Lists.{every, sumOver, below}
 use Rattle.lists.proofs.Bools.{and-1, and-2, and-of, not-both, every-at, every-not}
 use Rattle.lists.proofs.Sums.{sum-mono, sum-zero, sum-swap, sum-ones, sum-point, at-most-one, all-below, all-of}
 use Rattle.lists.specs.Order.{howMany}
@@ -19,19 +19,19 @@ module _ (p q : ℕ → Bool) (paired : ℕ → ℕ → Bool) (n m : ℕ)
   abbrev both : ℕ → ℕ → Bool
   both u r = q r && (p u && paired u r)
 
-  at-least : (u : ℕ) → u < n → cond (p u) 1 0 ≤ sum (λ r. cond (both u r) 1 0) (below m)
+  at-least : (u : ℕ) → u < n → cond (p u) 1 0 ≤ sumOver (λ r. cond (both u r) 1 0) (below m)
   at-least u l = go (p u) refl
     where
-      go : (b : Bool) → p u ≡ b → cond b 1 0 ≤ sum (λ r. cond (both u r) 1 0) (below m)
+      go : (b : Bool) → p u ≡ b → cond b 1 0 ≤ sumOver (λ r. cond (both u r) 1 0) (below m)
       go true e =
           let (r, h, a, c) = partner u l e in
           rw (and-of (q r) (p u && paired u r) a (and-of (p u) (paired u r) e c)) at (sum-point (λ r. cond (both u r) 1 0) m r h)
       go false e = omega arith
 
-  at-most : (r : ℕ) → r < m → sum (λ u. cond (both u r) 1 0) (below n) ≤ cond (q r) 1 0
+  at-most : (r : ℕ) → r < m → sumOver (λ u. cond (both u r) 1 0) (below n) ≤ cond (q r) 1 0
   at-most r h = go (q r) refl
     where
-      go : (b : Bool) → q r ≡ b → sum (λ u. cond (both u r) 1 0) (below n) ≤ cond b 1 0
+      go : (b : Bool) → q r ≡ b → sumOver (λ u. cond (both u r) 1 0) (below n) ≤ cond b 1 0
       go true e =
           at-most-one (λ u. both u r) n
           (λ u v a b f g.
@@ -44,9 +44,9 @@ module _ (p q : ℕ → Bool) (paired : ℕ → ℕ → Bool) (n m : ℕ)
   partners =
       omega (
         arith,
-        sum-mono (λ u. cond (p u) 1 0) (λ u. sum (λ r. cond (both u r) 1 0) (below m)) (all-below n at-least),
+        sum-mono (λ u. cond (p u) 1 0) (λ u. sumOver (λ r. cond (both u r) 1 0) (below m)) (all-below n at-least),
         sum-swap (λ u r. cond (both u r) 1 0) (below n) (below m),
-        sum-mono (λ r. sum (λ u. cond (both u r) 1 0) (below n)) (λ r. cond (q r) 1 0) (all-below m at-most),
+        sum-mono (λ r. sumOver (λ u. cond (both u r) 1 0) (below n)) (λ r. cond (q r) 1 0) (all-below m at-most),
       )
 
 -- ---- different numbers

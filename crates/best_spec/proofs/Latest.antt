@@ -10,7 +10,7 @@ use lib.Dec.{eqb}
 use lib.ListN.{length, drop}
 use lib.Seq.{ext-getD}
 use borrow.Author.Tests.{eqb-true, eq-eqb}
-use Rattle.lists.specs.Lists.{sum, All, more}
+use Rattle.lists.specs.Lists.{sumOver, All, more}
 use Rattle.lists.proofs.Bools.{not-both, fails, or-1, or-2}
 use Rattle.lists.proofs.Sums.{all-map, sum-zero, sum-point}
 use Rattle.model.specs.Turns.{Turns, PositiveLengths, NoDrivers, conflict}
@@ -132,7 +132,7 @@ module _ (T : Turns) (lengths : PositiveLengths T) (free : NoDrivers T) (single 
           arith,
           takes-best,
           ap (λ (b : Best). b .worth) (three-tables T p),
-          ap (sum f) (p .split),
+          ap (sumOver f) (p .split),
           sum-both f (p .lower) (p .own ++ p .upper),
           sum-both f (p .own) (p .upper),
           taking-best T lengths free single (has S) independent (p .lower) (lower, lows),

@@ -10,7 +10,7 @@ use native.Mathlib.Numerals.{add-one}
 use lib.Dec.{leb, eqb}
 use borrow.Author.Tests.{leb-true, le-leb, eqb-true, eq-eqb, ne-eqb}
 use Rattle.lists.proofs.Keeping.{keep-every, keep-holds, keep-all, keep-none, keep-sum}
-use Rattle.lists.specs.Lists.{sum, below, All, keep}
+use Rattle.lists.specs.Lists.{sumOver, below, All, keep}
 use Rattle.lists.proofs.Bools.{not-both, fails}
 use Rattle.lists.proofs.Sums.{all-map}
 use Rattle.model.specs.Turns.{Turns, PositiveLengths, NoDrivers}
@@ -113,7 +113,7 @@ module _ (T : Turns) where
         ap (λ (ts : List ℕ). bestOver T ts .worth) (next-groomer g (order-ordered T))
         ∙ ap (λ (b : Best). b .worth) (groomers-add T (keep (isOwn (suc g)) (turnOrder T)) (upTo g (turnOrder T)) (others g))
 
-    up-to-sum : (g : ℕ) → bestOver T (upTo g (turnOrder T)) .worth ≡ sum (λ k. groomerWorth T (k + 1)) (below g)
+    up-to-sum : (g : ℕ) → bestOver T (upTo g (turnOrder T)) .worth ≡ sumOver (λ k. groomerWorth T (k + 1)) (below g)
     up-to-sum zero =
         ap (λ (ts : List ℕ). bestOver T ts .worth)
         (keep-none (λ t. leb (T .groomer t) 0) (all-map (λ t l. fails (leb (T .groomer t) 0) (λ q. omega (arith, leb-true (T .groomer t) 0 q, numbers t l .0))) (order-range T)))

@@ -10,7 +10,7 @@ use lib.Dec.{leb, eqb}
 use lib.IntN.{ℤ}
 use lib.ListN.{length, set, List·getD-eq-default}
 use borrow.Author.Tests.{leb-true, leb-false, eq-eqb}
-use Rattle.lists.specs.Lists.{sum, All}
+use Rattle.lists.specs.Lists.{sumOver, All}
 use Rattle.lists.proofs.Bools.{and-1, and-2, or-1, or-2, not-both, fails}
 use Rattle.lists.proofs.Sums.{sum-add, sum-mono, sum-zero, all-of, all-map}
 use Rattle.model.specs.Turns.{Turns, NoDrivers, conflict}
@@ -115,7 +115,7 @@ module _ (T : Turns) (free : NoDrivers T) (single : OneTurnASlope T) where
 
   module _ {R : List ℕ} (range : All (λ t. t < T .count) R) (apart : Apart (conflict T) R) where
     -- what is left of the set is at most what the steps take
-    bound-run : {s : List ℤ} {xs : List Step} → RightSteps T s xs → Closed T (final (afterStep T) s xs) → sum (left s) R ≤ tally xs
+    bound-run : {s : List ℤ} {xs : List Step} → RightSteps T s xs → Closed T (final (afterStep T) s xs) → sumOver (left s) R ≤ tally xs
     unfolding tally
     bound-run {s} done c = omega (arith, sum-zero (left s) (all-map (λ t l. Residuals.closed-left s t (c t l)) range))
     bound-run (step {s = s} {x = x} q qs) c =
@@ -132,7 +132,7 @@ module _ (T : Turns) (free : NoDrivers T) (single : OneTurnASlope T) where
     Meets x = (isAmong R x ≡ true) ⊎ ((y : ℕ) × (isAmong R y ≡ true) × (conflict T x y ≡ true) × (x ≢ y) × Later T y x)
 
     meets-step : (s : List ℤ) {xs : List Step} → pick T s < T .count → RightSteps T (afterStep T s (nextStep T s)) xs → Closed T (final (afterStep T) (afterStep T s (nextStep T s)) xs) →
-        left s (pick T s) + tally xs ≤ sum (left s) R → Meets (pick T s)
+        left s (pick T s) + tally xs ≤ sumOver (left s) R → Meets (pick T s)
     unfolding nextStep taken
     meets-step s {xs} l r c h = go (some-or-none (λ t. touches T s j t && leb (left s j) (left s t)) R)
       where
@@ -177,21 +177,21 @@ module _ (T : Turns) (free : NoDrivers T) (single : OneTurnASlope T) where
               bound-run r c,
             ))
 
-    meets-plan : (k : ℕ) (s : List ℤ) → RightSteps T s (plan T k s) → Closed T (final (afterStep T) s (plan T k s)) → tally (plan T k s) ≤ sum (left s) R →
+    meets-plan : (k : ℕ) (s : List ℤ) → RightSteps T s (plan T k s) → Closed T (final (afterStep T) s (plan T k s)) → tally (plan T k s) ≤ sumOver (left s) R →
         (x : ℕ) → isAmong (turnsIn (plan T k s)) x ≡ true → Meets x
     unfolding tally nextStep isAmong
     meets-plan =
-        plan-ind T (λ k s xs. RightSteps T s xs → Closed T (final (afterStep T) s xs) → tally xs ≤ sum (left s) R → (x : ℕ) → isAmong (turnsIn xs) x ≡ true → Meets x)
+        plan-ind T (λ k s xs. RightSteps T s xs → Closed T (final (afterStep T) s xs) → tally xs ≤ sumOver (left s) R → (x : ℕ) → isAmong (turnsIn xs) x ≡ true → Meets x)
         (λ s r c h x e. absurd (not-both e refl)) (λ k s l r c h x e. absurd (not-both e refl)) goes
       where
         goes : (k : ℕ) (s : List ℤ) → pick T s < T .count → (xs : List Step) →
-            (RightSteps T (afterStep T s (nextStep T s)) xs → Closed T (final (afterStep T) (afterStep T s (nextStep T s)) xs) → tally xs ≤ sum (left (afterStep T s (nextStep T s))) R →
+            (RightSteps T (afterStep T s (nextStep T s)) xs → Closed T (final (afterStep T) (afterStep T s (nextStep T s)) xs) → tally xs ≤ sumOver (left (afterStep T s (nextStep T s))) R →
             (x : ℕ) → isAmong (turnsIn xs) x ≡ true → Meets x) →
-            RightSteps T s (nextStep T s ∷ xs) → Closed T (final (afterStep T) s (nextStep T s ∷ xs)) → tally (nextStep T s ∷ xs) ≤ sum (left s) R →
+            RightSteps T s (nextStep T s ∷ xs) → Closed T (final (afterStep T) s (nextStep T s ∷ xs)) → tally (nextStep T s ∷ xs) ≤ sumOver (left s) R →
             (x : ℕ) → isAmong (turnsIn (nextStep T s ∷ xs)) x ≡ true → Meets x
         goes k s l xs ih (step q qs) c h x e = split (among-cons x (pick T s) (turnsIn xs) e)
           where
-            tight : tally xs ≤ sum (left (afterStep T s (nextStep T s))) R
+            tight : tally xs ≤ sumOver (left (afterStep T s (nextStep T s))) R
             tight =
                 omega (
                   arith,
@@ -205,7 +205,7 @@ module _ (T : Turns) (free : NoDrivers T) (single : OneTurnASlope T) where
             split (inr m) = ih qs c tight x m
 
     -- a set that earns the tally has each turn that going back over the planner's steps chooses, or a later one in conflict with it
-    pub meets-back : tally (steps T) ≤ sum (T .worth) R → (x : ℕ) → has (goBack T (steps T)) x ≡ true → Meets x
+    pub meets-back : tally (steps T) ≤ sumOver (T .worth) R → (x : ℕ) → has (goBack T (steps T)) x ≡ true → Meets x
     unfolding goBack steps afterSteps
     meets-back h x e =
         meets-plan (T .count) (initial T) (planned-right T) (steps-closed T)
@@ -213,7 +213,7 @@ module _ (T : Turns) (free : NoDrivers T) (single : OneTurnASlope T) where
         x (back-from (fits T) (T .count) (turnsIn (steps T)) x e)
 
     -- where the planner's choice earns no more than the tally, and every turn earns something: wherever the set leaves out one of the planner's turns it has a later one that the planner left out
-    pub planned-leaves : ((t : ℕ) → t < T .count → 0 < T .worth t) → chosen (T .count) (choice T) (T .worth) ≤ tally (steps T) → tally (steps T) ≤ sum (T .worth) R →
+    pub planned-leaves : ((t : ℕ) → t < T .count → 0 < T .worth t) → chosen (T .count) (choice T) (T .worth) ≤ tally (steps T) → tally (steps T) ≤ sumOver (T .worth) R →
         (x : ℕ) → has (choice T) x ≡ true → isAmong R x ≡ false → (y : ℕ) × (isAmong R y ≡ true) × (has (choice T) y ≡ false) × Later T y x
     planned-leaves pos m h x e f = go (meets-back h x (old x (within x e) e))
       where

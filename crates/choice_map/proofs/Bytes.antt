@@ -10,7 +10,7 @@ use lib.Dec.{T, eqb, leb, eqb→eq, leb→le}
 use lib.Bits.{bitOr}
 use lib.ListN.{length, getD}
 use lib.Count as count
-use Rattle.lists.specs.Lists.{sum, below, tab}
+use Rattle.lists.specs.Lists.{sumOver, below, tab}
 use Rattle.lists.proofs.Sums.{tab-length, tab-at}
 use Rattle.choice_map.specs.Choice.{bitOf, withBit, onesOf, lowAmong}
 
@@ -73,9 +73,9 @@ unfolding allBelow lowAmong bitOf count.trailingZeros
 low-byte x k h l = eqb→eq _ _ (at 8 (λ k. eqb (count.trailingZeros 8 (x / 2 ^ k * 2 ^ k % 256)) (lowAmong (8 - k) x k)) (at 256 (λ x. allBelow 8 (λ k. eqb (count.trailingZeros 8 (x / 2 ^ k * 2 ^ k % 256)) (lowAmong (8 - k) x k))) tt x h) k l)
 
 -- a byte is the sum of its bits
-pub bits-byte : (x : ℕ) → x < 256 → sum (λ i. cond (bitOf x i) (2 ^ i) 0) (below 8) ≡ x
+pub bits-byte : (x : ℕ) → x < 256 → sumOver (λ i. cond (bitOf x i) (2 ^ i) 0) (below 8) ≡ x
 unfolding allBelow bitOf
-bits-byte x h = eqb→eq _ _ (at 256 (λ x. eqb (sum (λ i. cond (bitOf x i) (2 ^ i) 0) (below 8)) x) tt x h)
+bits-byte x h = eqb→eq _ _ (at 256 (λ x. eqb (sumOver (λ i. cond (bitOf x i) (2 ^ i) 0) (below 8)) x) tt x h)
 
 -- ---- a byte made of eight bits: one test over all lists of eight
 
@@ -93,7 +93,7 @@ of-list (suc n) p t (false ∷ l) e = of-list n (λ l. p (false ∷ l)) (second 
 
 -- the sum of the powers of its bits
 abbrev pub byteFrom : (ℕ → Bool) → ℕ
-byteFrom f = sum (λ i. cond (f i) (2 ^ i) 0) (below 8)
+byteFrom f = sumOver (λ i. cond (f i) (2 ^ i) 0) (below 8)
 
 listed : (l : List Bool) → length l ≡ 8 → (j : ℕ) → j < 8 → bitOf (byteFrom (λ i. getD l i false)) j ≡ getD l j false
 unfolding allLists allBelow bitOf same

@@ -8,7 +8,7 @@ use native.Mathlib.Numerals.{add-one}
 use native.Mathlib.Nat.{sub-zero}
 use native.Mathlib.Decide.{ℕ-discrete}
 use lib.ListN.{length}
-use Rattle.lists.specs.Lists.{sum, below}
+use Rattle.lists.specs.Lists.{sumOver, below}
 use Rattle.choice_map.specs.Choice.{chosenIn, onesIn, nextAmong, nextChosen}
 use Rattle.choice_map.proofs.Counts.{one, ones-bits}
 use Rattle.choice_map.proofs.NextChosen.{among-ind, among-from}
@@ -25,7 +25,7 @@ onesFrom map t = onesAmong (8 * length map - t) map t
 module _ (map : List ℕ) where
   -- ---- among d turns
 
-  among-sum : (d t : ℕ) → sum (λ k. one (chosenIn map k)) (below t) + onesAmong d map t ≡ sum (λ k. one (chosenIn map k)) (below (t + d))
+  among-sum : (d t : ℕ) → sumOver (λ k. one (chosenIn map k)) (below t) + onesAmong d map t ≡ sumOver (λ k. one (chosenIn map k)) (below (t + d))
   unfolding onesAmong
   among-sum zero t = let e : t + 0 ≡ t = omega arith in rw e (omega arith)
   among-sum (suc d) t = let e : t + suc d ≡ suc t + d = omega arith in rw (e, add-one) (omega (arith, among-sum d (suc t)))
@@ -64,7 +64,7 @@ module _ (map : List ℕ) where
   unfolding onesFrom
   ones-start =
       let e : 0 + 8 * length map ≡ 8 * length map = omega arith in
-      let q : 0 + onesAmong (8 * length map) map 0 ≡ sum (λ k. one (chosenIn map k)) (below (8 * length map)) = rw e at (among-sum (8 * length map) 0) in
+      let q : 0 + onesAmong (8 * length map) map 0 ≡ sumOver (λ k. one (chosenIn map k)) (below (8 * length map)) = rw e at (among-sum (8 * length map) 0) in
       rw sub-zero (omega (arith, ones-bits map))
 
   module _ (t : ℕ) where

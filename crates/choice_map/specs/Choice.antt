@@ -6,7 +6,7 @@ use mathlib.Core.Bool.{Bool, true, not, cond}
 use lib.ListN.{length, getD, set}
 use lib.Dec.{eqb}
 use Rattle.wire.specs.Number.{Bytes}
-use Rattle.lists.specs.Lists.{every, tab, sum, below}
+use Rattle.lists.specs.Lists.{every, tab, sumOver, below}
 use Rattle.model.specs.Choice.{has}
 
 -- bit k of a byte, bit 0 the lowest
@@ -35,7 +35,7 @@ withTurn map t = set map (t / 8) (withBit (getD map (t / 8) 0) (t % 8))
 
 -- how many bits of a byte are 1
 unfoldable pub onesOf : ℕ → ℕ
-onesOf x = sum (λ k. cond (bitOf x k) 1 0) (below 8)
+onesOf x = sumOver (λ k. cond (bitOf x k) 1 0) (below 8)
 
 -- the number of chosen turns: the ones of each byte, summed
 unfoldable pub onesIn : List ℕ → ℕ
@@ -48,7 +48,7 @@ clearPast n map = every (λ k. not (chosenIn map (n + k))) (8 * mapBytes n - n)
 
 -- byte k of the map of a choice: the bits of the turns from 8 k on
 unfoldable pub byteOf : List Bool → ℕ → ℕ
-byteOf S k = sum (λ i. cond (has S (8 * k + i)) (2 ^ i) 0) (below 8)
+byteOf S k = sumOver (λ i. cond (has S (8 * k + i)) (2 ^ i) 0) (below 8)
 
 -- the map of a choice, byte by byte
 unfoldable pub mapOf : List Bool → List ℕ

@@ -20,8 +20,8 @@ use Rattle.model.proofs.Promised.{planned-keeps}
 use Rattle.model.proofs.Selection.{selection-exists, selection-unique, selection-filled}
 use Rattle.sheet.specs.Read.{sheetCauses}
 use Rattle.sheet.proofs.Readings.{sheet-numbered}
-use Rattle.sheet.specs.Kind.{garage}
-use Rattle.sheet.proofs.SoundKinds.{garage-sound}
+use Rattle.sheet.specs.Kind.{shiftSheet}
+use Rattle.sheet.proofs.SoundKinds.{shift-sheet-sound}
 use Rattle.sheet.proofs.Accepting.{sheet-reads, accepted-iff, accepted-no-cause}
 use Rattle.board.specs.Board.{boardTally, boardWorth, boardChoice, writtenSteps}
 use Rattle.instance_spec.specs.Problem.{sheetTurns}
@@ -84,7 +84,7 @@ module _ (s : List ℕ) (e : firstOf (sheetCauses s) ≡ 0) where
 pub claim : (s b : List ℕ) → Bytes s → Claim s b
 claim s b y =
     record {
-      reading = λ a. let r = sheet-reads garage garage-sound s (a .counts) (a .turns) (a .sheet) in record { counts = r .1; turns = r .2; count = r .3 };
+      reading = λ a. let r = sheet-reads shiftSheet shift-sheet-sound s (a .counts) (a .turns) (a .sheet) in record { counts = r .1; turns = r .2; count = r .3 };
       accepted-no-cause = accepted-no-cause y;
       exactly = passes-iff s b y;
       keeps-no-cause = keeps-no-cause s b y;

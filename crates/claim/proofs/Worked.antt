@@ -4,7 +4,7 @@ use Rattle.refusal.specs.Cause.{firstOf}
 use Rattle.refusal.specs.Written.{writtenUnless}
 use Rattle.wire.specs.Mark.{opensWith}
 use Rattle.turn.specs.Turn.{rows, turnsOfTable, outsideRange, pastShift, turnCauses}
-use Rattle.sheet.specs.Kind.{garage}
+use Rattle.sheet.specs.Kind.{shiftSheet}
 use Rattle.sheet.specs.Record.{widthOf, field, turnFrom, badMapFor, endAt, turnAt, cursorAfter, recordCauses, firstCursor}
 use Rattle.sheet.specs.Read.{countCauses, headerCauses, recordsCauses, turnsFrom, causesFor, sheetCauses, turnsOf, tableOf, readCausesFor, readFor, readOf}
 use Rattle.sheet.specs.Layout.{recordOf}
@@ -32,7 +32,7 @@ use Rattle.claim.specs.Cases.{costsOf, WorkedCases}
 use Rattle.refusal.specs.Outcome.{unless}
 
 pub worked-cases : WorkedCases
-unfolding costsOf insertBy sortBy numbersAtMost turnAtMost sortedTurns firstOf opensWith widthOf field turnFrom badMapFor endAt turnAt cursorAfter recordCauses firstCursor countCauses headerCauses recordsCauses turnsFrom rows garage causesFor sheetCauses turnsOf tableOf readCausesFor readFor readOf outsideRange pastShift turnCauses writtenUnless recordOf mapFor recordsOf sheetOf turnsOfTable turnsCauses tableCauses writeCauses writeOf problemOf sheetTurns overlapping overlap bySlope oneGroomer byGroomer oneDriver byDriver conflict every tab isOpen left initial touches lessened change afterStepBy conflictTakes inGroups holdAll fewestGroups stepCost ceiling afterStep afterSteps tally sooner better best pick nextStep planBy plan steps chosen fits choose chooseEach back fill goBack choice bitOf chosenIn choiceIn clearPast byteOf mapOf boardMap boardChoice stepsIn writtenSteps stepBytes boardOf badSizes malformed openOf stepsPart boardFor plannedBoard planCauses planOf decimalIn decimal startsAt startsBelow roundFrom roundOf labelled twoLabelled headingOf lineOf linesOf groomerText groomersFrom sumsLine listingOf sumsFor listingFor sheetListing listCauses listOf independent maximal noEarlier right allRight noneOpen sums choiceCauses afterRight stepCauses ruleCauses sumCauses boardCauses checkCauses checkOf unless
+unfolding costsOf insertBy sortBy numbersAtMost turnAtMost sortedTurns firstOf opensWith widthOf field turnFrom badMapFor endAt turnAt cursorAfter recordCauses firstCursor countCauses headerCauses recordsCauses turnsFrom rows shiftSheet causesFor sheetCauses turnsOf tableOf readCausesFor readFor readOf outsideRange pastShift turnCauses writtenUnless recordOf mapFor recordsOf sheetOf turnsOfTable turnsCauses tableCauses writeCauses writeOf problemOf sheetTurns overlapping overlap bySlope oneGroomer byGroomer oneDriver byDriver conflict every tab isOpen left initial touches lessened change afterStepBy conflictTakes inGroups holdAll fewestGroups stepCost ceiling afterStep afterSteps tally sooner better best pick nextStep planBy plan steps chosen fits choose chooseEach back fill goBack choice bitOf chosenIn choiceIn clearPast byteOf mapOf boardMap boardChoice stepsIn writtenSteps stepBytes boardOf badSizes malformed openOf stepsPart boardFor plannedBoard planCauses planOf decimalIn decimal startsAt startsBelow roundFrom roundOf labelled twoLabelled headingOf lineOf linesOf groomerText groomersFrom sumsLine listingOf sumsFor listingFor sheetListing listCauses listOf independent maximal noEarlier right allRight noneOpen sums choiceCauses afterRight stepCauses ruleCauses sumCauses boardCauses checkCauses checkOf unless
 worked-cases =
     record {
       shift-read = refl;

@@ -4,7 +4,7 @@ use mathlib.Core.Path.{_≡_}
 use mathlib.Core.List.{List}
 use lib.ListN.{length}
 use Rattle.refusal.specs.Written.{wrote}
-use Rattle.lists.specs.Lists.{sum, below}
+use Rattle.lists.specs.Lists.{sumOver, below}
 use Rattle.sheet.specs.Read.{countsIn}
 use Rattle.choice_map.specs.Choice.{onesIn}
 use Rattle.board.specs.Board.{boardMap, boardChoice}
@@ -33,4 +33,4 @@ pub record ListPromised (s b lent : List ℕ) : Type 0 where
   -- below a groomer's heading stand just its chosen turns, each once, by start
   pub rounds : (h : ℕ) → Round (sheetTurns s) (boardChoice b) h (roundOf (sheetTurns s) (boardChoice b) h)
   -- there are as many turn lines as ones in the board's map
-  pub turn-lines : sum (λ k. length (roundOf (sheetTurns s) (boardChoice b) (k + 1))) (below (countsIn s .groomers)) ≡ onesIn (boardMap b)
+  pub turn-lines : sumOver (λ k. length (roundOf (sheetTurns s) (boardChoice b) (k + 1))) (below (countsIn s .groomers)) ≡ onesIn (boardMap b)

@@ -5,7 +5,7 @@ ghost use lib.ListN.{length, take};
 ghost use Rattle.turn.specs.Turn.{countsOf};
 ghost use Rattle.refusal.specs.Outcome.{beside};
 ghost use Rattle.sheet.specs.Read.{readOf};
-ghost use Rattle.sheet.specs.Screen.{readShortOf};
+ghost use Rattle.sheet.specs.Short.{readShortOf};
 ghost use Rattle.write_spec.specs.Write.{writeOf};
 ghost use Rattle.draw_spec.specs.DrawnSheet.{drawOf};
 ghost use Rattle.check_spec.specs.Check.{checkOf};

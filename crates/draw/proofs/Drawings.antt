@@ -20,7 +20,7 @@ use Rattle.turn.specs.declared.Counts.{Counts}
 use Rattle.turn.specs.Turn.{countsOf, outsideRange}
 use Rattle.turn.proofs.Rows.{turns-rows}
 use Rattle.sheet.specs.declared.kind.Kind.{Kind}
-use Rattle.sheet.specs.Kind.{garage, mostTurns}
+use Rattle.sheet.specs.Kind.{shiftSheet, mostTurns}
 use Rattle.sheet.specs.Read.{countCauses}
 use Rattle.sheet.specs.Accepted.{Legal}
 use Rattle.sheet.proofs.Headers.{legal-counts}
@@ -94,9 +94,9 @@ pub ruleset drawn-keys-cases = (drawn-keys-start, drawn-keys-more, drawn-keys-ke
 
 -- ---- the writer's answer
 
-module _ (n : ℕ) (counts : Counts) (seed : ℕ) (l : Legal garage counts n) where
+module _ (n : ℕ) (counts : Counts) (seed : ℕ) (l : Legal shiftSheet counts n) where
   table-right : firstOf (tableCauses counts (drawnTable n counts seed)) ≡ 0
-  table-right = drawn-causes seed counts n ∙ legal-counts garage counts n l
+  table-right = drawn-causes seed counts n ∙ legal-counts shiftSheet counts n l
 
   pub drawn-put : (places lent : List ℕ) {keys : List ℕ} {w : Written} → n ≤ length places → keys ≡ keysOf (drawnTurns (length (take (n - 0) (drop 0 places))) counts seed)
       → w ≡ sheetWritten counts (turnsOfKeys (sortBy leb keys)) lent → w ≡ writeOf counts (drawnTable n counts seed) lent
@@ -117,7 +117,7 @@ module _ (seed : ℕ) (counts : Counts) (turns : ℕ) where
   unfolding seedCauses firstOf outsideRange
   seed-large z h = rw (ne-eqb seed 0 z, lt-ltb mostDraw seed (omega arith))
 
-  pub seed-right : {K : Kind} {f : ℕ} → (seed ≡ 0 → ⊥) → seed < drawModulus → K ≡ garage → f ≡ firstOf (countCauses K counts turns) → f ≡ firstOf (seedCauses seed counts turns)
+  pub seed-right : {K : Kind} {f : ℕ} → (seed ≡ 0 → ⊥) → seed < drawModulus → K ≡ shiftSheet → f ≡ firstOf (countCauses K counts turns) → f ≡ firstOf (seedCauses seed counts turns)
   unfolding seedCauses firstOf outsideRange
   seed-right z h k e = rw (ne-eqb seed 0 z, le-ltb mostDraw seed (omega arith)) (rw k at e)
 
@@ -131,46 +131,46 @@ module _ (seed groomers slopes turns : ℕ) {f : ℕ} (e : f ≡ firstOf (seedCa
   draw-refused lent z = sym (kept-before (seedCauses seed (countsOf groomers slopes) turns) _ _ lent f (sym e) z)
 
   module _ (z : f ≡ 0) where
-    parts : Drawable seed × Legal garage (countsOf groomers slopes) turns
+    parts : Drawable seed × Legal shiftSheet (countsOf groomers slopes) turns
     parts = seed-iff seed (countsOf groomers slopes) turns .0 (sym e ∙ z)
 
     pub seed-fits : Drawable seed
     seed-fits = parts .0
 
-    pub counts-fit : Legal garage (countsOf groomers slopes) turns
+    pub counts-fit : Legal shiftSheet (countsOf groomers slopes) turns
     counts-fit = parts .1
 
     pub seed-in-word : Fits w32 seed
     seed-in-word = let h = parts .0 .to in record { fits = omega arith }
 
     pub groomer-count-fits : Fits w16 groomers
-    unfolding garage
+    unfolding shiftSheet
     groomer-count-fits = let h = parts .1 .groomers-to in record { fits = omega arith }
 
     pub slope-count-fits : Fits w16 slopes
-    unfolding garage
+    unfolding shiftSheet
     slope-count-fits = let h = parts .1 .slopes-to in record { fits = omega arith }
 
     pub turn-count-fits : Fits w16 turns
-    unfolding garage
+    unfolding shiftSheet
     turn-count-fits = let h = parts .1 .turns-to in record { fits = omega arith }
 
     pub turns-few : turns ≤ mostTurns
-    unfolding garage
+    unfolding shiftSheet
     turns-few = parts .1 .turns-to
 
     pub groomers-from : 1 ≤ groomers
     groomers-from = parts .1 .groomers-from
 
     pub groomers-byte : groomers < 256
-    unfolding garage
+    unfolding shiftSheet
     groomers-byte = omega (arith, parts .1 .groomers-to)
 
     pub slopes-from : 1 ≤ slopes
     slopes-from = parts .1 .slopes-from
 
     pub slopes-byte : slopes < 256
-    unfolding garage
+    unfolding shiftSheet
     slopes-byte = omega (arith, parts .1 .slopes-to)
 
     pub draw-fine : (lent : List ℕ) {w : Written} → w ≡ writeOf (countsOf groomers slopes) (drawnTable turns (countsOf groomers slopes) seed) lent → w ≡ drawOf seed (countsOf groomers slopes) turns lent

@@ -6,7 +6,7 @@ ghost use lib.ListN.{length};
 ghost use Rattle.refusal.specs.Cause.{firstOf};
 ghost use Rattle.refusal.specs.Outcome.{beside};
 ghost use Rattle.turn.specs.Turn.{countsOf};
-ghost use Rattle.sheet.specs.Kind.{garage, mostTurns};
+ghost use Rattle.sheet.specs.Kind.{shiftSheet, mostTurns};
 ghost use Rattle.sheet.specs.Accepted.{Legal};
 ghost use Rattle.write_spec.specs.Write.{writeOf};
 ghost use Rattle.write_spec.specs.Key.{keysOf};
@@ -137,7 +137,7 @@ fn fill_keys(seed: u32, counts: Counts, keys: &mut [u64])
 
 // What the writer makes of n drawn turns, which need not be judged.
 fn write_drawn(seed: u32, counts: Counts, n: u16, keys: &mut [u64], out: &mut [u8]) -> WriteAnswer
-    requires { ⌜ (n ≤ mostTurns) × (n ≤ length (now keys)) × Drawable seed × Legal garage counts n ⌝ }
+    requires { ⌜ (n ≤ mostTurns) × (n ≤ length (now keys)) × Drawable seed × Legal shiftSheet counts n ⌝ }
     requires { ⌜ (1 ≤ counts .groomers) × (counts .groomers < 256) × (1 ≤ counts .slopes) × (counts .slopes < 256) ⌝ }
     ensures { λ r. ⌜ beside r (now (out .exit)) ≡ writeOf counts (drawnTable n counts seed) (now (out .entry)) ⌝ }
 {
@@ -157,7 +157,7 @@ fn seed_fault(seed: u64, groomers: u32, slopes: u32, turns: u32) -> u8
     if DRAW_MODULUS <= seed {
         return refusal::BAD_SEED;
     }
-    let kind = sheet_read::garage();
+    let kind = sheet_read::shift_sheet();
     sheet_read::count_fault(kind, groomers, slopes, turns as usize)
 }
 

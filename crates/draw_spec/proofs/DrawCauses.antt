@@ -12,7 +12,7 @@ use Rattle.refusal.proofs.Places.{causeAt, there-at, at-there}
 use Rattle.refusal.proofs.Written.{written-iff, written-not}
 use Rattle.turn.specs.declared.Counts.{Counts}
 use Rattle.turn.proofs.Ranges.{outside-iff}
-use Rattle.sheet.specs.Kind.{mostGroomers, mostSlopes, mostTurns, garage}
+use Rattle.sheet.specs.Kind.{mostGroomers, mostSlopes, mostTurns, shiftSheet}
 use Rattle.sheet.specs.Read.{countCauses}
 use Rattle.sheet.specs.Accepted.{Legal}
 use Rattle.draw_spec.specs.Draw.{mostDraw, Drawable}
@@ -25,7 +25,7 @@ use native.Mathlib.Omega.{arith}
 
 module _ (seed : ℕ) (counts : Counts) (turns : ℕ) where
   place-cause : (k r : ℕ) → causeAt (seedCauses seed counts turns) r .there ≡ true → k ≡ causeAt (seedCauses seed counts turns) r .number → SeedCause seed counts turns k r
-  unfolding seedCauses countCauses garage
+  unfolding seedCauses countCauses shiftSheet
   place-cause k zero e n = rw n (bad-seed (outside-iff seed mostDraw .0 e))
   place-cause k (suc zero) e n = rw n (groomer-count (outside-iff (counts .groomers) mostGroomers .0 e))
   place-cause k (suc (suc zero)) e n = rw n (slope-count (outside-iff (counts .slopes) mostSlopes .0 e))
@@ -33,7 +33,7 @@ module _ (seed : ℕ) (counts : Counts) (turns : ℕ) where
   place-cause k (suc (suc (suc (suc r)))) e n = absurd (true≢false (sym e))
 
   cause-place : {k r : ℕ} → SeedCause seed counts turns k r → There (seedCauses seed counts turns) k r
-  unfolding seedCauses countCauses garage
+  unfolding seedCauses countCauses shiftSheet
   cause-place (bad-seed h) = there-at (seedCauses seed counts turns) 0 (outside-iff seed mostDraw .1 h)
   cause-place (groomer-count h) = there-at (seedCauses seed counts turns) 1 (outside-iff (counts .groomers) mostGroomers .1 h)
   cause-place (slope-count h) = there-at (seedCauses seed counts turns) 2 (outside-iff (counts .slopes) mostSlopes .1 h)
@@ -60,7 +60,7 @@ module _ (seed : ℕ) (counts : Counts) (turns : ℕ) (lent : List ℕ) where
   draw-refused-iff = written-iff (drawCauses seed counts turns (length lent)) _ lent (draw-tells seed counts turns (length lent))
 
   -- and 0 exactly for a seed that can be drawn and counts that a header may name, where the lent bytes hold the sheet
-  pub draw-accepted-iff : (drawOf seed counts turns lent .answer .refusal ≡ 0) ↔ (Drawable seed × Legal garage counts turns × (length (drawnSheet seed counts turns) ≤ length lent))
+  pub draw-accepted-iff : (drawOf seed counts turns lent .answer .refusal ≡ 0) ↔ (Drawable seed × Legal shiftSheet counts turns × (length (drawnSheet seed counts turns) ≤ length lent))
   unfolding drawCauses
   draw-accepted-iff =
       let enough = enough-iff (seedCauses seed counts turns) (length lent) (length (drawnSheet seed counts turns)) (seed-numbered seed counts turns) in

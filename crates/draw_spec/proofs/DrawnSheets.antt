@@ -18,10 +18,10 @@ use Rattle.turn.specs.declared.Counts.{Counts}
 use Rattle.turn.specs.Turn.{rowNumbers, rows, tableRows, outsideRange}
 use Rattle.turn.proofs.Rows.{rows-length, turns-rows}
 use Rattle.turn.proofs.Ranges.{inside-iff}
-use Rattle.sheet.specs.Kind.{garage}
+use Rattle.sheet.specs.Kind.{shiftSheet}
 use Rattle.sheet.specs.Read.{countCauses, readOf}
 use Rattle.sheet.specs.Accepted.{Legal, SheetFor, Accepted}
-use Rattle.sheet.proofs.SoundKinds.{garage-sound}
+use Rattle.sheet.proofs.SoundKinds.{shift-sheet-sound}
 use Rattle.sheet.proofs.Headers.{counts-numbered, counts-legal, legal-counts}
 use Rattle.write_spec.specs.Order.{sortedTurns}
 use Rattle.write_spec.specs.Write.{writtenTurns, tableCauses, writeCauses, writeOf}
@@ -52,33 +52,33 @@ module _ (seed : ℕ) (counts : Counts) (turns : ℕ) where
   pub drawn-written : writtenTurns (drawnTable turns counts seed) ≡ sortedTurns (drawnTurns turns counts seed)
   drawn-written = ap sortedTurns (turns-rows (drawnTurns turns counts seed))
 
-  drawn-stops : (firstOf (countCauses garage counts turns) ≡ 0 → ⊥) → firstOf (tableCauses counts (drawnTable turns counts seed)) ≡ firstOf (countCauses garage counts turns)
+  drawn-stops : (firstOf (countCauses shiftSheet counts turns) ≡ 0 → ⊥) → firstOf (tableCauses counts (drawnTable turns counts seed)) ≡ firstOf (countCauses shiftSheet counts turns)
   unfolding tableCauses firstOf
-  drawn-stops n = rw (eq-eqb (length (drawnTable turns counts seed) % rowNumbers) 0 drawn-whole, drawn-rows) (first-stops (countCauses garage counts turns) _ _ refl n)
+  drawn-stops n = rw (eq-eqb (length (drawnTable turns counts seed) % rowNumbers) 0 drawn-whole, drawn-rows) (first-stops (countCauses shiftSheet counts turns) _ _ refl n)
 
   -- nothing can be wrong with it but the counts
-  pub drawn-causes : firstOf (tableCauses counts (drawnTable turns counts seed)) ≡ firstOf (countCauses garage counts turns)
-  drawn-causes = go (ℕ-discrete (firstOf (countCauses garage counts turns)) 0)
+  pub drawn-causes : firstOf (tableCauses counts (drawnTable turns counts seed)) ≡ firstOf (countCauses shiftSheet counts turns)
+  drawn-causes = go (ℕ-discrete (firstOf (countCauses shiftSheet counts turns)) 0)
     where
-      fine : firstOf (countCauses garage counts turns) ≡ 0 → firstOf (tableCauses counts (drawnTable turns counts seed)) ≡ 0
+      fine : firstOf (countCauses shiftSheet counts turns) ≡ 0 → firstOf (tableCauses counts (drawnTable turns counts seed)) ≡ 0
       fine z =
-          let l = counts-legal garage counts turns (garage-sound .numbers) z in
+          let l = counts-legal shiftSheet counts turns (shift-sheet-sound .numbers) z in
           let all = all-fine counts (drawn-all counts (l .groomers-from) (l .slopes-from) turns seed) in
           writable-table counts (drawnTable turns counts seed) (record { whole = drawn-whole; legal = rw drawn-rows l; fine = rw (turns-rows (drawnTurns turns counts seed)) all })
 
-      go : Dec (firstOf (countCauses garage counts turns) ≡ 0) → firstOf (tableCauses counts (drawnTable turns counts seed)) ≡ firstOf (countCauses garage counts turns)
+      go : Dec (firstOf (countCauses shiftSheet counts turns) ≡ 0) → firstOf (tableCauses counts (drawnTable turns counts seed)) ≡ firstOf (countCauses shiftSheet counts turns)
       go (yes z) = fine z ∙ sym z
       go (no n) = drawn-stops n
 
   -- ---- the sheet
 
-  seed-clear : Drawable seed → firstOf (seedCauses seed counts turns) ≡ firstOf (countCauses garage counts turns)
+  seed-clear : Drawable seed → firstOf (seedCauses seed counts turns) ≡ firstOf (countCauses shiftSheet counts turns)
   unfolding seedCauses firstOf
   seed-clear d = rw (inside-iff seed mostDraw .1 (d .from, d .to))
 
   pub seed-numbered : numbered (seedCauses seed counts turns) ≡ true
   unfolding seedCauses
-  seed-numbered = counts-numbered garage counts turns (garage-sound .numbers)
+  seed-numbered = counts-numbered shiftSheet counts turns (shift-sheet-sound .numbers)
 
   -- with a seed that can be drawn, drawing a sheet is writing the drawn table, whatever the counts and the lent bytes
   pub drawn-as-written : (lent : List ℕ) → Drawable seed → drawOf seed counts turns lent ≡ writeOf counts (drawnTable turns counts seed) lent
@@ -90,23 +90,23 @@ module _ (seed : ℕ) (counts : Counts) (turns : ℕ) where
       rw drawn-written (written-same (seedCauses seed counts turns ++ small) (drawnSheet seed counts turns) lent (tableCauses counts table ++ small) e)
 
   -- nothing is wrong with a seed and counts just if the seed can be drawn and a header may name the counts
-  pub seed-iff : (firstOf (seedCauses seed counts turns) ≡ 0) ↔ (Drawable seed × Legal garage counts turns)
+  pub seed-iff : (firstOf (seedCauses seed counts turns) ≡ 0) ↔ (Drawable seed × Legal shiftSheet counts turns)
   unfolding seedCauses
-  seed-iff = (to, λ h. seed-clear (h .0) ∙ legal-counts garage counts turns (h .1))
+  seed-iff = (to, λ h. seed-clear (h .0) ∙ legal-counts shiftSheet counts turns (h .1))
     where
-      to : firstOf (badSeed when outsideRange seed mostDraw ∷ countCauses garage counts turns) ≡ 0 → Drawable seed × Legal garage counts turns
+      to : firstOf (badSeed when outsideRange seed mostDraw ∷ countCauses shiftSheet counts turns) ≡ 0 → Drawable seed × Legal shiftSheet counts turns
       to e =
-          let both = clear-cons (badSeed when outsideRange seed mostDraw) (countCauses garage counts turns) (omega arith) e in
+          let both = clear-cons (badSeed when outsideRange seed mostDraw) (countCauses shiftSheet counts turns) (omega arith) e in
           let s = inside-iff seed mostDraw .0 (both .0) in
-          (record { from = s .0; to = s .1 }, counts-legal garage counts turns (garage-sound .numbers) (both .1))
+          (record { from = s .0; to = s .1 }, counts-legal shiftSheet counts turns (shift-sheet-sound .numbers) (both .1))
 
   -- ---- reading it
 
   -- it is a sheet of these counts and of the drawn turns in the written order, so the reader accepts it
-  pub drawn-sheet : Legal garage counts turns → SheetFor garage (drawnSheet seed counts turns) counts (sortedTurns (drawnTurns turns counts seed))
-  drawn-sheet l = rw drawn-written at (written-sheet counts (drawnTable turns counts seed) (drawn-causes ∙ legal-counts garage counts turns l))
+  pub drawn-sheet : Legal shiftSheet counts turns → SheetFor shiftSheet (drawnSheet seed counts turns) counts (sortedTurns (drawnTurns turns counts seed))
+  drawn-sheet l = rw drawn-written at (written-sheet counts (drawnTable turns counts seed) (drawn-causes ∙ legal-counts shiftSheet counts turns l))
 
-  pub drawn-accepted : Legal garage counts turns → Accepted (drawnSheet seed counts turns)
+  pub drawn-accepted : Legal shiftSheet counts turns → Accepted (drawnSheet seed counts turns)
   drawn-accepted l = record { counts = counts; turns = sortedTurns (drawnTurns turns counts seed); sheet = drawn-sheet l }
 
   -- the number given is that of the first cause

@@ -7,7 +7,7 @@ use Rattle.refusal.specs.Cause.{Cause, _when_}
 use Rattle.refusal.specs.Written.{Written, writtenUnless}
 use Rattle.turn.specs.declared.Counts.{Counts}
 use Rattle.turn.specs.Turn.{outsideRange}
-use Rattle.sheet.specs.Kind.{garage}
+use Rattle.sheet.specs.Kind.{shiftSheet}
 use Rattle.sheet.specs.Read.{countCauses}
 use Rattle.write_spec.specs.Order.{sortedTurns}
 use Rattle.write_spec.specs.Write.{sheetOf}
@@ -20,7 +20,7 @@ drawnSheet seed counts turns = sheetOf counts (sortedTurns (drawnTurns turns cou
 
 -- what may be wrong, in the order of refusal: the seed, then the counts
 unfoldable pub seedCauses : ℕ → Counts → ℕ → List Cause
-seedCauses seed counts turns = badSeed when outsideRange seed mostDraw ∷ countCauses garage counts turns
+seedCauses seed counts turns = badSeed when outsideRange seed mostDraw ∷ countCauses shiftSheet counts turns
 
 -- and last the lent bytes
 unfoldable pub drawCauses : ℕ → Counts → ℕ → ℕ → List Cause

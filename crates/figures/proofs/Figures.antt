@@ -6,10 +6,10 @@ use mathlib.Core.Path.{_≡_, refl, sym}
 use native.Mathlib.Numerals.{unary-clauses}
 use Rattle.turn.specs.Turn.{outsideRange}
 use Rattle.turn.proofs.Ranges.{inside-iff, within-iff}
-use Rattle.sheet.specs.Kind.{garage, withTurns}
+use Rattle.sheet.specs.Kind.{shiftSheet, withTurns}
 use Rattle.sheet.specs.Record.{widthOf, field, turnFrom}
 use Rattle.sheet.proofs.Accepting.{read-accepted-iff}
-use Rattle.sheet.specs.Screen.{liftDesk}
+use Rattle.sheet.specs.Short.{shortSheet}
 use Rattle.sheet.proofs.Limits.{short-accepted-iff}
 use Rattle.write_spec.proofs.RoundTrip.{write-room-iff}
 use Rattle.archive_spec.specs.Kept.{archive}
@@ -42,7 +42,7 @@ use Rattle.hall_by_prices_spec.proofs.LimitCauses.{charge-limit-accepted-iff}
 use Rattle.figures.specs.Figures.{Figures}
 
 pub figures : Figures
-unfolding outsideRange bitOf chosenIn garage withTurns widthOf field turnFrom liftDesk archive problemOf sheetTurns nextDraw turnDrawn isWide wideDraw roundedUp smallTakes chargingSheet startFrom firstChange nextChange movedPrice turnChange shiftStart windowPays supplyCost movedMinute hallStart slopePrice turnPrice minutePrice poorerFirst choiceFrom shiftRule hallRule
+unfolding outsideRange bitOf chosenIn shiftSheet withTurns widthOf field turnFrom shortSheet archive problemOf sheetTurns nextDraw turnDrawn isWide wideDraw roundedUp smallTakes chargingSheet startFrom firstChange nextChange movedPrice turnChange shiftStart windowPays supplyCost movedMinute hallStart slopePrice turnPrice minutePrice poorerFirst choiceFrom shiftRule hallRule
 figures =
     record {
       groomers = refl;
@@ -83,8 +83,8 @@ figures =
       every-bit = λ s at p. simp unary-clauses refl;
       row = refl;
       reader-need = read-accepted-iff;
-      garage-kind = refl;
-      lift-desk-kind = refl;
+      shift-sheet-kind = refl;
+      short-sheet-kind = refl;
       kept-kind = refl;
       charging-kind = refl;
       board-header = refl;
@@ -117,7 +117,7 @@ figures =
       charge-need = charge-accepted-iff;
       refine-need = refine-accepted-iff;
       charge-refine-need = charge-refine-accepted-iff;
-      screen = refl;
+      short-turns = refl;
       searched = refl;
       delay = refl;
       driving-over = refl;
@@ -151,7 +151,7 @@ figures =
       first-hall-change = λ H vehicles. refl;
       next-change = λ change. refl;
       turn-change = λ change. refl;
-      unpaid-price = λ change price. refl;
+      price-without-payers = λ change price. refl;
       lone-price = λ change price. refl;
       highest-price = λ change k price l. rw (ne-eqb k 0 (λ e. omega (arith, l, e)), ne-eqb k 1 (λ e. omega (arith, l, e)));
       highest-minute = λ change units drawn price l. rw (lt-ltb units drawn l);
@@ -184,7 +184,7 @@ figures =
       wrong-sums-is = refl;
       partial-turn-is = refl;
       bad-driver-is = refl;
-      too-many-for-screen-is = refl;
+      too-many-for-short-is = refl;
       not-single-turns-is = refl;
       too-many-to-search-is = refl;
       bad-seed-is = refl;

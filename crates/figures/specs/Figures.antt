@@ -7,18 +7,18 @@ use mathlib.Core.List.{List, [], _∷_}
 use lib.Dec.{ltb, eqb, leb}
 use lib.ListN.{length, getD, replicate}
 use lib.IntN.{pos, negℤ}
-use Rattle.lists.specs.Lists.{sum, below, keep}
-use Rattle.refusal.specs.Number.{truncated, badMagic, badCounts, tooManyTurns, badMap, badSlope, badGroomer, badTime, badWorth, trailingBytes, bufferTooSmall, malformedBoard, chosenConflict, notMaximal, wrongStep, turnLeftOpen, wrongSums, partialTurn, badDriver, tooManyForScreen, notSingleTurns, tooManyToSearch, badSeed, badDelays, badDraw, badPrices}
+use Rattle.lists.specs.Lists.{sumOver, below, keep}
+use Rattle.refusal.specs.Number.{truncated, badMagic, badCounts, tooManyTurns, badMap, badSlope, badGroomer, badTime, badWorth, trailingBytes, bufferTooSmall, malformedBoard, chosenConflict, notMaximal, wrongStep, turnLeftOpen, wrongSums, partialTurn, badDriver, tooManyForShort, notSingleTurns, tooManyToSearch, badSeed, badDelays, badDraw, badPrices}
 use Rattle.wire.specs.Number.{valueAt, Bytes}
 use Rattle.wire.specs.Mark.{sheetMark, boardMark, keptMark, chargingMark}
 use Rattle.turn.specs.declared.Counts.{Counts}
 use Rattle.turn.specs.declared.Turn.{Turn}
 use Rattle.turn.specs.Turn.{shiftMinutes, mostWorth, mostDriver, rowNumbers, outsideRange, pastShift}
-use Rattle.sheet.specs.Kind.{firstMap, fullMap, mostGroomers, mostSlopes, mostTurns, garage}
+use Rattle.sheet.specs.Kind.{firstMap, fullMap, mostGroomers, mostSlopes, mostTurns, shiftSheet}
 use Rattle.sheet.specs.Record.{widthOf, turnFrom}
 use Rattle.sheet.specs.Read.{headerBytes, countsIn, turnCount, readOf}
 use Rattle.sheet.specs.Accepted.{Legal, Accepted}
-use Rattle.sheet.specs.Screen.{screenTurns, liftDesk, readShortOf, AcceptedShort}
+use Rattle.sheet.specs.Short.{shortTurns, shortSheet, readShortOf, AcceptedShort}
 use Rattle.write_spec.specs.Write.{writeOf}
 use Rattle.archive_spec.specs.Kept.{archive}
 use Rattle.choice_map.specs.Choice.{mapBytes, chosenIn}
@@ -41,7 +41,7 @@ use Rattle.draw_spec.specs.Draw.{mostDraw, nextDraw, drawNumber, turnDraws, tur
 use Rattle.draw_spec.specs.DrawnSheet.{drawnSheet, drawOf}
 use Rattle.play_spec.specs.Day.{overMinutes, mostDelay}
 use Rattle.play_spec.specs.declared.Standing.{Standing}
-use Rattle.play_spec.specs.Standing.{noTurnInHand}
+use Rattle.play_spec.specs.Standing.{noTurnNumber}
 use Rattle.play_spec.specs.Play.{playOf}
 use Rattle.hall_spec.specs.Hall.{mostUnits, mostVehicles, hallGap, Hall, windowCount, draw, sameVehicle, shareMinute, isWide, staysAllowed, Allowed}
 use Rattle.hall_spec.specs.Plan.{smallTakes, smallSteps, hallWorth}
@@ -119,13 +119,13 @@ pub record Figures : Type 0 where
   pub row : rowNumbers ≡ 6
   -- and so many places the reader needs for each
   pub reader-need : {s : List ℕ} → Bytes s → (lent : List ℕ) → (readOf s lent .answer .refusal ≡ 0) ↔ (Accepted s × (6 * turnCount s ≤ length lent))
-  -- the four kinds of sheet: mark, greatest counts, maps, and the refusals of counts, turns, slope and groomer. The garage's
-  pub garage-kind :
-      garage
+  -- the four kinds of sheet: mark, greatest counts, maps, and the refusals of counts, turns, slope and groomer. A shift's
+  pub shift-sheet-kind :
+      shiftSheet
       ≡ record { mark = 0x47 ∷ 0x52 ∷ 0x4D ∷ []; most = record { groomers = 16; slopes = 120; turns = 400 }; maps = record { first = 0x1F; full = 0x3F }; refusals = record { counts = 3; turns = 4; slope = 6; groomer = 7 } }
-  -- the lift desk's
-  pub lift-desk-kind :
-      liftDesk
+  -- the short reader's
+  pub short-sheet-kind :
+      shortSheet
       ≡ record { mark = 0x47 ∷ 0x52 ∷ 0x4D ∷ []; most = record { groomers = 16; slopes = 120; turns = 96 }; maps = record { first = 0x1F; full = 0x3F }; refusals = record { counts = 3; turns = 20; slope = 6; groomer = 7 } }
   -- the one that is kept by column
   pub kept-kind :
@@ -153,7 +153,7 @@ pub record Figures : Type 0 where
   pub planner-need : {s : List ℕ} → Bytes s → (lent : List ℕ) → (planOf s lent .answer .refusal ≡ 0) ↔ (Accepted s × (15 + (turnCount s + 7) / 8 + 4 * turnCount s ≤ length lent))
   -- ---- what the other entries accept, and how long a lent place must be
 
-  -- the lift desk's reader: as the garage's
+  -- the short reader: as a shift's
   pub short-reader-need : {s : List ℕ} → Bytes s → (lent : List ℕ) → (readShortOf s lent .answer .refusal ≡ 0) ↔ (AcceptedShort s × (6 * turnCount s ≤ length lent))
   -- the writer: as many bytes as it writes where a table is accepted
   pub write-need :
@@ -162,7 +162,7 @@ pub record Figures : Type 0 where
   -- drawing: a seed from 1 to 2,147,483,646, counts of a header, and the bytes of the sheet
   pub draw-need :
       (seed : ℕ) (counts : Counts) (turns : ℕ) (lent : List ℕ)
-      → (drawOf seed counts turns lent .answer .refusal ≡ 0) ↔ (((1 ≤ seed) × (seed ≤ 2147483646)) × Legal garage counts turns × (length (drawnSheet seed counts turns) ≤ length lent))
+      → (drawOf seed counts turns lent .answer .refusal ≡ 0) ↔ (((1 ≤ seed) × (seed ≤ 2147483646)) × Legal shiftSheet counts turns × (length (drawnSheet seed counts turns) ≤ length lent))
   -- keeping by column and restoring: as many bytes as are given
   pub keep-need : {s : List ℕ} → Bytes s → (lent : List ℕ) → (keepOf s lent .answer .refusal ≡ 0) ↔ (Accepted s × (length s ≤ length lent))
   pub restore-need : {k : List ℕ} → Bytes k → (lent : List ℕ) → (restoreOf k lent .answer .refusal ≡ 0) ↔ (AcceptedKept k × (length k ≤ length lent))
@@ -196,13 +196,13 @@ pub record Figures : Type 0 where
       → (chargeRefineOf s rounds map prices .refusal ≡ 0) ↔ (AcceptedCharging s × ((turnCount s + 7) / 8 ≤ length map) × (960 ≤ length prices))
   -- ---- the other parts
 
-  -- the lift desk's screen shows 96 turns; 64 turns are searched
-  pub screen : screenTurns ≡ 96
+  -- the short reader shows 96 turns; 64 turns are searched
+  pub short-turns : shortTurns ≡ 96
   pub searched : mostSearched ≡ 64
   -- a delay is up to 120 minutes, driving over takes ten, and 65,535 in hand is no turn
   pub delay : mostDelay ≡ 120
   pub driving-over : overMinutes ≡ 10
-  pub no-turn : noTurnInHand ≡ 65535
+  pub no-turn : noTurnNumber ≡ 65535
   -- a hall has up to 48 units and 60 vehicles, and no free minutes between windows
   pub units : mostUnits ≡ 48
   pub vehicles : mostVehicles ≡ 60
@@ -242,7 +242,7 @@ pub record Figures : Type 0 where
   pub minute-place : (prices : List ℕ) (minute : ℕ) → minutePrice prices minute ≡ getD prices minute 0
   -- a hall's prices are sixteenths
   pub window-pays : (H : Hall) (prices : List ℕ) (t : ℕ) → windowPays H prices t ≡ draw H t * minutesCost H prices t / 16
-  pub supply-costs : (H : Hall) (prices : List ℕ) → supplyCost H prices ≡ H .units * sum (minutePrice prices) (below 960) / 16
+  pub supply-costs : (H : Hall) (prices : List ℕ) → supplyCost H prices ≡ H .units * sumOver (minutePrice prices) (below 960) / 16
   -- the first change is a quarter of the greatest worth, in a hall an eighth, rounded up; from round to round it loses a sixteenth, and is never below 1
   pub first-change : (T : Turns) (groomers slopes : ℕ) → shiftStart T groomers slopes .change ≡ (greatestWorth T + 3) / 4
   pub first-hall-change : (H : Hall) (vehicles : ℕ) → hallStart H vehicles .change ≡ (greatestOf (H .windows .worth) (below (windowCount H)) + 7) / 8
@@ -250,7 +250,7 @@ pub record Figures : Type 0 where
   -- a turn's price changes by half of it, and at least by 1
   pub turn-change : (change : ℕ) → turnChange change ≡ max 1 (change / 2)
   -- a price that no turn pays falls by the change, and a difference of numbers is not below 0; one that a single turn pays stays
-  pub unpaid-price : (change price : ℕ) → movedPrice change 0 price ≡ price - change
+  pub price-without-payers : (change price : ℕ) → movedPrice change 0 price ≡ price - change
   pub lone-price : (change price : ℕ) → movedPrice change 1 price ≡ price
   -- a price that k turns pay, k above 1, rises to 60,000 at most; one of a minute in which more than the units is drawn, to 65,535; one of another minute falls, not below 0
   pub highest-price : (change k price : ℕ) → 2 ≤ k → movedPrice change k price ≡ min 60000 (price + (k - 1) * change)
@@ -300,7 +300,7 @@ pub record Figures : Type 0 where
   pub wrong-sums-is : wrongSums ≡ 17
   pub partial-turn-is : partialTurn ≡ 18
   pub bad-driver-is : badDriver ≡ 19
-  pub too-many-for-screen-is : tooManyForScreen ≡ 20
+  pub too-many-for-short-is : tooManyForShort ≡ 20
   pub not-single-turns-is : notSingleTurns ≡ 21
   pub too-many-to-search-is : tooManyToSearch ≡ 22
   pub bad-seed-is : badSeed ≡ 23

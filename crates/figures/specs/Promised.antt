@@ -6,7 +6,7 @@ use mathlib.Core.Bool.{Bool, true, false, cond}
 use mathlib.Core.List.{List, _∷_}
 use lib.Dec.{eqb}
 use lib.ListN.{length, getD, take, drop, replicate}
-use Rattle.lists.specs.Lists.{sum, below, All, In}
+use Rattle.lists.specs.Lists.{sumOver, below, All, In}
 use Rattle.lists.specs.Order.{howMany}
 use Rattle.refusal.specs.Outcome.{Outcome, beside}
 use Rattle.refusal.specs.Written.{Written, kept, wrote, writtenPart}
@@ -15,10 +15,10 @@ use Rattle.turn.specs.declared.Counts.{Counts}
 use Rattle.turn.specs.declared.Turn.{Turn}
 use Rattle.turn.specs.Turn.{countsOf, rows, tableRows, tableTurns}
 use Rattle.sheet.specs.declared.kind.Kind.{Kind}
-use Rattle.sheet.specs.Kind.{garage}
+use Rattle.sheet.specs.Kind.{shiftSheet}
 use Rattle.sheet.specs.Read.{countsIn, turnCount, turnsOf, readRefused, Reading, readOf}
 use Rattle.sheet.specs.Accepted.{SheetFor, AcceptedFor, Accepted, SheetCause, FirstReadCause}
-use Rattle.sheet.specs.Screen.{liftDesk, readShortOf, FirstShortCause}
+use Rattle.sheet.specs.Short.{shortSheet, readShortOf, FirstShortCause}
 use Rattle.write_spec.specs.Order.{SameTurns, InWrittenOrder}
 use Rattle.write_spec.specs.Write.{writeOf}
 use Rattle.write_spec.specs.WriteCause.{FirstWriteCause}
@@ -83,7 +83,7 @@ abbrev pub CapsShift : Turns → ℕ → Type 0
 CapsShift T most = (R : List ℕ) → Feasible T R → worthOf T R ≤ most
 
 abbrev pub CapsHall : Hall → ℕ → Type 0
-CapsHall H most = (R : List ℕ) → Allowed H R → sum (H .windows .worth) R ≤ most
+CapsHall H most = (R : List ℕ) → Allowed H R → sumOver (H .windows .worth) R ≤ most
 
 -- a number above 0 is given exactly if the first cause has it, and then all that is returned and lent is as refused says
 abbrev pub Refuses : {A : Type 0} → (ℕ → Type 0) → ℕ → A → (ℕ → A) → Type 0
@@ -98,7 +98,7 @@ shownIn s lent = choiceIn (turnCount s) (mapIn s lent)
 
 -- ---- reading and writing
 
--- 01, the sheet; R-8 of the lift desk's. The reader accepts exactly a sheet with six places for each turn in the table; then answer and table have its counts and turns, and behind them the table is as it was
+-- 01, the sheet; R-8 of the short reader's. The reader accepts exactly a sheet with six places for each turn in the table; then answer and table have its counts and turns, and behind them the table is as it was
 pub record Reads (K : Kind) (s lent : List ℕ) (x : Reading) : Type 0 where
   pub accepts : (x .answer .refusal ≡ 0) ↔ ((a : AcceptedFor K s) × (6 * length (a .turns) ≤ length lent))
   pub answers : x .answer .refusal ≡ 0 → (a : AcceptedFor K s) → x .answer ≡ record { refusal = 0; groomers = a .counts .groomers; slopes = a .counts .slopes; turns = length (a .turns) }
@@ -116,8 +116,8 @@ pub record Writes (counts : Counts) (table lent b : List ℕ) (x : Written) : Ty
   pub read-turns : (place : List ℕ) → length table ≤ length place → InWrittenOrder (tableTurns table) (tableTurns (take (length table) (readOf b place .lent)))
   pub read-behind : (place : List ℕ) → length table ≤ length place → drop (length table) (readOf b place .lent) ≡ drop (length table) place
   -- no sheet of these turns in that order is shorter, and none as short has other bytes
-  pub shortest : {s : List ℕ} {ts : List Turn} → SheetFor garage s counts ts → InWrittenOrder (tableTurns table) ts → length b ≤ length s
-  pub only : {s : List ℕ} {ts : List Turn} → SheetFor garage s counts ts → InWrittenOrder (tableTurns table) ts → length s ≡ length b → s ≡ b
+  pub shortest : {s : List ℕ} {ts : List Turn} → SheetFor shiftSheet s counts ts → InWrittenOrder (tableTurns table) ts → length b ≤ length s
+  pub only : {s : List ℕ} {ts : List Turn} → SheetFor shiftSheet s counts ts → InWrittenOrder (tableTurns table) ts → length s ≡ length b → s ≡ b
   -- read and written again they are the same, and whatever order the table has
   pub again :
       (place other : List ℕ) → length table ≤ length place → length b ≤ length other
@@ -190,7 +190,7 @@ pub record ListsBoard (s b lent : List ℕ) (T : Turns) (S : List Bool) (x : Wri
   -- below a groomer's heading stand exactly its chosen turns, by start; there are as many as ones in the map
   pub turns : (h u : ℕ) → In u (roundOf T S h) ↔ ((u < T .count) × (has S u ≡ true) × (T .groomer u ≡ h))
   pub by-start : (h : ℕ) → Rising T (roundOf T S h)
-  pub turn-lines : sum (λ k. length (roundOf T S (k + 1))) (below (countsIn s .groomers)) ≡ onesIn (boardMap b)
+  pub turn-lines : sumOver (λ k. length (roundOf T S (k + 1))) (below (countsIn s .groomers)) ≡ onesIn (boardMap b)
 
 -- R-4. Each turn's number is the smallest that is free when its turn comes, and no two of one number come within ten minutes
 pub record AssignsAll (T : Turns) (numbers : List ℕ) (used : ℕ) : Type 0 where
@@ -248,7 +248,7 @@ pub record Searches (s : List ℕ) (limit : ℕ) (lent : List ℕ) (T : Turns) (
   pub best-is : S ≡ comparedAll T (setsWithin T limit) (fromPlan T limit) .best
   pub first-most : FirstMost T S (choice T ∷ setsWithin T limit)
   pub costs : length (visitCosts T (T .count) 0 (noneTaken T)) ≡ length (setsOf T (T .count))
-  pub cost-all : sum (λ c. c) (visitCosts T (T .count) 0 (noneTaken T)) ≡ wholeVisits T
+  pub cost-all : sumOver (λ c. c) (visitCosts T (T .count) 0 (noneTaken T)) ≡ wholeVisits T
   pub plan-kept : x .answer .worth ≤ boardWorth (plannedBoard s) → mapIn s (x .lent) ≡ boardMap (plannedBoard s)
   pub found : x ≡ improvedFor T limit lent
   pub map : mapIn s (x .lent) ≡ mapOf S
@@ -300,9 +300,9 @@ pub record LimitsShift (s prices : List ℕ) (T : Turns) (most : ℕ → ℕ) (l
       (other : List ℕ) → length other ≡ length prices → ((k : ℕ) → k < countsIn s .slopes → getD other k 0 ≡ getD prices k 0)
       → ((u : ℕ) → u < turnCount s → T .driver u ≢ 0 → turnPrice (countsIn s .slopes) other u ≡ turnPrice (countsIn s .slopes) prices u) → limitOf s other ≡ limitOf s prices
   -- it is the prices and, groomer by groomer, the most that a set without conflict by groomer counts for
-  pub parts : limit ≡ priceSum T (countsIn s .slopes) prices + sum (λ k. most (k + 1)) (below (countsIn s .groomers))
-  pub attained : (g : ℕ) → (R : List ℕ) × GroomerSet T g R × (sum (countsFor T (countsIn s .slopes) prices) R ≡ most g)
-  pub greatest : (g : ℕ) (R : List ℕ) → GroomerSet T g R → sum (countsFor T (countsIn s .slopes) prices) R ≤ most g
+  pub parts : limit ≡ priceSum T (countsIn s .slopes) prices + sumOver (λ k. most (k + 1)) (below (countsIn s .groomers))
+  pub attained : (g : ℕ) → (R : List ℕ) × GroomerSet T g R × (sumOver (countsFor T (countsIn s .slopes) prices) R ≡ most g)
+  pub greatest : (g : ℕ) (R : List ℕ) → GroomerSet T g R → sumOver (countsFor T (countsIn s .slopes) prices) R ≤ most g
   -- at prices of 0 it is R-9's worth, where that entry refuses nothing
   pub free : ((k : ℕ) → getD prices k 0 ≡ 0) → limit ≡ groomersWorth T (countsIn s .groomers)
   pub free-best : ((k : ℕ) → getD prices k 0 ≡ 0) → (lent : List ℕ) → bestOf s lent .answer .refusal ≡ 0 → limit ≡ bestOf s lent .answer .worth
@@ -356,9 +356,9 @@ pub record ChargesHall (s lent : List ℕ) (H : Hall) (S : List Bool) (x : Charg
   -- no allowed set is worth more than five times the plan and the units for each step of the small draws
   pub capped : CapsHall H (5 * x .answer .worth + H .units * length (smallSteps H))
   -- nor one of wide windows than twice their tally, nor one of small ones than three times theirs and the units for each step; each plan covers its tally
-  pub wide-capped : (R : List ℕ) → Allowed H R → All (λ t. isWide H t ≡ true) R → sum (H .windows .worth) R ≤ 2 * tally (wideSteps H)
+  pub wide-capped : (R : List ℕ) → Allowed H R → All (λ t. isWide H t ≡ true) R → sumOver (H .windows .worth) R ≤ 2 * tally (wideSteps H)
   pub wide-covered : tally (wideSteps H) ≤ worthIn H (wideChoice H)
-  pub small-capped : (R : List ℕ) → Allowed H R → All (λ t. isSmall H t ≡ true) R → sum (H .windows .worth) R ≤ 3 * tally (smallSteps H) + H .units * length (smallSteps H)
+  pub small-capped : (R : List ℕ) → Allowed H R → All (λ t. isSmall H t ≡ true) R → sumOver (H .windows .worth) R ≤ 3 * tally (smallSteps H) + H .units * length (smallSteps H)
   pub small-covered : tally (smallSteps H) ≤ worthIn H (smallChoice H)
   pub map : mapIn s (x .lent) ≡ mapOf S
   pub behind : drop (mapBytes (turnCount s)) (x .lent) ≡ drop (mapBytes (turnCount s)) lent
@@ -367,10 +367,10 @@ pub record ChargesHall (s lent : List ℕ) (H : Hall) (S : List Bool) (x : Charg
 pub record LimitsHall (s prices : List ℕ) (H : Hall) (limit : ℕ) : Type 0 where
   pub capped : CapsHall H limit
   -- it is what the units cost and, vehicle by vehicle, the most that a window counts for
-  pub parts : limit ≡ supplyCost H prices + sum (λ k. vehicleBest H prices (k + 1) .worth) (below (countsIn s .slopes))
+  pub parts : limit ≡ supplyCost H prices + sumOver (λ k. vehicleBest H prices (k + 1) .worth) (below (countsIn s .slopes))
   pub greatest : (v t : ℕ) → t < windowCount H → vehicle H t ≡ v → windowCounts H prices t ≤ vehicleBest H prices v .worth
   pub attained : (v : ℕ) → (vehicleBest H prices v .worth ≡ 0) ⊎ ((t : ℕ) × (t < windowCount H) × (vehicle H t ≡ v) × (windowCounts H prices t ≡ vehicleBest H prices v .worth))
-  pub free : ((k : ℕ) → getD prices k 0 ≡ 0) → limit ≡ sum (λ k. richestOf H (H .windows .worth) (k + 1) (turnCount s) .worth) (below (countsIn s .slopes))
+  pub free : ((k : ℕ) → getD prices k 0 ≡ 0) → limit ≡ sumOver (λ k. richestOf H (H .windows .worth) (k + 1) (turnCount s) .worth) (below (countsIn s .slopes))
 
 -- P-3, by rounds. The windows S written are allowed and worth what comes back, no less than R-14's plan
 pub record RefinesHall (s : List ℕ) (rounds : ℕ) (map prices : List ℕ) (H : Hall) (S : List Bool) (x : ChargeRefinement) : Type 0 where
@@ -397,9 +397,9 @@ pub record RefinesHall (s : List ℕ) (rounds : ℕ) (map prices : List ℕ) (H 
 -- ---- the promises, of each entry's own answer and bytes, for all strings of bytes
 
 pub record Promised : Type 0 where
-  pub read : {s : List ℕ} → Bytes s → (lent : List ℕ) → Reads garage s lent (readOf s lent)
-  pub read-short : {s : List ℕ} → Bytes s → (lent : List ℕ) → Reads liftDesk s lent (readShortOf s lent)
-  -- R-8: what the lift desk accepts it reads as the garage does
+  pub read : {s : List ℕ} → Bytes s → (lent : List ℕ) → Reads shiftSheet s lent (readOf s lent)
+  pub read-short : {s : List ℕ} → Bytes s → (lent : List ℕ) → Reads shortSheet s lent (readShortOf s lent)
+  -- R-8: what the short reader accepts it reads as a shift does
   pub read-alike : (s lent : List ℕ) → readShortOf s lent .answer .refusal ≡ 0 → readShortOf s lent ≡ readOf s lent
   pub write : (counts : Counts) (table lent : List ℕ) → writeOf counts table lent .answer .refusal ≡ 0 → Writes counts table lent (writtenPart (writeOf counts table lent)) (writeOf counts table lent)
   -- R-11: the sheet of a seed is what the writer gives for the drawn turns, and keeps all that the writer promises

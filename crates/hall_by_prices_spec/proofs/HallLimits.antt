@@ -9,7 +9,7 @@ use native.Mathlib.Nat.{mul-le-mul-left}
 use native.Mathlib.Decide.{decLt}
 use lib.Dec.{ltb, eqb}
 use borrow.Author.Tests.{eqb-true, eq-eqb, eqb-false, lt-ltb, le-ltb}
-use Rattle.lists.specs.Lists.{sum, below}
+use Rattle.lists.specs.Lists.{sumOver, below}
 use Rattle.lists.proofs.Bools.{not-both, fails, or-1, up-to}
 use Rattle.lists.proofs.Sums.{sum-mono, sum-same, sum-zero, all-of, all-map, tab-at, sum-scale}
 use Rattle.model.specs.Choice.{has}
@@ -33,9 +33,9 @@ parts-mono : (a b : ℕ) → a ≤ b → a / priceParts ≤ b / priceParts
 parts-mono a b h = omega arith
 
 -- numbers divided each, and rounded down, come to no more than their sum divided
-parts-sum : (f : ℕ → ℕ) (R : List ℕ) → sum (λ t. f t / priceParts) R ≤ sum f R / priceParts
+parts-sum : (f : ℕ → ℕ) (R : List ℕ) → sumOver (λ t. f t / priceParts) R ≤ sumOver f R / priceParts
 parts-sum f [] = omega arith
-parts-sum f (t ∷ R) = omega (arith, parts-add (f t) (sum f R), parts-sum f R)
+parts-sum f (t ∷ R) = omega (arith, parts-add (f t) (sumOver f R), parts-sum f R)
 
 -- ---- a rule is kept: no allowed set pays more than all units cost
 
@@ -55,11 +55,11 @@ module _ (H : Hall) (prices : List ℕ) where
 
   -- what it pays for the minutes below n, in parts
   abbrev partsPaid : ℕ → ℕ → ℕ
-  partsPaid n t = draw H t * sum (λ m. cond (chargesAt H m t) (minutePrice prices m) 0) (below n)
+  partsPaid n t = draw H t * sumOver (λ m. cond (chargesAt H m t) (minutePrice prices m) 0) (below n)
 
   module _ (R : List ℕ) (a : Allowed H R) where
     -- what is paid for a minute is at most what the units cost then
-    minute-costs : (m : ℕ) → sum (minutePays m) R ≤ H .units * minutePrice prices m
+    minute-costs : (m : ℕ) → sumOver (minutePays m) R ≤ H .units * minutePrice prices m
     minute-costs m =
         omega (
           arith,
@@ -68,19 +68,19 @@ module _ (H : Hall) (prices : List ℕ) where
           mul-le-mul-left (minutePrice prices m) (a .supply m),
         )
 
-    parts-most : (n : ℕ) → sum (partsPaid n) R ≤ H .units * sum (minutePrice prices) (below n)
+    parts-most : (n : ℕ) → sumOver (partsPaid n) R ≤ H .units * sumOver (minutePrice prices) (below n)
     parts-most n =
         omega (
           arith,
-          sum-mono (partsPaid n) (λ t. sum (λ m. minutePays m t) (below n)) (all-of (λ t. omega (arith, sum-scale (draw H t) (λ m. cond (chargesAt H m t) (minutePrice prices m) 0) (below n))) R),
+          sum-mono (partsPaid n) (λ t. sumOver (λ m. minutePays m t) (below n)) (all-of (λ t. omega (arith, sum-scale (draw H t) (λ m. cond (chargesAt H m t) (minutePrice prices m) 0) (below n))) R),
           paid-costs n minutePays (λ m. H .units * minutePrice prices m) R (λ m h. minute-costs m),
           sum-scale (H .units) (minutePrice prices) (below n),
         )
 
-    paid-below : (n : ℕ) → sum (λ t. partsPaid n t / priceParts) R ≤ H .units * sum (minutePrice prices) (below n) / priceParts
-    paid-below n = omega (arith, parts-sum (partsPaid n) R, parts-mono (sum (partsPaid n) R) (H .units * sum (minutePrice prices) (below n)) (parts-most n))
+    paid-below : (n : ℕ) → sumOver (λ t. partsPaid n t / priceParts) R ≤ H .units * sumOver (minutePrice prices) (below n) / priceParts
+    paid-below n = omega (arith, parts-sum (partsPaid n) R, parts-mono (sumOver (partsPaid n) R) (H .units * sumOver (minutePrice prices) (below n)) (parts-most n))
 
-    paid-most : sum (windowPays H prices) R ≤ supplyCost H prices
+    paid-most : sumOver (windowPays H prices) R ≤ supplyCost H prices
     unfolding windowPays minutesCost supplyCost
     paid-most = paid-below shiftMinutes
 
@@ -98,11 +98,11 @@ module _ (H : Hall) {R : List ℕ} (a : Allowed H R) where
 
   -- a number for the vehicle of each window is counted at most once for each vehicle
   vehicles-sum : (f : ℕ → ℕ) (vehicles : ℕ) → ((t : ℕ) → t < windowCount H → (1 ≤ vehicle H t) × (vehicle H t ≤ vehicles)) →
-      sum (λ t. f (vehicle H t)) R ≤ sum (λ k. f (k + 1)) (below vehicles)
+      sumOver (λ t. f (vehicle H t)) R ≤ sumOver (λ k. f (k + 1)) (below vehicles)
   vehicles-sum f vehicles numbers =
       omega (
         arith,
-        sum-mono (λ t. f (vehicle H t)) (λ t. sum (λ k. cond (eqb (vehicle H t) (k + 1)) (f (k + 1)) 0) (below vehicles))
+        sum-mono (λ t. f (vehicle H t)) (λ t. sumOver (λ k. cond (eqb (vehicle H t) (k + 1)) (f (k + 1)) 0) (below vehicles))
             (all-map (λ t h. omega (arith, paid-one f vehicles (vehicle H t) (numbers t h .0) (numbers t h .1))) (a .numbers)),
         paid-costs vehicles (λ k t. cond (eqb (vehicle H t) (k + 1)) (f (k + 1)) 0) (λ k. f (k + 1)) R
             (λ k h. one-of (λ t. t < windowCount H) (sameVehicle H) (f (k + 1)) (λ t. eqb (vehicle H t) (k + 1)) (vehicle-clique k) (a .numbers) own-vehicles),
@@ -207,7 +207,7 @@ module _ (H : Hall) (prices : List ℕ) where
   pub within-hall-limit : (vehicles : ℕ) → ((t : ℕ) → t < windowCount H → (1 ≤ vehicle H t) × (vehicle H t ≤ vehicles)) → (R : List ℕ) → Allowed H R → worthOfWindows H R ≤ hallLimit H vehicles prices
   unfolding hallLimit windowCounts
   within-hall-limit vehicles numbers R a =
-      weak-duality (H .windows .worth) (windowPays H prices) R (supplyCost H prices) (sum (λ k. vehicleBest H prices (k + 1) .worth) (below vehicles)) (paid-most H prices R a)
+      weak-duality (H .windows .worth) (windowPays H prices) R (supplyCost H prices) (sumOver (λ k. vehicleBest H prices (k + 1) .worth) (below vehicles)) (paid-most H prices R a)
       (omega (
         arith,
         sum-mono (λ t. H .windows .worth t - windowPays H prices t) (λ t. vehicleBest H prices (vehicle H t) .worth) (all-map (λ t l. vehicle-most (vehicle H t) .greatest t l refl) (a .numbers)),
@@ -239,7 +239,7 @@ module _ (H : Hall) (prices : List ℕ) (free : AllFree prices) where
   unfolding vehicleBest
   free-best v = ap (λ (f : ℕ → ℕ). richestOf H f v (windowCount H)) (λ j t. counts-worth t j)
 
-  pub free-hall-limit : (vehicles : ℕ) → hallLimit H vehicles prices ≡ sum (λ k. richestOf H (H .windows .worth) (k + 1) (windowCount H) .worth) (below vehicles)
+  pub free-hall-limit : (vehicles : ℕ) → hallLimit H vehicles prices ≡ sumOver (λ k. richestOf H (H .windows .worth) (k + 1) (windowCount H) .worth) (below vehicles)
   unfolding hallLimit
   free-hall-limit vehicles =
       omega (

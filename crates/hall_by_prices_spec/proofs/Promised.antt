@@ -4,7 +4,7 @@ use mathlib.Core.Path.{_≡_, ap, _∙_}
 use mathlib.Core.List.{List}
 use native.Mathlib.Omega.{arith}
 use Rattle.refusal.specs.Cause.{firstOf}
-use Rattle.lists.specs.Lists.{sum, below}
+use Rattle.lists.specs.Lists.{sumOver, below}
 use Rattle.sheet.specs.Read.{countsIn, turnCount, causesFor}
 use Rattle.instance_spec.proofs.SheetTurns.{sheet-count-for, sheet-slopes-for}
 use Rattle.hall_spec.specs.Hall.{hallGap, windowCount, vehicle}
@@ -47,5 +47,5 @@ module _ (s prices : List ℕ) (e : chargeLimitOf s prices .refusal ≡ 0) where
         vehicle-most = vehicle-most (hallOf s) prices;
         free = λ f.
             given ∙ free-hall-limit (hallOf s) prices f (countsIn s .slopes)
-            ∙ ap (λ (n : ℕ). sum (λ k. richestOf (hallOf s) (hallOf s .windows .worth) (k + 1) n .worth) (below (countsIn s .slopes))) (window-count s sound);
+            ∙ ap (λ (n : ℕ). sumOver (λ k. richestOf (hallOf s) (hallOf s .windows .worth) (k + 1) n .worth) (below (countsIn s .slopes))) (window-count s sound);
       }

@@ -6,7 +6,7 @@ use mathlib.Core.List.{List, [], _∷_}
 use Prim.Native.Nat.{ℕ, zero, suc, _+_, _-_, _*_, _/_, _≤_, _<_}
 use lib.Dec.{eqb}
 use lib.ListN.{getD}
-use Rattle.lists.specs.Lists.{sum, tab, below}
+use Rattle.lists.specs.Lists.{sumOver, tab, below}
 use Rattle.turn.specs.Turn.{shiftMinutes}
 use Rattle.best_spec.specs.Table.{Best, noTurns, greater, isAmong}
 use Rattle.hall_spec.specs.Hall.{Hall, windowCount, vehicle, draw, chargesAt}
@@ -21,7 +21,7 @@ minutePrice prices m = getD prices m 0
 
 -- what the minutes of window t cost together, for each unit drawn
 unfoldable pub minutesCost : Hall → List ℕ → ℕ → ℕ
-minutesCost H prices t = sum (λ m. cond (chargesAt H m t) (minutePrice prices m) 0) (below shiftMinutes)
+minutesCost H prices t = sumOver (λ m. cond (chargesAt H m t) (minutePrice prices m) 0) (below shiftMinutes)
 
 -- what window t pays: its draw times that, in whole worth, rounded down
 unfoldable pub windowPays : Hall → List ℕ → ℕ → ℕ
@@ -46,11 +46,11 @@ vehicleBest H prices v = richestOf H (windowCounts H prices) v (windowCount H)
 
 -- what all units cost at all minutes, in whole worth, rounded down
 unfoldable pub supplyCost : Hall → List ℕ → ℕ
-supplyCost H prices = H .units * sum (minutePrice prices) (below shiftMinutes) / priceParts
+supplyCost H prices = H .units * sumOver (minutePrice prices) (below shiftMinutes) / priceParts
 
 -- the limit: that, and for each vehicle from 1 to the last what its best window counts for
 unfoldable pub hallLimit : Hall → ℕ → List ℕ → ℕ
-hallLimit H vehicles prices = supplyCost H prices + sum (λ k. vehicleBest H prices (k + 1) .worth) (below vehicles)
+hallLimit H vehicles prices = supplyCost H prices + sumOver (λ k. vehicleBest H prices (k + 1) .worth) (below vehicles)
 
 -- the relaxed set: the vehicles' windows
 unfoldable pub hallRelaxed : Hall → List ℕ → List Bool

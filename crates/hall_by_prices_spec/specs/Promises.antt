@@ -5,7 +5,7 @@ use mathlib.Core.Bool.{Bool}
 use mathlib.Core.List.{List}
 use Prim.Native.Nat.{ℕ, _+_, _≤_, _<_}
 use lib.ListN.{take, drop, replicate}
-use Rattle.lists.specs.Lists.{sum, below}
+use Rattle.lists.specs.Lists.{sumOver, below}
 use Rattle.turn.specs.Turn.{shiftMinutes}
 use Rattle.sheet.specs.Read.{countsIn, turnCount}
 use Rattle.choice_map.specs.Choice.{mapBytes, mapOf, choiceIn}
@@ -26,10 +26,10 @@ pub record ChargeLimitPromised (s prices : List ℕ) : Type 0 where
   -- no allowed set of the sheet's windows is worth more
   pub within : (R : List ℕ) → Allowed (hallOf s) R → worthOfWindows (hallOf s) R ≤ chargeLimitOf s prices .limit
   -- it is what all units cost and, for each vehicle from 1 on, the most that a window of it counts for
-  pub parts : chargeLimitOf s prices .limit ≡ supplyCost (hallOf s) prices + sum (λ k. vehicleBest (hallOf s) prices (k + 1) .worth) (below (countsIn s .slopes))
+  pub parts : chargeLimitOf s prices .limit ≡ supplyCost (hallOf s) prices + sumOver (λ k. vehicleBest (hallOf s) prices (k + 1) .worth) (below (countsIn s .slopes))
   pub vehicle-most : (v : ℕ) → MostOfVehicle (hallOf s) prices v (vehicleBest (hallOf s) prices v .worth)
   -- where all prices are 0, it is the sum over the vehicles of the worths of their richest windows
-  pub free : AllFree prices → chargeLimitOf s prices .limit ≡ sum (λ k. richestOf (hallOf s) (hallOf s .windows .worth) (k + 1) (turnCount s) .worth) (below (countsIn s .slopes))
+  pub free : AllFree prices → chargeLimitOf s prices .limit ≡ sumOver (λ k. richestOf (hallOf s) (hallOf s .windows .worth) (k + 1) (turnCount s) .worth) (below (countsIn s .slopes))
 
 -- the bytes of the map that the rounds wrote
 abbrev pub refinedMap : List ℕ → ℕ → List ℕ → List ℕ → List ℕ

@@ -14,7 +14,7 @@ use lib.Dec.{ltb, eqb}
 use lib.ListN.{length, getD, set, replicate, length-set, length-replicate}
 use lib.Seq.{getD-set-same, getD-set-other}
 use borrow.Author.Tests.{eq-eqb, ne-eqb, lt-ltb, le-ltb, lt-leb, le-leb}
-use Rattle.lists.specs.Lists.{sum, below}
+use Rattle.lists.specs.Lists.{sumOver, below}
 use Rattle.lists.proofs.Sums.{sum-same}
 use Rattle.turn.specs.Turn.{shiftMinutes, mostWorth}
 use Rattle.best_spec.specs.Table.{Best, noTurns, greater}
@@ -45,7 +45,7 @@ module _ (H : Hall) (prices : List ℕ) (t : ℕ) where
 
   -- what its minutes below n cost
   abbrev costTo : ℕ → ℕ
-  costTo n = sum (λ m. cond (chargesAt H m t) (minutePrice prices m) 0) (below n)
+  costTo n = sumOver (λ m. cond (chargesAt H m t) (minutePrice prices m) 0) (below n)
 
   free-before : (m : ℕ) → m < start → chargesAt H m t ≡ false
   unfolding chargesAt
@@ -240,30 +240,30 @@ pub ruleset keep-cases = (best-taken, window-taken, best-stays, window-stays)
 -- ---- the limit
 
 -- the first k of n vehicles are summed up
-pub record SummedBests (most : List ℕ) (n k sum : ℕ) : Type 0 where
+pub record SummedBests (most : List ℕ) (n k sumOver : ℕ) : Type 0 where
   pub within : k ≤ n
-  pub is : sum ≡ bestsSum most k
-  pub small : sum ≤ k * mostPrice
+  pub is : sumOver ≡ bestsSum most k
+  pub small : sumOver ≤ k * mostPrice
 
 module _ (most : List ℕ) (n : ℕ) (few : n ≤ mostVehicles) where
   pub sum-start : SummedBests most n 0 0
   unfolding bestsSum
   sum-start = record { within = omega arith; is = refl; small = omega arith }
 
-  pub sum-place : {k sum : ℕ} → SummedBests most n k sum → k < n → k + 1 < vehiclePlaces
+  pub sum-place : {k sumOver : ℕ} → SummedBests most n k sumOver → k < n → k + 1 < vehiclePlaces
   sum-place s l = omega arith
 
-  pub sum-fits : {k sum x : ℕ} → SummedBests most n k sum → k < n → x < 65536 → Fits w32 (sum + x)
+  pub sum-fits : {k sumOver x : ℕ} → SummedBests most n k sumOver → k < n → x < 65536 → Fits w32 (sumOver + x)
   sum-fits s l h = omega (arith, s .small)
 
-  pub sum-more : {k sum x : ℕ} → SummedBests most n k sum → k < n → x ≡ getD most (k + 1) 0 → x < 65536 → SummedBests most n (k + 1) (sum + x)
+  pub sum-more : {k sumOver x : ℕ} → SummedBests most n k sumOver → k < n → x ≡ getD most (k + 1) 0 → x < 65536 → SummedBests most n (k + 1) (sumOver + x)
   unfolding bestsSum
-  sum-more {k} {sum} {x} s l e h = record { within = omega arith; is = let z = s .is in rw (add-one k) (omega (arith, z, e)); small = omega (arith, s .small) }
+  sum-more {k} {sumOver} {x} s l e h = record { within = omega arith; is = let z = s .is in rw (add-one k) (omega (arith, z, e)); small = omega (arith, s .small) }
 
-  pub sum-done : {k sum : ℕ} → SummedBests most n k sum → n ≤ k → sum ≡ bestsSum most n
+  pub sum-done : {k sumOver : ℕ} → SummedBests most n k sumOver → n ≤ k → sumOver ≡ bestsSum most n
   sum-done {k} s l = let e : k ≡ n = omega (arith, s .within) in s .is ∙ ap (bestsSum most) e
 
-  pub sum-most : {k sum : ℕ} → SummedBests most n k sum → sum ≤ mostVehicles * mostPrice
+  pub sum-most : {k sumOver : ℕ} → SummedBests most n k sumOver → sumOver ≤ mostVehicles * mostPrice
   sum-most s = omega (arith, s .within, s .small)
 
 pub ruleset sum-cases = (sum-start, sum-place, sum-fits, sum-more, sum-done, sum-most)
@@ -292,7 +292,7 @@ module _ (h : HallSize) (cols : List ℕ) (q : HallPosed h cols) (prices most ta
   unfolding vehicleBest
   best-is v = ap (richestOf (hallFor h cols) (windowCounts (hallFor h cols) prices) v) (sym (count-is (h .size) cols))
 
-  bests-are : (n : ℕ) → n ≤ mostVehicles → bestsSum most n ≡ sum (λ k. vehicleBest (hallFor h cols) prices (k + 1) .worth) (below n)
+  bests-are : (n : ℕ) → n ≤ mostVehicles → bestsSum most n ≡ sumOver (λ k. vehicleBest (hallFor h cols) prices (k + 1) .worth) (below n)
   unfolding bestsSum
   bests-are n l = sum-same (λ k. getD most (k + 1) 0) (λ k. vehicleBest (hallFor h cols) prices (k + 1) .worth) n (λ k m. b .values (k + 1) (omega arith) ∙ ap (λ (x : Best). x .worth) (best-is (k + 1)))
 

@@ -3,7 +3,7 @@ use mathlib.Core.Path.{_≡_}
 use mathlib.Core.List.{List, [], _∷_}
 use Prim.Native.Nat.{ℕ, zero, suc, _+_, _-_, _*_, _/_, _≤_, _<_}
 use lib.ListN.{length, getD}
-use Rattle.lists.specs.Lists.{sum, below}
+use Rattle.lists.specs.Lists.{sumOver, below}
 use Rattle.turn.specs.Turn.{shiftMinutes, mostWorth}
 use Rattle.choice_map.specs.Choice.{withTurn}
 use Rattle.instance.specs.declared.ways.Row.{Row}
@@ -28,7 +28,7 @@ hallFor h cols = hallBy (h .units) (h .size) cols
 
 -- the prices of the minutes before m together
 unfoldable pub pricesBelow : List ℕ → ℕ → ℕ
-pricesBelow prices m = sum (minutePrice prices) (below m)
+pricesBelow prices m = sumOver (minutePrice prices) (below m)
 
 -- what a row's minutes cost together
 abbrev pub rowCost : List ℕ → Row → ℕ
@@ -40,7 +40,7 @@ rowCounts prices r = r .worth - r .groomer * rowCost prices r / priceParts
 
 -- what the first n vehicles' best windows count for together
 unfoldable pub bestsSum : List ℕ → ℕ → ℕ
-bestsSum most n = sum (λ k. getD most (k + 1) 0) (below n)
+bestsSum most n = sumOver (λ k. getD most (k + 1) 0) (below n)
 
 -- no window, or the one before a number
 unfoldable pub windowBefore : ℕ → List ℕ
@@ -66,12 +66,12 @@ pub record MinuteSums (prices sums : List ℕ) : Type 0 where
   pub most : pricesBelow prices shiftMinutes ≤ shiftMinutes * mostPrice
 
 -- as far as minute k they are there, and the last of them is sum
-pub record MinuteSumsTo (prices sums : List ℕ) (k sum : ℕ) : Type 0 where
+pub record MinuteSumsTo (prices sums : List ℕ) (k sumOver : ℕ) : Type 0 where
   pub within : k ≤ shiftMinutes
   pub places : length sums ≡ sumPlaces
   pub values : (m : ℕ) → m ≤ k → getD sums m 0 ≡ pricesBelow prices m
-  pub is : sum ≡ pricesBelow prices k
-  pub most : sum ≤ k * mostPrice
+  pub is : sumOver ≡ pricesBelow prices k
+  pub most : sumOver ≤ k * mostPrice
 
 -- a row with the draw, the minutes and the worth that a window of a hall can have
 pub record WindowRow (r : Row) : Type 0 where

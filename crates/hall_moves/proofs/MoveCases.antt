@@ -14,7 +14,7 @@ use lib.ListN.{length, getD, set, replicate, length-set, length-replicate, getD-
 use lib.Seq.{getD-set-other, ext-getD}
 use borrow.Author.Tests.{lt-ltb, le-ltb}
 use Rattle.lists.proofs.Places.{put-more, filled-cases}
-use Rattle.lists.specs.Lists.{sum, below, tab}
+use Rattle.lists.specs.Lists.{sumOver, below, tab}
 use Rattle.lists.proofs.Bools.{fails, cond-most, up-to}
 use Rattle.lists.proofs.Sums.{sum-zero, sum-same, sum-split, all-below, tab-length, tab-at, tab-same}
 use Rattle.turn.specs.Turn.{shiftMinutes, mostWorth}
@@ -212,7 +212,7 @@ pub ruleset draw-window-cases = (window-start, window-place, window-fits, window
 
 -- what the windows before t that a map has chosen draw at a minute
 unfoldable pub drawnBefore : Hall → List ℕ → ℕ → ℕ → ℕ
-drawnBefore H map t m = sum (λ u. cond (chosenIn map u) (drawAt H m u) 0) (below t)
+drawnBefore H map t m = sumOver (λ u. cond (chosenIn map u) (drawAt H m u) 0) (below t)
 
 -- they are drawn, and t is the next of the set
 pub record SetDrawnTo (H : Hall) (n : ℕ) (map drawn : List ℕ) (t : ℕ) : Type 0 where
@@ -228,7 +228,7 @@ module _ (H : Hall) (map : List ℕ) (m : ℕ) where
   drawn-skip a b l h =
       let e : b ≡ a + (b - a) = omega arith in
       let p : drawnBefore H map b m ≡ drawnBefore H map (a + (b - a)) m = ap (λ (k : ℕ). drawnBefore H map k m) e in
-      let rest : sum (λ u. cond (chosenIn map (a + u)) (drawAt H m (a + u)) 0) (below (b - a)) ≡ 0 =
+      let rest : sumOver (λ u. cond (chosenIn map (a + u)) (drawAt H m (a + u)) 0) (below (b - a)) ≡ 0 =
       sum-zero (λ u. cond (chosenIn map (a + u)) (drawAt H m (a + u)) 0) (all-below (b - a) (λ u k. rw (h (a + u) (omega arith) (omega arith)))) in
       omega (arith, p, rest, sum-split (λ u. cond (chosenIn map u) (drawAt H m u) 0) a (b - a))
 
@@ -324,7 +324,7 @@ module _ (h : HallSize) (cols relaxed : List ℕ) (q : HallPosed h cols) (c : Cl
     unfolding drawnBefore drawnAt chosen
     drawn-all m =
         sum-same (λ u. cond (chosenIn relaxed u) (drawAt H m u) 0) (λ u. cond (has (choiceIn n relaxed) u) (drawAt H m u) 0) n (λ u k. ap (λ (b : Bool). cond b (drawAt H m u) 0) (sym (choice-has n relaxed u k)))
-        ∙ ap (λ (k : ℕ). sum (λ u. cond (has (choiceIn n relaxed) u) (drawAt H m u) 0) (below k)) (sym (count-is (h .size) cols))
+        ∙ ap (λ (k : ℕ). sumOver (λ u. cond (has (choiceIn n relaxed) u) (drawAt H m u) 0) (below k)) (sym (count-is (h .size) cols))
 
     pub set-done : DrawnBy H (choiceIn n relaxed) drawn
     unfolding FewDrawn

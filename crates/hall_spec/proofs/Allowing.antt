@@ -10,7 +10,7 @@ use lib.Dec.{leb}
 use lib.ListN.{length, set, replicate, length-set, length-replicate}
 use lib.Seq.{getD-set-same}
 use borrow.Author.Tests.{leb-true, leb-false, not-false}
-use Rattle.lists.specs.Lists.{sum, All, more}
+use Rattle.lists.specs.Lists.{sumOver, All, more}
 use Rattle.model.specs.Steps.{Step}
 use Rattle.model.specs.Choice.{has, chosen, members, back, fill, chooseEach}
 use Rattle.model.specs.Feasible.{Distinct}
@@ -29,7 +29,7 @@ module _ (H : Hall) where
     pub vehicles : (x y : ℕ) → x < windowCount H → y < windowCount H → x ≢ y → has S x ≡ true → has S y ≡ true → vehicle H x ≢ vehicle H y
     pub supply : (minute : ℕ) → drawnAt H S minute ≤ H .units
 
-  drawn-members : (S : List Bool) (minute : ℕ) → drawnAt H S minute ≡ sum (drawAt H minute) (members (windowCount H) S)
+  drawn-members : (S : List Bool) (minute : ℕ) → drawnAt H S minute ≡ sumOver (drawAt H minute) (members (windowCount H) S)
   unfolding drawnAt
   drawn-members S minute = chosen-members (windowCount H) S (drawAt H minute)
 

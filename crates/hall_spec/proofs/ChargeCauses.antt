@@ -82,7 +82,7 @@ charge-accepted-iff {s} b lent = lent-accepted-iff-for chargingSheet charging-so
 
 -- ---- numbers that are never given
 
--- the garage's number for a groomer is none of its causes
+-- a shift's number for a groomer is none of its causes
 not-groomer : (s : List ℕ) (places k r : ℕ) → ChargeCause s places k r → k ≢ badGroomer
 unfolding chargingSheet
 not-groomer s places k r (before (short-header h)) e = omega arith

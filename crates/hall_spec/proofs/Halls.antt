@@ -10,7 +10,7 @@ use lib.ListN.{length}
 use borrow.Author.Tests.{le-ltb, lt-ltb}
 use Rattle.model.proofs.Members.{keep-once}
 use Rattle.lists.proofs.Keeping.{keep-every, keep-holds, keep-where, keep-most}
-use Rattle.lists.specs.Lists.{sum, All, keep}
+use Rattle.lists.specs.Lists.{sumOver, All, keep}
 use Rattle.model.specs.Steps.{tally}
 use Rattle.model.specs.Choice.{has}
 use Rattle.lists.proofs.Sums.{sum-add, sum-mono, all-map}
@@ -38,7 +38,7 @@ module _ (kind : ℕ → Bool) where
 
 module _ (H : Hall) where
   -- the worth of a set is that of its wide windows and that of its small ones
-  two-kinds : (R : List ℕ) → worthOfWindows H R ≡ sum (H .windows .worth) (keep (isWide H) R) + sum (H .windows .worth) (keep (isSmall H) R)
+  two-kinds : (R : List ℕ) → worthOfWindows H R ≡ sumOver (H .windows .worth) (keep (isWide H) R) + sumOver (H .windows .worth) (keep (isSmall H) R)
   unfolding isSmall
   two-kinds R =
       omega (
@@ -53,7 +53,7 @@ module _ (H : Hall) where
       one true k = omega arith
       one false k = omega arith
 
-      sum-same-all : (R : List ℕ) → sum (H .windows .worth) R ≡ sum (λ t. cond (isWide H t) (H .windows .worth t) 0 + cond (not (isWide H t)) (H .windows .worth t) 0) R
+      sum-same-all : (R : List ℕ) → sumOver (H .windows .worth) R ≡ sumOver (λ t. cond (isWide H t) (H .windows .worth t) 0 + cond (not (isWide H t)) (H .windows .worth t) 0) R
       sum-same-all [] = refl
       sum-same-all (t ∷ R) = omega (arith, one (isWide H t) (H .windows .worth t), sum-same-all R)
 

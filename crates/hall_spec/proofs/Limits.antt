@@ -1,4 +1,4 @@
--- Bounds that a program needs of the small windows' plan: residuals, the number of steps, the two sums. A step takes only from what is above zero, and from a small window at most its amount, so that residuals stay in the range that they have in the garage. None of this is in the source. Assumes nothing.
+-- Bounds that a program needs of the small windows' plan: residuals, the number of steps, the two sums. A step takes only from what is above zero, and from a small window at most its amount, so that residuals stay in the range that they have in a shift. None of this is in the source. Assumes nothing.
 use mathlib.Core.Path.{_≡_, refl}
 use mathlib.Core.Bool.{Bool, true, false}
 use mathlib.Core.List.{List}

@@ -8,7 +8,7 @@ use native.Mathlib.Nat.{le-of-mul-le-mul-left, mul-le-mul-left}
 use native.Mathlib.Omega.{arith}
 use lib.IntN.{ℤ}
 use lib.ListN.{length}
-use Rattle.lists.specs.Lists.{sum, below}
+use Rattle.lists.specs.Lists.{sumOver, below}
 use Rattle.model.specs.Turns.{Turns}
 use Rattle.model.specs.Steps.{Step, isOpen, initial, afterStepBy, final, tally}
 use Rattle.model.specs.Choice.{has, chosen}
@@ -86,7 +86,7 @@ module _ (H : Hall) (good : HallInRange H) where
           go false e = omega arith
 
       -- a step takes from an allowed set at most three times its amount, and less than the units besides: the amount from J's vehicle, twice the amount by the draws at J's last minute, and at each of these windows up to a whole by rounding up
-      pub step-cost : (R : List ℕ) → Allowed H R → sum (taken s x) R ≤ 3 * x .amount + H .units
+      pub step-cost : (R : List ℕ) → Allowed H R → sumOver (taken s x) R ≤ 3 * x .amount + H .units
       unfolding Clique
       step-cost R r =
           omega (
@@ -94,7 +94,7 @@ module _ (H : Hall) (good : HallInRange H) where
             sum-mono (taken s x) (λ t. share ofVehicle (x .amount) t + besides t) (all-of in-portions R),
             sum-add (share ofVehicle (x .amount)) besides R,
             one-of (λ t. t < windowCount H) (sameVehicle H) (x .amount) ofVehicle one-vehicle (r .numbers) (allowed-apart H r),
-            le-of-mul-le-mul-left {m = sum besides R} {n = 2 * x .amount + (H .units - 1)} {k = H .units} scaled (good .supplied),
+            le-of-mul-le-mul-left {m = sumOver besides R} {n = 2 * x .amount + (H .units - 1)} {k = H .units} scaled (good .supplied),
           )
         where
           one-vehicle : (y z : ℕ) → y < windowCount H → z < windowCount H → ofVehicle y ≡ true → ofVehicle z ≡ true → sameVehicle H y z ≡ true
@@ -105,7 +105,7 @@ module _ (H : Hall) (good : HallInRange H) where
           last : ℕ
           last = H .windows .end (x .turn) - 1
 
-          scaled : H .units * sum besides R ≤ H .units * (2 * x .amount + (H .units - 1))
+          scaled : H .units * sumOver besides R ≤ H .units * (2 * x .amount + (H .units - 1))
           scaled =
               omega (
                 arith,
@@ -169,7 +169,7 @@ module _ (H : Hall) (good : HallInRange H) where
   steps-closed = planBy-closed T next (small-taking H) (windowCount H) (initial T) (opens-most T (initial T))
 
   -- what the small windows of an allowed set are worth
-  pub small-part : (R : List ℕ) → Allowed H R → sum (T .worth) R ≤ 3 * tally (smallSteps H) + H .units * length (smallSteps H)
+  pub small-part : (R : List ℕ) → Allowed H R → sumOver (T .worth) R ≤ 3 * tally (smallSteps H) + H .units * length (smallSteps H)
   unfolding turnsAmong
   small-part R r =
       omega (

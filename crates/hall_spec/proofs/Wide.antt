@@ -6,7 +6,7 @@ use mathlib.Core.List.{List, [], _∷_}
 use Prim.Native.Nat.{ℕ, _+_, _*_, _≤_, _<_}
 use native.Mathlib.Omega.{arith}
 use lib.IntN.{ℤ}
-use Rattle.lists.specs.Lists.{sum, All, none, more}
+use Rattle.lists.specs.Lists.{sumOver, All, none, more}
 use Rattle.model.specs.Turns.{Turns, conflict, Conflict, same-slope, same-groomer, same-driver}
 use Rattle.model.specs.Steps.{Step, isOpen, initial, taken, afterStep, tally}
 use Rattle.model.specs.Choice.{has, chosen}
@@ -15,7 +15,7 @@ use Rattle.model.specs.Feasible.{Feasible}
 use Rattle.lists.proofs.Sums.{sum-mono, all-map, all-both}
 use Rattle.model.proofs.Account.{each-map, each-with}
 use Rattle.model.proofs.Residuals.{taken-touched}
-use Rattle.model.proofs.Planned.{garage-taking, planned-right, steps-closed}
+use Rattle.model.proofs.Planned.{conflict-taking, planned-right, steps-closed}
 use Rattle.model.proofs.Bound.{bound-twice}
 use Rattle.model.proofs.Filled.{Pays, fill-earned}
 use Rattle.model.proofs.Choices.{chosen-point, chosen-some}
@@ -30,11 +30,11 @@ use Rattle.hall_spec.proofs.Allowing.{Short, same-vehicle, out-of-suppl
 abbrev Two : (ℕ → ℕ → ℕ) → (ℕ → ℕ) → ℕ → ℕ → Type 0
 Two f most t u = t ≢ u → (m : ℕ) → f m t + f m u ≤ most m
 
-one-in : (f : ℕ → ℕ → ℕ) (R : List ℕ) → All (λ t. (m : ℕ) → f m t ≤ sum (f m) R) R
+one-in : (f : ℕ → ℕ → ℕ) (R : List ℕ) → All (λ t. (m : ℕ) → f m t ≤ sumOver (f m) R) R
 one-in f [] = none
 one-in f (t ∷ R) = more {t = t} (λ m. omega arith) (all-map (λ u h m. omega (arith, h m)) (one-in f R))
 
-two-in : (f : ℕ → ℕ → ℕ) (R : List ℕ) → All (λ t. All (λ u. Two f (λ m. sum (f m) R) t u) R) R
+two-in : (f : ℕ → ℕ → ℕ) (R : List ℕ) → All (λ t. All (λ u. Two f (λ m. sumOver (f m) R) t u) R) R
 two-in f [] = none
 two-in f (t ∷ R) =
     more {t = t} (more {t = t} (λ d. absurd (d refl)) (all-map (λ u h d m. omega (arith, h m)) (one-in f R)))
@@ -60,7 +60,7 @@ module _ (H : Hall) (good : HallInRange H) where
   unfolding turnsAmong
   wide-feasible R r w = record { numbers = r .numbers; once = r .once; apart = all-map pair (all-both w (all-both (r .vehicles) (two-in (drawAt H) R))) }
     where
-      pair : (t : ℕ) → (isWide H t ≡ true) × (All (λ u. t ≢ u → vehicle H t ≢ vehicle H u) R × All (λ u. Two (drawAt H) (λ m. sum (drawAt H m) R) t u) R) → All (λ u. t ≢ u → Conflict T t u → ⊥) R
+      pair : (t : ℕ) → (isWide H t ≡ true) × (All (λ u. t ≢ u → vehicle H t ≢ vehicle H u) R × All (λ u. Two (drawAt H) (λ m. sumOver (drawAt H m) R) t u) R) → All (λ u. t ≢ u → Conflict T t u → ⊥) R
       pair t (a, (v, k)) = all-map (λ u (b, (e, l)) d. no-conflict t u (e d) (λ m. omega (arith, l d m, r .supply m)) a b) (all-both w (all-both v k))
 
   -- an allowed set of wide windows is worth at most twice the tally
@@ -90,12 +90,12 @@ module _ (H : Hall) (good : HallInRange H) where
         let (t, l, e, p) = chosen-some (windowCount H) S (drawAt H minute) (omega (arith, over, d)) in
         pays-conflict t l e (Windows.minute-conflict H (isWide H) (x .turn) t (Windows.charges-share H minute (x .turn) t c (Windows.drawn-charging H minute t p)))
 
-  steps-pay : Each (afterStep T) (λ s x. Right T s x × Pays T (garage-taking T) (fitsAmong H (isWide H)) s x) (initial T) (wideSteps H)
+  steps-pay : Each (afterStep T) (λ s x. Right T s x × Pays T (conflict-taking T) (fitsAmong H (isWide H)) s x) (initial T) (wideSteps H)
   unfolding wideSteps turnsAmong
   steps-pay =
       each-map (λ s x (k, q). (q, λ S h e. pays-short s x S h (good .draws-to (x .turn) (q .inside)) (unfit-short H (isWide H) S (x .turn) (k (x .turn) (q .live)) e)))
-      (each-with (λ s x k q. after-only (isWide H) (garage-taking T) s x k) (first-only (isWide H) H) (planned-right T))
+      (each-with (λ s x k q. after-only (isWide H) (conflict-taking T) s x k) (first-only (isWide H) H) (planned-right T))
 
   pub wide-earns : tally (wideSteps H) ≤ worthIn H (wideChoice H)
   unfolding wideChoice chooseAmong turnsAmong
-  wide-earns = let e : tally (wideSteps H) ≤ chosen (windowCount H) (wideChoice H) (T .worth) = fill-earned T (garage-taking T) (fitsAmong H (isWide H)) _ steps-pay in omega (arith, e, kind-worth H (isWide H) (wideChoice H))
+  wide-earns = let e : tally (wideSteps H) ≤ chosen (windowCount H) (wideChoice H) (T .worth) = fill-earned T (conflict-taking T) (fitsAmong H (isWide H)) _ steps-pay in omega (arith, e, kind-worth H (isWide H) (wideChoice H))

@@ -17,7 +17,7 @@ use Rattle.hall_spec.specs.Plan.{hallChoice, hallWorth}
 use Rattle.refusal.specs.Outcome.{Outcome, beside, unless, thenRoom}
 use Rattle.hall_spec.specs.declared.ChargeAnswer.{ChargeAnswer}
 
--- a charging sheet: where the garage's has groomers and slopes, it has units and vehicles; every map is without the driver; and a draw out of range has a number of its own
+-- a charging sheet: where a shift's has groomers and slopes, it has units and vehicles; every map is without the driver; and a draw out of range has a number of its own
 unfoldable pub chargingSheet : Kind
 chargingSheet =
     record {

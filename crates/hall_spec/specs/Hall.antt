@@ -5,7 +5,7 @@ use mathlib.Core.Bool.{Bool, true, not, cond, _&&_}
 use mathlib.Core.List.{List, _∷_}
 use Prim.Native.Nat.{ℕ, _+_, _-_, _*_, _≤_, _<_}
 use lib.Dec.{ltb, leb, eqb}
-use Rattle.lists.specs.Lists.{every, sum, All}
+use Rattle.lists.specs.Lists.{every, sumOver, All}
 use Rattle.model.specs.Turns.{Turns, overlapping, PositiveLengths}
 use Rattle.model.specs.Choice.{has, chosen, members}
 use Rattle.model.specs.Feasible.{Distinct}
@@ -90,7 +90,7 @@ pub record Allowed (H : Hall) (R : List ℕ) : Type 0 where
   pub numbers : All (λ t. t < windowCount H) R
   pub once : Distinct R
   pub vehicles : All (λ t. All (λ u. t ≢ u → vehicle H t ≢ vehicle H u) R) R
-  pub supply : (minute : ℕ) → sum (drawAt H minute) R ≤ H .units
+  pub supply : (minute : ℕ) → sumOver (drawAt H minute) R ≤ H .units
 
 -- the chosen windows are an allowed set
 abbrev pub AllowedChoice : Hall → List Bool → Type 0

@@ -29,7 +29,7 @@ turnsAmong H kind =
       driver = λ t. 0;
     }
 
--- the wide windows' steps are a garage's, with its pick and its conflicts: one vehicle, or a minute in common
+-- the wide windows' steps are a shift's, with its pick and its conflicts: one vehicle, or a minute in common
 unfoldable pub wideSteps : Hall → List Step
 wideSteps H = steps (turnsAmong H (isWide H))
 

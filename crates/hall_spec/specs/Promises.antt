@@ -5,7 +5,7 @@ use mathlib.Core.Bool.{true}
 use mathlib.Core.List.{List}
 use Prim.Native.Nat.{ℕ, _+_, _*_, _≤_}
 use lib.ListN.{length}
-use Rattle.lists.specs.Lists.{sum, All}
+use Rattle.lists.specs.Lists.{sumOver, All}
 use Rattle.model.specs.Steps.{tally}
 use Rattle.model.specs.Choice.{has}
 use Rattle.hall_spec.specs.Hall.{Hall, isWide, isSmall, Allowed, AllowedChoice, FullAmong}
@@ -13,7 +13,7 @@ use Rattle.hall_spec.specs.Plan.{wideSteps, smallSteps, wideChoice, smal
 
 -- what a set of windows is worth: their worths, added up
 abbrev pub worthOfWindows : Hall → List ℕ → ℕ
-worthOfWindows H R = sum (H .windows .worth) R
+worthOfWindows H R = sumOver (H .windows .worth) R
 
 pub record HallPromises (H : Hall) : Type 0 where
   -- what is chosen is allowed

@@ -14,12 +14,12 @@ use Rattle.turn.specs.Turn.{rowNumbers, turnIn}
 use Rattle.model.specs.Turns.{Turns}
 use Rattle.sheet.specs.declared.answer.ReadAnswer.{ReadAnswer}
 use Rattle.sheet.specs.declared.kind.Kind.{Kind}
-use Rattle.sheet.specs.Kind.{mostTurns, Sound, garage}
+use Rattle.sheet.specs.Kind.{mostTurns, Sound, shiftSheet}
 use Rattle.sheet.specs.Read.{turnCount, turnsOf, tableOf, causesFor, answerFor, answerOf}
-use Rattle.sheet.proofs.SoundKinds.{garage-given}
+use Rattle.sheet.proofs.SoundKinds.{shift-sheet-given}
 use Rattle.sheet.proofs.Tables.{turns-length, turns-at, table-length, table-row}
 use Rattle.sheet.proofs.Unrefused.{legal-header}
-use Rattle.sheet.proofs.Whole.{whole-accepted-for, whole-answer-for, whole-turns-for, whole-few-for, whole-room-for, answer-garage, whole-refusal, whole-accepted}
+use Rattle.sheet.proofs.Whole.{whole-accepted-for, whole-answer-for, whole-turns-for, whole-few-for, whole-room-for, answer-shift-sheet, whole-refusal, whole-accepted}
 use Rattle.instance.specs.declared.ways.Row.{Row}
 use Rattle.instance.specs.declared.columns.Size.{Size}
 use Rattle.instance.specs.Ways.{rowFor}
@@ -122,25 +122,25 @@ module _ (K : Kind) (sound : Sound K) (s lent t : List ℕ) (r : ReadAnswer) (e 
 pub ruleset load-cases = (load-refused, load-few, load-room, load-fits, load-posed)
 
 -- its loading is that of its kind
-pub load-garage : (s cols : List ℕ) {K : Kind} {r : ReadAnswer} → K ≡ garage → (r ≡ answerFor K s) × (r .refusal ≡ 0 → (gap : ℕ) → PosedFor gap s cols) → Loaded s r cols
+pub load-shift-sheet : (s cols : List ℕ) {K : Kind} {r : ReadAnswer} → K ≡ shiftSheet → (r ≡ answerFor K s) × (r .refusal ≡ 0 → (gap : ℕ) → PosedFor gap s cols) → Loaded s r cols
 unfolding sheetTurns
-load-garage s cols {r = r} k w =
-    let e : r ≡ answerOf s = answer-garage s k (w .0) in
+load-shift-sheet s cols {r = r} k w =
+    let e : r ≡ answerOf s = answer-shift-sheet s k (w .0) in
     record {
       answer = e;
       refusal = whole-refusal s e;
       posed =
           λ z. record {
             sound = whole-accepted s e z;
-            groomers = ap (λ (x : ReadAnswer). x .groomers) (whole-answer-for garage s e z);
-            slopes = ap (λ (x : ReadAnswer). x .slopes) (whole-answer-for garage s e z);
-            count = whole-turns-for garage s e z;
-            turns = rw (whole-turns-for garage s e z) (w .1 z shiftGap .turns);
-            held = rw (whole-turns-for garage s e z) (w .1 z shiftGap .held);
+            groomers = ap (λ (x : ReadAnswer). x .groomers) (whole-answer-for shiftSheet s e z);
+            slopes = ap (λ (x : ReadAnswer). x .slopes) (whole-answer-for shiftSheet s e z);
+            count = whole-turns-for shiftSheet s e z;
+            turns = rw (whole-turns-for shiftSheet s e z) (w .1 z shiftGap .turns);
+            held = rw (whole-turns-for shiftSheet s e z) (w .1 z shiftGap .held);
           };
     }
 
-pub ruleset garage-load-cases = (garage-given, load-garage)
+pub ruleset shift-sheet-load-cases = (shift-sheet-given, load-shift-sheet)
 
 -- ---- what callers take of it, for a problem of the answer's size
 

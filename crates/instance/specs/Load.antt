@@ -55,7 +55,7 @@ pub record PosedFor (gap : ℕ) (s cols : List ℕ) : Type 0 where
   pub turns : turnsBy (record { count = turnCount s; gap = gap }) cols ≡ problemOf gap (turnsOf s)
   pub held : Held (record { count = turnCount s; gap = gap }) cols
 
--- of a garage's sheet that is not refused: the reader's answer has its counts, and the columns hold a shift of its turns
+-- of a shift's sheet that is not refused: the reader's answer has its counts, and the columns hold a shift of its turns
 pub record Posed (s : List ℕ) (r : ReadAnswer) (cols : List ℕ) : Type 0 where
   pub sound : firstOf (sheetCauses s) ≡ 0
   pub groomers : r .groomers ≡ countsIn s .groomers
@@ -64,7 +64,7 @@ pub record Posed (s : List ℕ) (r : ReadAnswer) (cols : List ℕ) : Type 0 wher
   pub turns : turnsBy (shiftSize (r .turns)) cols ≡ sheetTurns s
   pub held : Held (shiftSize (r .turns)) cols
 
--- any bytes as a garage's sheet, read into columns: the answer is the reader's, its refusal is the first cause's number, and without one they are so posed
+-- any bytes as a shift's sheet, read into columns: the answer is the reader's, its refusal is the first cause's number, and without one they are so posed
 pub record Loaded (s : List ℕ) (r : ReadAnswer) (cols : List ℕ) : Type 0 where
   pub answer : r ≡ answerOf s
   pub refusal : r .refusal ≡ firstOf (sheetCauses s)

@@ -113,16 +113,16 @@ pub fn load_as(
     r
 }
 
-// Reads any bytes as the garage's sheet into columns, with lent room for the table of turns.
+// Reads any bytes as a shift's sheet into columns, with lent room for the table of turns.
 pub fn load_with(s: &[u8], cols: &mut [u16; PLACES], room: &mut [u16; PLACES]) -> ReadAnswer
     requires { ⌜ (length (now cols) ≡ columnPlaces) × (length (now room) ≡ columnPlaces) ⌝ }
     ensures { λ r. ⌜ Loaded (now (s .entry)) r (now (cols .exit)) ⌝ }
     ensures { λ _. ⌜ length (now (room .exit)) ≡ columnPlaces ⌝ }
 {
-    load_as(sheet_read::garage(), s, &mut *cols, &mut *room)
+    load_as(sheet_read::shift_sheet(), s, &mut *cols, &mut *room)
 }
 
-// Reads any bytes as the garage's sheet into columns, with a table of its own.
+// Reads any bytes as a shift's sheet into columns, with a table of its own.
 pub fn load(s: &[u8], cols: &mut [u16; PLACES]) -> ReadAnswer
     requires { ⌜ length (now cols) ≡ columnPlaces ⌝ }
     ensures { λ r. ⌜ Loaded (now (s .entry)) r (now (cols .exit)) ⌝ }

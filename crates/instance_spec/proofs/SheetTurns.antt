@@ -13,9 +13,9 @@ use Rattle.model.specs.Turns as model
 use Rattle.model.specs.Turns.{Turns, PositiveLengths, OneDriver, Near, conflict}
 use Rattle.model.proofs.Minutes.{conflict-near}
 use Rattle.sheet.specs.declared.kind.Kind.{Kind}
-use Rattle.sheet.specs.Kind.{mostTurns, garage, Sound}
+use Rattle.sheet.specs.Kind.{mostTurns, shiftSheet, Sound}
 use Rattle.sheet.specs.Read.{countsIn, turnCount, turnsOf, causesFor, sheetCauses}
-use Rattle.sheet.proofs.SoundKinds.{garage-sound}
+use Rattle.sheet.proofs.SoundKinds.{shift-sheet-sound}
 use Rattle.sheet.proofs.Tables.{turns-length, turns-at, table-row}
 use Rattle.sheet.proofs.Unrefused.{legal-header, row-in-range-for}
 use Rattle.instance_spec.specs.Problem.{noTurn, problemOf, shiftGap, sheetTurns, TooClose, shared, after, before, SheetConflict, one-slope, one-groomer, one-driver}
@@ -71,44 +71,44 @@ module _ (K : Kind) (sound : Sound K) (gap : ℕ) (s : List ℕ) (z : firstOf (c
   unfolding problemOf
   sheet-drivers-for t h = sheet-range-for t h .driver-to
 
--- ---- the garage's sheet, with a shift's gap
+-- ---- a shift's sheet, with a shift's gap
 
 module _ (s : List ℕ) (z : firstOf (sheetCauses s) ≡ 0) where
   pub sheet-count : sheetTurns s .count ≡ turnCount s
   unfolding sheetTurns sheetCauses
-  sheet-count = sheet-count-for garage garage-sound shiftGap s z
+  sheet-count = sheet-count-for shiftSheet shift-sheet-sound shiftGap s z
 
   pub sheet-starts : (t : ℕ) → t < turnCount s → sheetTurns s .start t < sheetTurns s .end t
   unfolding sheetTurns sheetCauses
-  sheet-starts = sheet-starts-for garage garage-sound shiftGap s z
+  sheet-starts = sheet-starts-for shiftSheet shift-sheet-sound shiftGap s z
 
   pub sheet-lengths : PositiveLengths (sheetTurns s)
   unfolding sheetTurns sheetCauses
-  sheet-lengths = sheet-lengths-for garage garage-sound shiftGap s z
+  sheet-lengths = sheet-lengths-for shiftSheet shift-sheet-sound shiftGap s z
 
   pub sheet-ends : (t : ℕ) → t < turnCount s → sheetTurns s .end t ≤ shiftMinutes
   unfolding sheetTurns sheetCauses
-  sheet-ends = sheet-ends-for garage garage-sound shiftGap s z
+  sheet-ends = sheet-ends-for shiftSheet shift-sheet-sound shiftGap s z
 
   pub sheet-worths : (t : ℕ) → t < turnCount s → sheetTurns s .worth t ≤ mostWorth
   unfolding sheetTurns sheetCauses
-  sheet-worths = sheet-worths-for garage garage-sound shiftGap s z
+  sheet-worths = sheet-worths-for shiftSheet shift-sheet-sound shiftGap s z
 
   pub sheet-worths-from : (t : ℕ) → t < turnCount s → 1 ≤ sheetTurns s .worth t
   unfolding sheetTurns sheetCauses
-  sheet-worths-from = sheet-worths-from-for garage garage-sound shiftGap s z
+  sheet-worths-from = sheet-worths-from-for shiftSheet shift-sheet-sound shiftGap s z
 
   pub sheet-slopes : (t : ℕ) → t < turnCount s → (1 ≤ sheetTurns s .slope t) × (sheetTurns s .slope t ≤ countsIn s .slopes)
   unfolding sheetTurns sheetCauses
-  sheet-slopes = sheet-slopes-for garage garage-sound shiftGap s z
+  sheet-slopes = sheet-slopes-for shiftSheet shift-sheet-sound shiftGap s z
 
   pub sheet-groomers : (t : ℕ) → t < turnCount s → (1 ≤ sheetTurns s .groomer t) × (sheetTurns s .groomer t ≤ countsIn s .groomers)
   unfolding sheetTurns sheetCauses
-  sheet-groomers = sheet-groomers-for garage garage-sound shiftGap s z
+  sheet-groomers = sheet-groomers-for shiftSheet shift-sheet-sound shiftGap s z
 
   pub sheet-drivers : (t : ℕ) → t < turnCount s → sheetTurns s .driver t ≤ mostDriver
   unfolding sheetTurns sheetCauses
-  sheet-drivers = sheet-drivers-for garage garage-sound shiftGap s z
+  sheet-drivers = sheet-drivers-for shiftSheet shift-sheet-sound shiftGap s z
 
   -- ---- when two of its turns conflict
 

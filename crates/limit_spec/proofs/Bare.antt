@@ -5,7 +5,7 @@ use mathlib.Core.List.{List, [], _∷_}
 use Prim.Native.Nat.{ℕ, _+_}
 use lib.Dec.{eqb}
 use lib.ListN.{replicate}
-use Rattle.lists.specs.Lists.{sum, below, keep}
+use Rattle.lists.specs.Lists.{sumOver, below, keep}
 use Rattle.model.specs.Turns.{Turns, oneGroomer}
 use Rattle.best_spec.specs.Table.{Best, laterFirst, turnOrder, inTheWay, blocked, bestTable, bestOver, bestWorth, marked, bestChoice}
 use Rattle.best_spec.specs.Groomers.{ownTurns, groomerWorth, groomersWorth}
@@ -51,4 +51,4 @@ module _ (T : Turns) where
 
   pub bare-groomers : (n : ℕ) → groomersWorth (bare T) n ≡ groomersWorth T n
   unfolding groomersWorth
-  bare-groomers n = ap (λ (f : ℕ → ℕ). sum f (below n)) (λ j k. bare-groomer (k + 1) j)
+  bare-groomers n = ap (λ (f : ℕ → ℕ). sumOver f (below n)) (λ j k. bare-groomer (k + 1) j)

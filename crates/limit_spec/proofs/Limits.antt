@@ -8,7 +8,7 @@ use native.Mathlib.Omega.{arith}
 use lib.Dec.{ltb, leb, eqb}
 use lib.ListN.{getD}
 use borrow.Author.Tests.{ltb-true, eqb-true, leb-true, le-leb}
-use Rattle.lists.specs.Lists.{sum, below}
+use Rattle.lists.specs.Lists.{sumOver, below}
 use Rattle.lists.proofs.Bools.{and-1, and-2, and-of}
 use Rattle.lists.proofs.Sums.{all-map, sum-add, sum-mono, sum-zero, sum-same, all-of, all-both}
 use Rattle.model.specs.Turns.{Turns, PositiveLengths, NoDrivers, byDriver, oneDriver, conflict, Holds, Conflict, same-slope, same-groomer, same-driver}
@@ -84,7 +84,7 @@ module _ (T : Turns) (slopes : ℕ) (prices : List ℕ) where
       }
 
   -- what a feasible set counts for is at most the best
-  counts-most : PositiveLengths T → {R : List ℕ} → Feasible T R → sum (countsFor T slopes prices) R ≤ bestWorth (pricedTurns T slopes prices)
+  counts-most : PositiveLengths T → {R : List ℕ} → Feasible T R → sumOver (countsFor T slopes prices) R ≤ bestWorth (pricedTurns T slopes prices)
   unfolding pricedTurns
   counts-most lengths {R} f = best-greatest (pricedTurns T slopes prices) (priced-lengths lengths) priced-driverless priced-single R (priced-feasible f)
 
@@ -147,26 +147,26 @@ module _ (T : Turns) where
   no-payer u t e = rw e
 
 module _ (T : Turns) (lengths : PositiveLengths T) (slopes : ℕ) (numbers : (t : ℕ) → t < T .count → (1 ≤ T .slope t) × (T .slope t ≤ slopes)) (prices : List ℕ) (R : List ℕ) (f : Feasible T R) where
-  slopes-paid : sum (λ t. slopePrice prices (T .slope t)) R ≤ sum (λ k. slopePrice prices (k + 1)) (below slopes)
+  slopes-paid : sumOver (λ t. slopePrice prices (T .slope t)) R ≤ sumOver (λ k. slopePrice prices (k + 1)) (below slopes)
   slopes-paid =
       omega (
         arith,
-        sum-mono (λ t. slopePrice prices (T .slope t)) (λ t. sum (λ k. cond (eqb (T .slope t) (k + 1)) (slopePrice prices (k + 1)) 0) (below slopes))
+        sum-mono (λ t. slopePrice prices (T .slope t)) (λ t. sumOver (λ k. cond (eqb (T .slope t) (k + 1)) (slopePrice prices (k + 1)) 0) (below slopes))
             (all-map (λ t h. omega (arith, paid-one (slopePrice prices) slopes (T .slope t) (numbers t h .0) (numbers t h .1))) (f .numbers)),
         paid-costs slopes (λ k t. cond (eqb (T .slope t) (k + 1)) (slopePrice prices (k + 1)) 0) (λ k. slopePrice prices (k + 1)) R
             (λ k h. one-of (λ t. t < T .count) (conflict T) (slopePrice prices (k + 1)) (λ t. eqb (T .slope t) (k + 1)) (slope-clique T k) (f .numbers) (apart-set T lengths f)),
       )
 
-  turns-paid : sum (λ t. sum (λ u. cond (paysTurn T u t) (turnPrice slopes prices u) 0) (below (T .count))) R ≤ sum (λ u. cond (ltb 0 (T .driver u)) (turnPrice slopes prices u) 0) (below (T .count))
+  turns-paid : sumOver (λ t. sumOver (λ u. cond (paysTurn T u t) (turnPrice slopes prices u) 0) (below (T .count))) R ≤ sumOver (λ u. cond (ltb 0 (T .driver u)) (turnPrice slopes prices u) 0) (below (T .count))
   turns-paid = paid-costs (T .count) (λ u t. cond (paysTurn T u t) (turnPrice slopes prices u) 0) (λ u. cond (ltb 0 (T .driver u)) (turnPrice slopes prices u) 0) R (λ u h. by-turn u (ltb 0 (T .driver u)) refl)
     where
-      by-turn : (u : ℕ) (b : Bool) → ltb 0 (T .driver u) ≡ b → sum (λ t. cond (paysTurn T u t) (turnPrice slopes prices u) 0) R ≤ cond b (turnPrice slopes prices u) 0
+      by-turn : (u : ℕ) (b : Bool) → ltb 0 (T .driver u) ≡ b → sumOver (λ t. cond (paysTurn T u t) (turnPrice slopes prices u) 0) R ≤ cond b (turnPrice slopes prices u) 0
       by-turn u true e = one-of (λ t. t < T .count) (conflict T) (turnPrice slopes prices u) (paysTurn T u) (turn-clique T u) (f .numbers) (apart-set T lengths f)
       by-turn u false e = omega (arith, sum-zero (λ t. cond (paysTurn T u t) (turnPrice slopes prices u) 0) (all-of (λ t. rw (no-payer T u t e)) R))
 
-  paid-most : sum (paidBy T slopes prices) R ≤ priceSum T slopes prices
+  paid-most : sumOver (paidBy T slopes prices) R ≤ priceSum T slopes prices
   unfolding paidBy priceSum
-  paid-most = omega (arith, sum-add (λ t. slopePrice prices (T .slope t)) (λ t. sum (λ u. cond (paysTurn T u t) (turnPrice slopes prices u) 0) (below (T .count))) R, slopes-paid, turns-paid)
+  paid-most = omega (arith, sum-add (λ t. slopePrice prices (T .slope t)) (λ t. sumOver (λ u. cond (paysTurn T u t) (turnPrice slopes prices u) 0) (below (T .count))) R, slopes-paid, turns-paid)
 
   -- no feasible set is worth more than the limit
   pub within-limit : (n : ℕ) → ((t : ℕ) → t < T .count → (1 ≤ T .groomer t) × (T .groomer t ≤ n)) → worthOf T R ≤ limitBy T n slopes prices

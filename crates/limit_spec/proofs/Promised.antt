@@ -8,8 +8,8 @@ use native.Mathlib.Decide.{decLt}
 use lib.ListN.{List·getD-eq-default}
 use Rattle.refusal.specs.Cause.{firstOf}
 use Rattle.sheet.specs.Read.{countsIn, turnsOf, sheetCauses}
-use Rattle.sheet.specs.Kind.{garage}
-use Rattle.sheet.proofs.SoundKinds.{garage-sound}
+use Rattle.sheet.specs.Kind.{shiftSheet}
+use Rattle.sheet.proofs.SoundKinds.{shift-sheet-sound}
 use Rattle.sheet.proofs.Unrefused.{legal-header}
 use Rattle.turn.specs.declared.Turn.{Turn}
 use Rattle.model.specs.Feasible.{Feasible, worthOf}
@@ -56,7 +56,7 @@ module _ (s prices : List ℕ) (e : limitOf s prices .refusal ≡ 0) where
 
   slope-same : (other : List ℕ) → SameWherePaid s prices other → (k : ℕ) → k ≤ countsIn s .slopes → slopePrice other k ≡ slopePrice prices k
   unfolding slopePrice sheetCauses
-  slope-same other w k l = w .slopes (k - 1) (omega (arith, legal-header garage garage-sound s sound .slopes-from))
+  slope-same other w k l = w .slopes (k - 1) (omega (arith, legal-header shiftSheet shift-sheet-sound s sound .slopes-from))
 
   no-part : (other : List ℕ) → SameWherePaid s prices other → limitOf s other ≡ limitOf s prices
   unfolding limitOf limitCauses sheetLimit

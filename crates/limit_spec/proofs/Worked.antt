@@ -3,7 +3,7 @@ use mathlib.Core.Path.{refl}
 use Rattle.refusal.specs.Cause.{firstOf}
 use Rattle.wire.specs.Mark.{opensWith}
 use Rattle.turn.specs.Turn.{outsideRange, pastShift, turnCauses}
-use Rattle.sheet.specs.Kind.{garage}
+use Rattle.sheet.specs.Kind.{shiftSheet}
 use Rattle.sheet.specs.Record.{widthOf, field, turnFrom, badMapFor, endAt, turnAt, cursorAfter, recordCauses, firstCursor}
 use Rattle.sheet.specs.Read.{countCauses, headerCauses, recordsCauses, turnsFrom, causesFor, sheetCauses, turnsOf}
 use Rattle.lists.specs.Sorting.{insertBy, sortBy}
@@ -18,7 +18,7 @@ use Rattle.limit_spec.specs.Cases.{LimitCases}
 use Rattle.refusal.specs.Outcome.{unless}
 
 pub limit-cases : LimitCases
-unfolding firstOf opensWith outsideRange pastShift turnCauses garage widthOf field turnFrom badMapFor endAt turnAt cursorAfter recordCauses firstCursor countCauses headerCauses recordsCauses turnsFrom causesFor sheetCauses turnsOf insertBy sortBy overlapping overlap oneGroomer oneDriver byDriver problemOf sheetTurns laterFirst turnOrder greater inTheWay blocked bestTable bestOver keep ownTurns groomerWorth groomersWorth slopePrice turnPrice paysTurn paidBy countsFor pricedTurns priceSum limitBy limitCauses sheetLimit limitOf unless
+unfolding firstOf opensWith outsideRange pastShift turnCauses shiftSheet widthOf field turnFrom badMapFor endAt turnAt cursorAfter recordCauses firstCursor countCauses headerCauses recordsCauses turnsFrom causesFor sheetCauses turnsOf insertBy sortBy overlapping overlap oneGroomer oneDriver byDriver problemOf sheetTurns laterFirst turnOrder greater inTheWay blocked bestTable bestOver keep ownTurns groomerWorth groomersWorth slopePrice turnPrice paysTurn paidBy countsFor pricedTurns priceSum limitBy limitCauses sheetLimit limitOf unless
 limit-cases =
     record {
       free = refl;

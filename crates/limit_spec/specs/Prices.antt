@@ -6,7 +6,7 @@ use mathlib.Core.List.{List}
 use Prim.Native.Nat.{ℕ, _+_, _-_, _≤_, _<_}
 use lib.Dec.{ltb, leb}
 use lib.ListN.{getD}
-use Rattle.lists.specs.Lists.{sum, below, All}
+use Rattle.lists.specs.Lists.{sumOver, below, All}
 use Rattle.model.specs.Turns.{Turns, byDriver, Holds, OneDriver}
 use Rattle.model.specs.Feasible.{Distinct}
 use Rattle.best_spec.specs.Groomers.{groomersWorth}
@@ -29,7 +29,7 @@ paysTurn T u t = byDriver T u t && leb (T .end u) (T .end t)
 
 -- what turn t pays: its slope's price, and the price of each turn that it pays
 unfoldable pub paidBy : Turns → ℕ → List ℕ → ℕ → ℕ
-paidBy T slopes prices t = slopePrice prices (T .slope t) + sum (λ u. cond (paysTurn T u t) (turnPrice slopes prices u) 0) (below (T .count))
+paidBy T slopes prices t = slopePrice prices (T .slope t) + sumOver (λ u. cond (paysTurn T u t) (turnPrice slopes prices u) 0) (below (T .count))
 
 -- what it counts for: what is left of its worth. A difference of numbers is not below 0
 unfoldable pub countsFor : Turns → ℕ → List ℕ → ℕ → ℕ
@@ -42,7 +42,7 @@ pricedTurns T slopes prices =
 
 -- the prices that the limit has in it: every slope's, and every turn's that has a driver
 unfoldable pub priceSum : Turns → ℕ → List ℕ → ℕ
-priceSum T slopes prices = sum (λ k. slopePrice prices (k + 1)) (below slopes) + sum (λ u. cond (ltb 0 (T .driver u)) (turnPrice slopes prices u) 0) (below (T .count))
+priceSum T slopes prices = sumOver (λ k. slopePrice prices (k + 1)) (below slopes) + sumOver (λ u. cond (ltb 0 (T .driver u)) (turnPrice slopes prices u) 0) (below (T .count))
 
 -- the limit: these prices, and of groomers 1 to the last what each one's own turns count for at best
 unfoldable pub limitBy : Turns → ℕ → ℕ → List ℕ → ℕ
@@ -67,5 +67,5 @@ pub record GroomerSet (T : Turns) (g : ℕ) (R : List ℕ) : Type 0 where
 
 -- the most that such a set counts for: some set counts for it, and none for more
 pub record MostCounted (T : Turns) (slopes : ℕ) (prices : List ℕ) (g most : ℕ) : Type 0 where
-  pub attained : (R : List ℕ) × GroomerSet T g R × (sum (countsFor T slopes prices) R ≡ most)
-  pub greatest : (R : List ℕ) → GroomerSet T g R → sum (countsFor T slopes prices) R ≤ most
+  pub attained : (R : List ℕ) × GroomerSet T g R × (sumOver (countsFor T slopes prices) R ≡ most)
+  pub greatest : (R : List ℕ) → GroomerSet T g R → sumOver (countsFor T slopes prices) R ≤ most

@@ -4,7 +4,7 @@ use mathlib.Core.Logic.{_≢_}
 use mathlib.Core.List.{List}
 use Prim.Native.Nat.{ℕ, _+_, _≤_, _<_}
 use lib.ListN.{length, getD}
-use Rattle.lists.specs.Lists.{sum, below}
+use Rattle.lists.specs.Lists.{sumOver, below}
 use Rattle.model.specs.Feasible.{Feasible, worthOf}
 use Rattle.sheet.specs.Read.{countsIn, turnCount}
 use Rattle.board.specs.Board.{boardWorth}
@@ -36,7 +36,7 @@ pub record LimitPromised (s prices : List ℕ) : Type 0 where
   -- nor is a board that passes the check for this sheet, whoever made it
   pub boards-within : (b : List ℕ) → Passes s b → boardWorth b ≤ limitOf s prices .limit
   -- it is the prices and, for each groomer from 1 on, what its own turns count for at best
-  pub parts : limitOf s prices .limit ≡ priceSum (sheetTurns s) (countsIn s .slopes) prices + sum (λ k. pricedWorth s prices (k + 1)) (below (countsIn s .groomers))
+  pub parts : limitOf s prices .limit ≡ priceSum (sheetTurns s) (countsIn s .slopes) prices + sumOver (λ k. pricedWorth s prices (k + 1)) (below (countsIn s .groomers))
   -- that is the most that a set of the groomer's turns counts for, no two of which conflict by groomer
   pub groomer-most : (g : ℕ) → MostCounted (sheetTurns s) (countsIn s .slopes) prices g (pricedWorth s prices g)
   -- what stands in the list for turns without a driver plays no part

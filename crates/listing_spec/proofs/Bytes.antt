@@ -8,7 +8,7 @@ use lib.ListN.{length, length-append}
 use Rattle.text.specs.Decimal.{decimal}
 use Rattle.text.proofs.Width.{decimal-width}
 use Rattle.refusal.specs.Cause.{firstOf}
-use Rattle.lists.specs.Lists.{sum, below, In, here, later}
+use Rattle.lists.specs.Lists.{sumOver, below, In, here, later}
 use Rattle.model.specs.Turns.{Turns}
 use Rattle.model.specs.Steps.{tally}
 use Rattle.model.specs.Choice.{choice}
@@ -79,7 +79,7 @@ lines-bytes T (u ∷ us) short = omega (arith, length-append (lineOf T u) (lines
 -- ---- the groomers' parts
 
 -- the first of a sum, where it is the last of those below
-sum-first : (f : ℕ → ℕ) (d h : ℕ) → sum (λ k. f (k + h)) (below (suc d)) ≡ f h + sum (λ k. f (k + (h + 1))) (below d)
+sum-first : (f : ℕ → ℕ) (d h : ℕ) → sumOver (λ k. f (k + h)) (below (suc d)) ≡ f h + sumOver (λ k. f (k + (h + 1))) (below d)
 sum-first f zero h = let e : 0 + h ≡ h = omega arith in omega (arith, ap f e)
 sum-first f (suc d) h = let e : suc d + h ≡ d + (h + 1) = omega arith in omega (arith, ap f e, sum-first f d h)
 
@@ -94,7 +94,7 @@ module _ (T : Turns) (S : List Bool) (apart : StartsApart T S) (starts : (u : �
         lines-bytes T (roundOf T S h) (λ u i. short u (round-is T S h apart starts .turns u .0 i .0)),
       )
 
-  groomers-bytes : (d h : ℕ) → h + d ≤ 17 → length (groomersFrom T S d h) ≤ 11 * d + 30 * sum (λ k. length (roundOf T S (k + h))) (below d)
+  groomers-bytes : (d h : ℕ) → h + d ≤ 17 → length (groomersFrom T S d h) ≤ 11 * d + 30 * sumOver (λ k. length (roundOf T S (k + h))) (below d)
   unfolding groomersFrom
   groomers-bytes zero h l = omega arith
   groomers-bytes (suc d) h l =

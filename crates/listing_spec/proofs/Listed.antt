@@ -9,7 +9,7 @@ use Rattle.refusal.specs.Cause.{firstOf}
 use Rattle.refusal.specs.Written.{kept}
 use Rattle.refusal.proofs.Written.{written-number, written-iff, written-not}
 use Rattle.wire.specs.Number.{Bytes}
-use Rattle.lists.specs.Lists.{sum, below}
+use Rattle.lists.specs.Lists.{sumOver, below}
 use Rattle.model.specs.Turns.{Turns, PositiveLengths}
 use Rattle.model.specs.Choice.{choice}
 use Rattle.model.specs.Pick.{steps}
@@ -61,7 +61,7 @@ module _ (s : List ℕ) (z : firstOf (sheetCauses s) ≡ 0) where
   map-is = map-read (choice T) (steps T) _ _ (omega (arith, planned-length T, sheet-count s z, few-turns s z))
 
   -- there are as many turn lines as ones in the map of the planner's board
-  pub sheet-lines : sum (λ k. length (roundOf T (choice T) (k + 1))) (below (countsIn s .groomers)) ≡ onesIn (boardMap (plannedBoard s))
+  pub sheet-lines : sumOver (λ k. length (roundOf T (choice T) (k + 1))) (below (countsIn s .groomers)) ≡ onesIn (boardMap (plannedBoard s))
   sheet-lines = rounds-ones T (choice T) (countsIn s .groomers) (planned-length T) from-1 to-most starts ∙ sym (ap onesIn map-is)
 
 -- ---- refused

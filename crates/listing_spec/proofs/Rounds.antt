@@ -9,7 +9,7 @@ use native.Mathlib.Decide.{ℕ-discrete}
 use lib.Dec.{eqb}
 use lib.ListN.{length, length-append}
 use borrow.Author.Tests.{eq-eqb, eqb-true}
-use Rattle.lists.specs.Lists.{sum, below, All, none, more, In, here, later}
+use Rattle.lists.specs.Lists.{sumOver, below, All, none, more, In, here, later}
 use Rattle.model.specs.Turns.{Turns, PositiveLengths, same-groomer}
 use Rattle.model.specs.Choice.{has, chosen}
 use Rattle.model.specs.Rules.{Independent}
@@ -183,7 +183,7 @@ module _ (T : Turns) (S : List Bool) (h : ℕ) where
   met zero minute u = 0
   met (suc d) minute u = cond (startsAt T S h minute u) 1 0 + met d (minute + 1) u
 
-  below-length : (minute i : ℕ) → length (startsBelow T S h minute i) ≡ sum (λ u. cond (startsAt T S h minute u) 1 0) (below i)
+  below-length : (minute i : ℕ) → length (startsBelow T S h minute i) ≡ sumOver (λ u. cond (startsAt T S h minute u) 1 0) (below i)
   unfolding startsBelow
   below-length minute zero = refl
   below-length minute (suc i) = omega (arith, length-append (startsBelow T S h minute i) (cond (startsAt T S h minute i) (i ∷ []) []), one (startsAt T S h minute i), below-length minute i)
@@ -192,7 +192,7 @@ module _ (T : Turns) (S : List Bool) (h : ℕ) where
       one true = refl
       one false = refl
 
-  from-length : (d minute : ℕ) → length (roundFrom T S h d minute) ≡ sum (met d minute) (below (T .count))
+  from-length : (d minute : ℕ) → length (roundFrom T S h d minute) ≡ sumOver (met d minute) (below (T .count))
   unfolding roundFrom met
   from-length zero minute = sym (sum-zero (met zero minute) (all-of (λ u. refl) (below (T .count))))
   from-length (suc d) minute =
@@ -233,7 +233,7 @@ module _ (T : Turns) (S : List Bool) (h : ℕ) where
       go (yes e) ih = rw (at-start minute u e, met-over d (minute + 1) u (omega arith)) (omega arith)
       go (no e) ih = rw (at-other minute u e, ih (omega arith)) (omega arith)
 
-  round-length : ((u : ℕ) → u < T .count → T .start u < shiftMinutes) → length (roundOf T S h) ≡ sum (λ u. cond (has S u && eqb (T .groomer u) h) 1 0) (below (T .count))
+  round-length : ((u : ℕ) → u < T .count → T .start u < shiftMinutes) → length (roundOf T S h) ≡ sumOver (λ u. cond (has S u && eqb (T .groomer u) h) 1 0) (below (T .count))
   unfolding roundOf
   round-length starts =
       from-length shiftMinutes 0
@@ -243,24 +243,24 @@ module _ (T : Turns) (S : List Bool) (h : ℕ) where
 pub rounds-count :
     (T : Turns) (S : List Bool) (groomers : ℕ) →
     ((u : ℕ) → u < T .count → 1 ≤ T .groomer u) → ((u : ℕ) → u < T .count → T .groomer u ≤ groomers) → ((u : ℕ) → u < T .count → T .start u < shiftMinutes) →
-    sum (λ k. length (roundOf T S (k + 1))) (below groomers) ≡ chosen (T .count) S (λ t. 1)
+    sumOver (λ k. length (roundOf T S (k + 1))) (below groomers) ≡ chosen (T .count) S (λ t. 1)
 unfolding chosen
 rounds-count T S groomers least most starts =
-    sum-same (λ k. length (roundOf T S (k + 1))) (λ k. sum (its k) (below (T .count))) groomers (λ k l. round-length T S (k + 1) starts)
+    sum-same (λ k. length (roundOf T S (k + 1))) (λ k. sumOver (its k) (below (T .count))) groomers (λ k l. round-length T S (k + 1) starts)
     ∙ sum-swap its (below groomers) (below (T .count))
-    ∙ sum-same (λ u. sum (λ k. its k u) (below groomers)) (λ u. cond (has S u) 1 0) (T .count) (λ u l. one u l (has S u))
+    ∙ sum-same (λ u. sumOver (λ k. its k u) (below groomers)) (λ u. cond (has S u) 1 0) (T .count) (λ u l. one u l (has S u))
   where
     its : ℕ → ℕ → ℕ
     its k u = cond (has S u && eqb (T .groomer u) (k + 1)) 1 0
 
-    one : (u : ℕ) → u < T .count → (b : Bool) → sum (λ k. cond (b && eqb (T .groomer u) (k + 1)) 1 0) (below groomers) ≡ cond b 1 0
+    one : (u : ℕ) → u < T .count → (b : Bool) → sumOver (λ k. cond (b && eqb (T .groomer u) (k + 1)) 1 0) (below groomers) ≡ cond b 1 0
     one u l true = sum-hit groomers (T .groomer u) (least u l) (most u l)
     one u l false = sum-zero (λ k. 0) (all-of (λ k. refl) (below groomers))
 
 pub rounds-ones :
     (T : Turns) (S : List Bool) (groomers : ℕ) → length S ≡ T .count →
     ((u : ℕ) → u < T .count → 1 ≤ T .groomer u) → ((u : ℕ) → u < T .count → T .groomer u ≤ groomers) → ((u : ℕ) → u < T .count → T .start u < shiftMinutes) →
-    sum (λ k. length (roundOf T S (k + 1))) (below groomers) ≡ onesIn (mapOf S)
+    sumOver (λ k. length (roundOf T S (k + 1))) (below groomers) ≡ onesIn (mapOf S)
 rounds-ones T S groomers e least most starts =
     rounds-count T S groomers least most starts
     ∙ ap (λ (n : ℕ). chosen n S (λ t. 1)) (sym e)

@@ -6,7 +6,7 @@ use mathlib.Core.List.{List}
 use native.Mathlib.Omega.{arith}
 use lib.Dec.{eqb}
 use borrow.Author.Tests.{eqb-true}
-use Rattle.lists.specs.Lists.{sum, below}
+use Rattle.lists.specs.Lists.{sumOver, below}
 use Rattle.model.specs.Turns.{Turns, same-slope}
 use Rattle.model.specs.Choice.{has, chosen}
 use Rattle.model.specs.Rules.{Independent}
@@ -30,11 +30,11 @@ module _ (T : Turns) (S : List Bool) (apart : Independent T S) where
 
   module _ (slopes : ℕ) (least : (u : ℕ) → u < T .count → 1 ≤ T .slope u) (most : (u : ℕ) → u < T .count → T .slope u ≤ slopes) where
     -- a chosen turn is on one of the slopes
-    counted : (u : ℕ) → u < T .count → cond (has S u) 1 0 ≤ sum (λ k. cond (grooms k u) 1 0) (below slopes)
+    counted : (u : ℕ) → u < T .count → cond (has S u) 1 0 ≤ sumOver (λ k. cond (grooms k u) 1 0) (below slopes)
     unfolding grooms
     counted u l = go (has S u)
       where
-        go : (b : Bool) → cond b 1 0 ≤ sum (λ k. cond (b && eqb (T .slope u) (k + 1)) 1 0) (below slopes)
+        go : (b : Bool) → cond b 1 0 ≤ sumOver (λ k. cond (b && eqb (T .slope u) (k + 1)) 1 0) (below slopes)
         go true = omega (arith, sum-hit slopes (T .slope u) (least u l) (most u l))
         go false = omega arith
 
@@ -43,8 +43,8 @@ module _ (T : Turns) (S : List Bool) (apart : Independent T S) where
     chosen-few =
         omega (
           arith,
-          sum-mono (λ u. cond (has S u) 1 0) (λ u. sum (λ k. cond (grooms k u) 1 0) (below slopes)) (all-below (T .count) counted),
+          sum-mono (λ u. cond (has S u) 1 0) (λ u. sumOver (λ k. cond (grooms k u) 1 0) (below slopes)) (all-below (T .count) counted),
           sum-swap (λ k u. cond (grooms k u) 1 0) (below slopes) (below (T .count)),
-          sum-mono (λ k. sum (λ u. cond (grooms k u) 1 0) (below (T .count))) (λ k. 1) (all-of (λ k. at-most-one (grooms k) (T .count) (groomed-once k)) (below slopes)),
+          sum-mono (λ k. sumOver (λ u. cond (grooms k u) 1 0) (below (T .count))) (λ k. 1) (all-of (λ k. at-most-one (grooms k) (T .count) (groomed-once k)) (below slopes)),
           sum-ones slopes,
         )

@@ -6,7 +6,7 @@ use Prim.Native.Nat.{ℕ, _+_, _≤_}
 use native.Mathlib.Omega.{arith}
 use Rattle.lists.proofs.Sums.{sum-mono, all-of}
 use Rattle.lists.proofs.Bools.{cond-most}
-use Rattle.lists.specs.Lists.{sum, keep, All, none, more}
+use Rattle.lists.specs.Lists.{sumOver, keep, All, none, more}
 
 module _ (p : ℕ → Bool) where
   pub keep-every : {P : ℕ → Type 0} {ts : List ℕ} → All P ts → All P (keep p ts)
@@ -37,24 +37,24 @@ module _ (p : ℕ → Bool) where
   keep-none none = refl
   keep-none (more h hs) = rw h (keep-none hs)
 
-  pub keep-sum : (f : ℕ → ℕ) → ((t : ℕ) → p t ≡ false → f t ≡ 0) → (ts : List ℕ) → sum f (keep p ts) ≡ sum f ts
+  pub keep-sum : (f : ℕ → ℕ) → ((t : ℕ) → p t ≡ false → f t ≡ 0) → (ts : List ℕ) → sumOver f (keep p ts) ≡ sumOver f ts
   unfolding keep
   keep-sum f z [] = refl
   keep-sum f z (t ∷ ts) = go (p t) refl (keep-sum f z ts)
     where
-      go : (b : Bool) → p t ≡ b → sum f (keep p ts) ≡ sum f ts → sum f (cond b (t ∷ keep p ts) (keep p ts)) ≡ f t + sum f ts
+      go : (b : Bool) → p t ≡ b → sumOver f (keep p ts) ≡ sumOver f ts → sumOver f (cond b (t ∷ keep p ts) (keep p ts)) ≡ f t + sumOver f ts
       go true e ih = omega (arith, ih)
       go false e ih = omega (arith, ih, z t e)
 
-  pub keep-where : (f : ℕ → ℕ) (ts : List ℕ) → sum f (keep p ts) ≡ sum (λ t. cond (p t) (f t) 0) ts
+  pub keep-where : (f : ℕ → ℕ) (ts : List ℕ) → sumOver f (keep p ts) ≡ sumOver (λ t. cond (p t) (f t) 0) ts
   unfolding keep
   keep-where f [] = refl
   keep-where f (t ∷ ts) = go (p t) (keep-where f ts)
     where
-      go : (b : Bool) → sum f (keep p ts) ≡ sum (λ t. cond (p t) (f t) 0) ts
-          → sum f (cond b (t ∷ keep p ts) (keep p ts)) ≡ cond b (f t) 0 + sum (λ t. cond (p t) (f t) 0) ts
+      go : (b : Bool) → sumOver f (keep p ts) ≡ sumOver (λ t. cond (p t) (f t) 0) ts
+          → sumOver f (cond b (t ∷ keep p ts) (keep p ts)) ≡ cond b (f t) 0 + sumOver (λ t. cond (p t) (f t) 0) ts
       go true ih = omega (arith, ih)
       go false ih = omega (arith, ih)
 
-  pub keep-most : (f : ℕ → ℕ) (ts : List ℕ) → sum f (keep p ts) ≤ sum f ts
+  pub keep-most : (f : ℕ → ℕ) (ts : List ℕ) → sumOver f (keep p ts) ≤ sumOver f ts
   keep-most f ts = omega (arith, keep-where f ts, sum-mono (λ t. cond (p t) (f t) 0) f (all-of (λ t. cond-most (p t) (omega arith)) ts))

@@ -8,22 +8,22 @@ use native.Mathlib.Decide.{ℕ-discrete}
 use lib.Dec.{eqb}
 use lib.ListN.{length, getD, set}
 use borrow.Author.Tests.{eq-eqb, ne-eqb}
-use Rattle.lists.specs.Lists.{sum, below, tab, All, none, more, In, here, later}
+use Rattle.lists.specs.Lists.{sumOver, below, tab, All, none, more, In, here, later}
 use Rattle.lists.proofs.Bools.{fails}
 
-pub sum-add : (f g : ℕ → ℕ) (ts : List ℕ) → sum (λ t. f t + g t) ts ≡ sum f ts + sum g ts
+pub sum-add : (f g : ℕ → ℕ) (ts : List ℕ) → sumOver (λ t. f t + g t) ts ≡ sumOver f ts + sumOver g ts
 sum-add f g [] = refl
 sum-add f g (t ∷ ts) = omega (arith, sum-add f g ts)
 
-pub sum-scale : (k : ℕ) (f : ℕ → ℕ) (ts : List ℕ) → sum (λ t. k * f t) ts ≡ k * sum f ts
+pub sum-scale : (k : ℕ) (f : ℕ → ℕ) (ts : List ℕ) → sumOver (λ t. k * f t) ts ≡ k * sumOver f ts
 sum-scale k f [] = omega arith
 sum-scale k f (t ∷ ts) = omega (arith, sum-scale k f ts)
 
-pub sum-mono : (f g : ℕ → ℕ) {ts : List ℕ} → All (λ t. f t ≤ g t) ts → sum f ts ≤ sum g ts
+pub sum-mono : (f g : ℕ → ℕ) {ts : List ℕ} → All (λ t. f t ≤ g t) ts → sumOver f ts ≤ sumOver g ts
 sum-mono f g none = omega arith
 sum-mono f g (more h hs) = omega (arith, sum-mono f g hs)
 
-pub sum-zero : (f : ℕ → ℕ) {ts : List ℕ} → All (λ t. f t ≡ 0) ts → sum f ts ≡ 0
+pub sum-zero : (f : ℕ → ℕ) {ts : List ℕ} → All (λ t. f t ≡ 0) ts → sumOver f ts ≡ 0
 sum-zero f none = refl
 sum-zero f (more h hs) = omega (arith, sum-zero f hs)
 
@@ -31,9 +31,9 @@ pub all-of : {P : ℕ → Type 0} → ((t : ℕ) → P t) → (ts : List ℕ) �
 all-of h [] = none
 all-of h (t ∷ ts) = more (h t) (all-of h ts)
 
-pub sum-swap : (f : ℕ → ℕ → ℕ) (ks us : List ℕ) → sum (λ k. sum (f k) us) ks ≡ sum (λ u. sum (λ k. f k u) ks) us
+pub sum-swap : (f : ℕ → ℕ → ℕ) (ks us : List ℕ) → sumOver (λ k. sumOver (f k) us) ks ≡ sumOver (λ u. sumOver (λ k. f k u) ks) us
 sum-swap f [] us = sym (sum-zero (λ u. 0) (all-of (λ u. refl) us))
-sum-swap f (k ∷ ks) us = omega (arith, sum-swap f ks us, sum-add (f k) (λ u. sum (λ j. f j u) ks) us)
+sum-swap f (k ∷ ks) us = omega (arith, sum-swap f ks us, sum-add (f k) (λ u. sumOver (λ j. f j u) ks) us)
 
 pub all-map : {P Q : ℕ → Type 0} → ((t : ℕ) → P t → Q t) → {ts : List ℕ} → All P ts → All Q ts
 all-map h none = none
@@ -87,47 +87,47 @@ pub all-below : {P : ℕ → Type 0} (n : ℕ) → ((t : ℕ) → t < n → P t)
 all-below zero h = none
 all-below (suc n) h = more (h n (omega arith)) (all-below n (λ t l. h t (omega arith)))
 
-pub sum-same : (f g : ℕ → ℕ) (n : ℕ) → ((t : ℕ) → t < n → f t ≡ g t) → sum f (below n) ≡ sum g (below n)
+pub sum-same : (f g : ℕ → ℕ) (n : ℕ) → ((t : ℕ) → t < n → f t ≡ g t) → sumOver f (below n) ≡ sumOver g (below n)
 sum-same f g zero h = refl
 sum-same f g (suc n) h = omega (arith, h n (omega arith), sum-same f g n (λ t l. h t (omega arith)))
 
-pub sum-split : (f : ℕ → ℕ) (k m : ℕ) → sum f (below (k + m)) ≡ sum f (below k) + sum (λ u. f (k + u)) (below m)
+pub sum-split : (f : ℕ → ℕ) (k m : ℕ) → sumOver f (below (k + m)) ≡ sumOver f (below k) + sumOver (λ u. f (k + u)) (below m)
 sum-split f k zero = let e : k + 0 ≡ k = omega arith in rw e (omega arith)
 sum-split f k (suc m) = let e : k + suc m ≡ suc (k + m) = omega arith in rw e (omega (arith, sum-split f k m))
 
-pub sum-ones : (n : ℕ) → sum (λ k. 1) (below n) ≡ n
+pub sum-ones : (n : ℕ) → sumOver (λ k. 1) (below n) ≡ n
 sum-ones zero = refl
 sum-ones (suc n) = omega (arith, sum-ones n)
 
 -- of the numbers from 1 to n just one is j
-pub sum-hit : (n j : ℕ) → 1 ≤ j → j ≤ n → sum (λ k. cond (eqb j (k + 1)) 1 0) (below n) ≡ 1
+pub sum-hit : (n j : ℕ) → 1 ≤ j → j ≤ n → sumOver (λ k. cond (eqb j (k + 1)) 1 0) (below n) ≡ 1
 sum-hit zero j a b = absurd (omega arith)
 sum-hit (suc n) j a b = go (ℕ-discrete j (n + 1)) (λ l. sum-hit n j a l)
   where
-    go : Dec (j ≡ n + 1) → (j ≤ n → sum (λ k. cond (eqb j (k + 1)) 1 0) (below n) ≡ 1) → cond (eqb j (n + 1)) 1 0 + sum (λ k. cond (eqb j (k + 1)) 1 0) (below n) ≡ 1
+    go : Dec (j ≡ n + 1) → (j ≤ n → sumOver (λ k. cond (eqb j (k + 1)) 1 0) (below n) ≡ 1) → cond (eqb j (n + 1)) 1 0 + sumOver (λ k. cond (eqb j (k + 1)) 1 0) (below n) ≡ 1
     go (yes e) ih =
-        let rest : sum (λ k. cond (eqb j (k + 1)) 1 0) (below n) ≡ 0 = sum-zero (λ k. cond (eqb j (k + 1)) 1 0) (all-below n (λ k l. rw (ne-eqb j (k + 1) (omega arith)))) in
+        let rest : sumOver (λ k. cond (eqb j (k + 1)) 1 0) (below n) ≡ 0 = sum-zero (λ k. cond (eqb j (k + 1)) 1 0) (all-below n (λ k l. rw (ne-eqb j (k + 1) (omega arith)))) in
         rw (eq-eqb j (n + 1) e, rest)
     go (no e) ih = rw (ne-eqb j (n + 1) e, ih (omega arith))
 
 -- a test that no two of them pass
-pub at-most-one : (p : ℕ → Bool) (n : ℕ) → ((u v : ℕ) → u < n → v < n → p u ≡ true → p v ≡ true → u ≡ v) → sum (λ u. cond (p u) 1 0) (below n) ≤ 1
+pub at-most-one : (p : ℕ → Bool) (n : ℕ) → ((u v : ℕ) → u < n → v < n → p u ≡ true → p v ≡ true → u ≡ v) → sumOver (λ u. cond (p u) 1 0) (below n) ≤ 1
 at-most-one p zero alone = omega arith
 at-most-one p (suc n) alone = go (p n) refl (at-most-one p n (λ u v l m. alone u v (omega arith) (omega arith)))
   where
-    go : (b : Bool) → p n ≡ b → sum (λ u. cond (p u) 1 0) (below n) ≤ 1 → cond b 1 0 + sum (λ u. cond (p u) 1 0) (below n) ≤ 1
+    go : (b : Bool) → p n ≡ b → sumOver (λ u. cond (p u) 1 0) (below n) ≤ 1 → cond b 1 0 + sumOver (λ u. cond (p u) 1 0) (below n) ≤ 1
     go true e ih =
-        let rest : sum (λ u. cond (p u) 1 0) (below n) ≡ 0 =
+        let rest : sumOver (λ u. cond (p u) 1 0) (below n) ≡ 0 =
         sum-zero (λ u. cond (p u) 1 0) (all-below n (λ u l. rw (fails (p u) (λ q. omega (arith, alone u n (omega arith) (omega arith) q e))))) in
         omega (arith, rest)
     go false e ih = omega (arith, ih)
 
-pub sum-point : (f : ℕ → ℕ) (n j : ℕ) → j < n → f j ≤ sum f (below n)
+pub sum-point : (f : ℕ → ℕ) (n j : ℕ) → j < n → f j ≤ sumOver f (below n)
 sum-point f zero j h = omega arith
 sum-point f (suc n) j h = elim (ℕ-discrete j n) [ yes q ↦ omega (arith, ap f q) | no q ↦ omega (arith, sum-point f n j (omega arith)) ]
 
 -- f is at most g, and at j there is room for a more
-pub sum-room : (f g : ℕ → ℕ) (a n j : ℕ) → j < n → ((t : ℕ) → cond (eqb t j) a 0 + f t ≤ g t) → a + sum f (below n) ≤ sum g (below n)
+pub sum-room : (f g : ℕ → ℕ) (a n j : ℕ) → j < n → ((t : ℕ) → cond (eqb t j) a 0 + f t ≤ g t) → a + sumOver f (below n) ≤ sumOver g (below n)
 sum-room f g a n j l h =
     omega (
       arith,

@@ -16,9 +16,9 @@ tab zero f = []
 tab (suc n) f = f zero ∷ tab n (λ k. f (suc k))
 
 -- the sum of f over a list of numbers
-abbrev pub sum : (ℕ → ℕ) → List ℕ → ℕ
-sum f [] = 0
-sum f (t ∷ ts) = f t + sum f ts
+abbrev pub sumOver : (ℕ → ℕ) → List ℕ → ℕ
+sumOver f [] = 0
+sumOver f (t ∷ ts) = f t + sumOver f ts
 
 -- n - 1, .., 0
 abbrev pub below : ℕ → List ℕ

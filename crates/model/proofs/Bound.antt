@@ -6,7 +6,7 @@ use Prim.Native.Nat.{ℕ, _+_, _*_, _≤_, _<_}
 use native.Mathlib.Omega.{arith}
 use lib.IntN.{ℤ}
 use lib.ListN.{length, length-map}
-use Rattle.lists.specs.Lists.{sum, All}
+use Rattle.lists.specs.Lists.{sumOver, All}
 use Rattle.model.specs.Turns.{Turns, PositiveLengths, NoDrivers, bySlope, byGroomer, byDriver, conflict, Conflict}
 use Rattle.model.specs.Steps.{Step, isOpen, left, initial, touches, taken, afterStep, afterSteps, final, total, tally}
 use Rattle.model.specs.Rules.{Right, Each}
@@ -18,7 +18,7 @@ use Rattle.model.proofs.Groups.{Apart, apart-from, held, joinedAll, Hel
 use Rattle.model.proofs.Conflicts
 use Rattle.model.proofs.Residuals
 use Rattle.model.proofs.Residuals.{Closed, RightSteps}
-use Rattle.model.proofs.Planned.{Taking, garage-taking}
+use Rattle.model.proofs.Planned.{Taking, conflict-taking}
 use Rattle.model.proofs.Minutes
 
 -- ---- the groups of a right step: any two turns that it touches in one of them conflict
@@ -64,8 +64,8 @@ total-besides next k c s (x ∷ xs) = omega (arith, total-besides next k c (next
 
 module _ (T : Turns) {next : List ℤ → Step → List ℤ} {taken : List ℤ → Step → ℕ → ℕ} (takes : Taking next taken) (R : List ℕ) (range : All (λ t. t < T .count) R) where
   -- with any cost that covers what a step takes from the set
-  pub bound-taking : {P : List ℤ → Step → Type 0} (cost : List ℤ → Step → ℕ) → ((s : List ℤ) (x : Step) → P s x → sum (taken s x) R ≤ cost s x) →
-      {xs : List Step} → Each next P (initial T) xs → Closed T (final next (initial T) xs) → sum (T .worth) R ≤ total next cost (initial T) xs
+  pub bound-taking : {P : List ℤ → Step → Type 0} (cost : List ℤ → Step → ℕ) → ((s : List ℤ) (x : Step) → P s x → sumOver (taken s x) R ≤ cost s x) →
+      {xs : List Step} → Each next P (initial T) xs → Closed T (final next (initial T) xs) → sumOver (T .worth) R ≤ total next cost (initial T) xs
   bound-taking {P} cost h {xs} r p =
       omega (
         arith,
@@ -81,19 +81,19 @@ module _ (T : Turns) {next : List ℤ → Step → List ℤ} {taken : List ℤ �
 
 module _ (T : Turns) (R : List ℕ) (range : All (λ t. t < T .count) R) (apart : Apart (conflict T) R) where
   -- with any cost that covers what a right step takes from the set
-  pub bound-cost : (cost : List ℤ → Step → ℕ) → ((s : List ℤ) (x : Step) → Right T s x → sum (taken T s x) R ≤ cost s x) →
-      {xs : List Step} → RightSteps T (initial T) xs → Closed T (afterSteps T (initial T) xs) → sum (T .worth) R ≤ total (afterStep T) cost (initial T) xs
+  pub bound-cost : (cost : List ℤ → Step → ℕ) → ((s : List ℤ) (x : Step) → Right T s x → sumOver (taken T s x) R ≤ cost s x) →
+      {xs : List Step} → RightSteps T (initial T) xs → Closed T (afterSteps T (initial T) xs) → sumOver (T .worth) R ≤ total (afterStep T) cost (initial T) xs
   unfolding afterSteps
-  bound-cost cost h r p = bound-taking T (garage-taking T) R range cost h r p
+  bound-cost cost h r p = bound-taking T (conflict-taking T) R range cost h r p
 
   -- with a cost of k times the amount
-  module _ (k : ℕ) (h : (s : List ℤ) (x : Step) → Right T s x → sum (taken T s x) R ≤ k * x .amount) where
-    pub bound-times : {xs : List Step} → RightSteps T (initial T) xs → Closed T (afterSteps T (initial T) xs) → sum (T .worth) R ≤ k * tally xs
+  module _ (k : ℕ) (h : (s : List ℤ) (x : Step) → Right T s x → sumOver (taken T s x) R ≤ k * x .amount) where
+    pub bound-times : {xs : List Step} → RightSteps T (initial T) xs → Closed T (afterSteps T (initial T) xs) → sumOver (T .worth) R ≤ k * tally xs
     bound-times {xs} r p = omega (arith, total-times T k (initial T) xs, bound-cost (λ s x. k * x .amount) h r p)
 
   -- k groups, J in each, that hold what a step touches, any two of a group in conflict: at most k times the amount
   pub by-groups : (s : List ℤ) (x : Step) (Gs : List (ℕ → Bool)) → ((t : ℕ) → t < T .count → touches T s (x .turn) t ≡ true → held (joinedAll (x .turn) Gs) t ≡ true) →
-      Cliques (λ t. t < T .count) (conflict T) (touches T s (x .turn)) Gs → sum (taken T s x) R ≤ length Gs * x .amount
+      Cliques (λ t. t < T .count) (conflict T) (touches T s (x .turn)) Gs → sumOver (taken T s x) R ≤ length Gs * x .amount
   unfolding taken
   by-groups s x Gs h k =
       rw length-map at (groups (λ t. t < T .count) (conflict T) (x .amount) (joinedAll j Gs) (touches T s j) h (join-all (λ t. t < T .count) (conflict T) j (touches T s j) near Gs k) range apart)
@@ -107,11 +107,11 @@ module _ (T : Turns) (R : List ℕ) (range : All (λ t. t < T .count) R) (apart 
   module _ (s : List ℤ) (x : Step) (q : Right T s x) where
     -- groups that hold each turn that conflicts with J, by whichever way
     by-ways : (Gs : List (ℕ → Bool)) → ((t : ℕ) → t < T .count → Conflicts.Ways T (x .turn) t → HeldBy (x .turn) t Gs) →
-        Cliques (λ t. t < T .count) (conflict T) (touches T s (x .turn)) Gs → sum (taken T s x) R ≤ length Gs * x .amount
+        Cliques (λ t. t < T .count) (conflict T) (touches T s (x .turn)) Gs → sumOver (taken T s x) R ≤ length Gs * x .amount
     by-ways Gs h = by-groups s x Gs (λ t l e. heldBy-held (h t l (Conflicts.ways T (x .turn) t (Residuals.touched-conflict T s x (x .turn) t e))))
 
     -- at most three of the turns touched are in the set: one of J's slope, and of each machine one that overlaps J (5.2.4)
-    pub three-groups : sum (taken T s x) R ≤ 3 * x .amount
+    pub three-groups : sumOver (taken T s x) R ≤ 3 * x .amount
     three-groups = by-ways (bySlope T (x .turn) ∷ byGroomer T (x .turn) ∷ byDriver T (x .turn) ∷ []) go (slope-group T s x, (groomer-group T s x q, (driver-group T s x q, tt)))
       where
         go : (t : ℕ) → t < T .count → Conflicts.Ways T (x .turn) t → HeldBy (x .turn) t (bySlope T (x .turn) ∷ byGroomer T (x .turn) ∷ byDriver T (x .turn) ∷ [])
@@ -123,7 +123,7 @@ module _ (T : Turns) (R : List ℕ) (range : All (λ t. t < T .count) R) (apart 
     alone single t l h = single (x .turn) t (q .inside) l (Conflicts.slope-is T (x .turn) t h)
 
     -- at most two, where no slope has two turns: J is the only one of its slope (5.2.2)
-    pub machine-groups : OneTurnASlope T → sum (taken T s x) R ≤ 2 * x .amount
+    pub machine-groups : OneTurnASlope T → sumOver (taken T s x) R ≤ 2 * x .amount
     machine-groups single = by-ways (byGroomer T (x .turn) ∷ byDriver T (x .turn) ∷ []) go (groomer-group T s x q, (driver-group T s x q, tt))
       where
         go : (t : ℕ) → t < T .count → Conflicts.Ways T (x .turn) t → HeldBy (x .turn) t (byGroomer T (x .turn) ∷ byDriver T (x .turn) ∷ [])
@@ -137,7 +137,7 @@ module _ (T : Turns) (R : List ℕ) (range : All (λ t. t < T .count) R) (apart 
       no-driver t h = Conflicts.driver-is T (x .turn) t h .0 .named (free (x .turn) (q .inside))
 
       -- at most two: one of J's slope, and one that overlaps J on its groomer (5.2.1, 5.2.4)
-      pub two-groups : sum (taken T s x) R ≤ 2 * x .amount
+      pub two-groups : sumOver (taken T s x) R ≤ 2 * x .amount
       two-groups = by-ways (bySlope T (x .turn) ∷ byGroomer T (x .turn) ∷ []) go (slope-group T s x, (groomer-group T s x q, tt))
         where
           go : (t : ℕ) → t < T .count → Conflicts.Ways T (x .turn) t → HeldBy (x .turn) t (bySlope T (x .turn) ∷ byGroomer T (x .turn) ∷ [])
@@ -146,7 +146,7 @@ module _ (T : Turns) (R : List ℕ) (range : All (λ t. t < T .count) R) (apart 
           go t l (Conflicts.drivers h) = absurd (no-driver t h)
 
       -- at most one, where no slope has two turns (5.2.2)
-      pub single-group : OneTurnASlope T → sum (taken T s x) R ≤ 1 * x .amount
+      pub single-group : OneTurnASlope T → sumOver (taken T s x) R ≤ 1 * x .amount
       single-group single = by-ways (byGroomer T (x .turn) ∷ []) go (groomer-group T s x q, tt)
         where
           go : (t : ℕ) → t < T .count → Conflicts.Ways T (x .turn) t → HeldBy (x .turn) t (byGroomer T (x .turn) ∷ [])
@@ -162,7 +162,7 @@ module _ (T : Turns) (lengths : PositiveLengths T) {R : List ℕ} (feasible : Fe
 
   module _ {xs : List Step} (right : RightSteps T (initial T) xs) (closed : Closed T (afterSteps T (initial T) xs)) where
     -- any factor k, if a right step takes at most k times its amount from the set
-    bound-by : (k : ℕ) → ((s : List ℤ) (x : Step) → Right T s x → sum (taken T s x) R ≤ k * x .amount) → worthOf T R ≤ k * tally xs
+    bound-by : (k : ℕ) → ((s : List ℤ) (x : Step) → Right T s x → sumOver (taken T s x) R ≤ k * x .amount) → worthOf T R ≤ k * tally xs
     bound-by k h = bound-times T R (feasible .numbers) apart-set k h right closed
 
     -- the factor 3 of 5.2.4, two machines: no feasible set is worth more than thrice the tally

@@ -10,7 +10,7 @@ use lib.Dec.{eqb}
 use lib.IntN.{ℤ}
 use lib.ListN.{length}
 use borrow.Author.Tests.{eq-eqb, not-false}
-use Rattle.lists.specs.Lists.{sum, All}
+use Rattle.lists.specs.Lists.{sumOver, All}
 use Rattle.model.specs.Turns.{Turns, PositiveLengths, NoDrivers, bySlope, byGroomer, byDriver, conflict}
 use Rattle.model.specs.Steps.{Step, touches, taken, initial, afterStep, afterSteps, total, tally}
 use Rattle.model.specs.Rules.{Right, Each, done, step}
@@ -193,7 +193,7 @@ module _ (T : Turns) (G : Groups) (j : ℕ) where
 -- ---- the bound
 
 -- what a right step takes from a set in which no two conflict is at most what it counts for
-cost-covers : (T : Turns) (R : List ℕ) → All (λ t. t < T .count) R → Apart (conflict T) R → (s : List ℤ) (x : Step) → Right T s x → sum (taken T s x) R ≤ stepCost T s x
+cost-covers : (T : Turns) (R : List ℕ) → All (λ t. t < T .count) R → Apart (conflict T) R → (s : List ℤ) (x : Step) → Right T s x → sumOver (taken T s x) R ≤ stepCost T s x
 unfolding stepCost
 cost-covers T R range apart s x q = rw (← F .many, ← groups-length T (F .groups) (x .turn)) (by-groups T R range apart s x Gs (λ t l e. groups-hold T (F .groups) (x .turn) t (F .enough t l e)) cliques)
   where

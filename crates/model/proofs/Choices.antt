@@ -10,7 +10,7 @@ use lib.Dec.{eqb}
 use lib.ListN.{length, set, replicate, length-set}
 use lib.Seq.{getD-set-same, getD-set-other}
 use borrow.Author.Tests.{eqb-true}
-use Rattle.lists.specs.Lists.{sum, below}
+use Rattle.lists.specs.Lists.{sumOver, below}
 use Rattle.model.specs.Choice.{has, chosen, choose, chooseEach, back, fill}
 use Rattle.lists.proofs.Bools.{not-both, up-to, cond-most}
 use Rattle.lists.proofs.Sums.{sum-add, sum-mono, sum-point, sum-room, all-of, all-below}
@@ -158,12 +158,12 @@ chosen-put-most n S f j = both n .1
     after : ℕ → ℕ
     after t = cond (has (set S j true) t) (f t) 0
 
-    both : (n : ℕ) → (n ≤ j → sum after (below n) ≤ sum before (below n)) × (sum after (below n) ≤ f j + sum before (below n))
+    both : (n : ℕ) → (n ≤ j → sumOver after (below n) ≤ sumOver before (below n)) × (sumOver after (below n) ≤ f j + sumOver before (below n))
     both zero = (λ l. omega arith, omega arith)
     both (suc n) = go (ℕ-discrete n j) (both n)
       where
-        go : Dec (n ≡ j) → (n ≤ j → sum after (below n) ≤ sum before (below n)) × (sum after (below n) ≤ f j + sum before (below n)) →
-            (suc n ≤ j → after n + sum after (below n) ≤ before n + sum before (below n)) × (after n + sum after (below n) ≤ f j + (before n + sum before (below n)))
+        go : Dec (n ≡ j) → (n ≤ j → sumOver after (below n) ≤ sumOver before (below n)) × (sumOver after (below n) ≤ f j + sumOver before (below n)) →
+            (suc n ≤ j → after n + sumOver after (below n) ≤ before n + sumOver before (below n)) × (after n + sumOver after (below n) ≤ f j + (before n + sumOver before (below n)))
         go (yes q) ih =
             let own : after n ≤ f n = cond-most (has (set S j true) n) (omega arith) in
             (λ l. absurd (omega arith), omega (arith, ih .0 (omega arith), own, ap f q))
@@ -175,8 +175,8 @@ unfolding chosen
 chosen-some zero S f h = absurd (omega arith)
 chosen-some (suc n) S f h = go (has S n) refl h (ℕ-discrete (f n) 0) (chosen-some n S f)
   where
-    go : (b : Bool) → has S n ≡ b → 0 < cond b (f n) 0 + sum (λ t. cond (has S t) (f t) 0) (below n) → Dec (f n ≡ 0) →
-        (0 < sum (λ t. cond (has S t) (f t) 0) (below n) → (t : ℕ) × (t < n) × (has S t ≡ true) × (0 < f t)) → (t : ℕ) × (t < suc n) × (has S t ≡ true) × (0 < f t)
+    go : (b : Bool) → has S n ≡ b → 0 < cond b (f n) 0 + sumOver (λ t. cond (has S t) (f t) 0) (below n) → Dec (f n ≡ 0) →
+        (0 < sumOver (λ t. cond (has S t) (f t) 0) (below n) → (t : ℕ) × (t < n) × (has S t ≡ true) × (0 < f t)) → (t : ℕ) × (t < suc n) × (has S t ≡ true) × (0 < f t)
     go true e h (yes q) ih = let r = ih (omega arith) in (r .0, omega (arith, r .1), r .2, r .3)
     go true e h (no q) ih = (n, omega arith, e, omega arith)
     go false e h d ih = let r = ih (omega arith) in (r .0, omega (arith, r .1), r .2, r .3)

@@ -63,7 +63,7 @@ module _ (test : List Bool → ℕ → Bool) where
       from (inl h) = fill-keeps test n S t h
       from (inr f) = settled ∙ fill-fits t S m f
 
--- ---- the garage
+-- ---- a shift
 
 module _ (T : Turns) (lengths : PositiveLengths T) (S : List Bool) where
   -- what is chosen when filling comes to turn t: S, and what is filled in before

@@ -11,11 +11,11 @@ use Rattle.play_spec.specs.declared.Stint.{Stint}
 use Rattle.play_spec.specs.declared.Standing.{Standing}
 use Rattle.play_spec.specs.Day.{overMinutes}
 use Rattle.play_spec.specs.DayTable.{dayRows, dayTablePlaces, stintIn, doingBy}
-use Rattle.play_spec.specs.Standing.{noTurnInHand, movedBy, totalOf}
+use Rattle.play_spec.specs.Standing.{noTurnNumber, movedBy, totalOf}
 use Rattle.play_spec.specs.Minutes.{begunOf, stepOf, MinuteReady}
 
 module _ (s : Standing) (k : Stint) (m : ℕ) where
-  pub moved-stands : m < k .begin → record { working = s .working; driving = s .driving; standing = s .standing + 1; turn = noTurnInHand } ≡ movedBy s (doingBy k m)
+  pub moved-stands : m < k .begin → record { working = s .working; driving = s .driving; standing = s .standing + 1; turn = noTurnNumber } ≡ movedBy s (doingBy k m)
   unfolding movedBy doingBy
   moved-stands l = rw (lt-ltb m (k .begin) l)
 
@@ -23,7 +23,7 @@ module _ (s : Standing) (k : Stint) (m : ℕ) where
   unfolding movedBy doingBy
   moved-works a l = rw (le-ltb m (k .begin) a, lt-ltb m (k .end) l)
 
-  pub moved-drives : k .begin ≤ m → k .end ≤ m → record { working = s .working; driving = s .driving + 1; standing = s .standing; turn = noTurnInHand } ≡ movedBy s (doingBy k m)
+  pub moved-drives : k .begin ≤ m → k .end ≤ m → record { working = s .working; driving = s .driving + 1; standing = s .standing; turn = noTurnNumber } ≡ movedBy s (doingBy k m)
   unfolding movedBy doingBy
   moved-drives a l = rw (le-ltb m (k .begin) a, le-ltb m (k .end) l)
 

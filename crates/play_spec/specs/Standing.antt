@@ -9,8 +9,8 @@ use Rattle.play_spec.specs.Day.{Doing, works, drives, stands, doingAt, i
 use Rattle.play_spec.specs.declared.Standing.{Standing}
 
 -- the number for no turn
-abbrev pub noTurnInHand : ℕ
-noTurnInHand = 65535
+abbrev pub noTurnNumber : ℕ
+noTurnNumber = 65535
 
 -- the shift's last minute
 abbrev pub lastMinute : ℕ
@@ -18,7 +18,7 @@ lastMinute = shiftMinutes - 1
 
 -- before the first minute
 abbrev pub freshOf : Standing
-freshOf = record { working = 0; driving = 0; standing = 0; turn = noTurnInHand }
+freshOf = record { working = 0; driving = 0; standing = 0; turn = noTurnNumber }
 
 -- all minutes of a standing
 abbrev pub totalOf : Standing → ℕ
@@ -27,8 +27,8 @@ totalOf s = s .working + s .driving + s .standing
 -- a minute later: one of the three counts is moved by 1, and a turn is in hand only where it is worked
 unfoldable pub movedBy : Standing → Doing → Standing
 movedBy s (works u) = record { working = s .working + 1; driving = s .driving; standing = s .standing; turn = u }
-movedBy s drives = record { working = s .working; driving = s .driving + 1; standing = s .standing; turn = noTurnInHand }
-movedBy s stands = record { working = s .working; driving = s .driving; standing = s .standing + 1; turn = noTurnInHand }
+movedBy s drives = record { working = s .working; driving = s .driving + 1; standing = s .standing; turn = noTurnNumber }
+movedBy s stands = record { working = s .working; driving = s .driving; standing = s .standing + 1; turn = noTurnNumber }
 
 -- after the first k minutes of a day
 unfoldable pub standingAfter : List Stint → ℕ → Standing
@@ -40,8 +40,8 @@ standingAfter day (suc m) = movedBy (standingAfter day m) (doingAt day m)
 -- the turn in hand in a minute
 unfoldable pub inHand : Doing → ℕ
 inHand (works u) = u
-inHand drives = noTurnInHand
-inHand stands = noTurnInHand
+inHand drives = noTurnNumber
+inHand stands = noTurnNumber
 
 -- after minute m of a day: each count is how many minutes up to then were such, and the turn is the one worked in minute m
 pub record StandingIs (day : List Stint) (m : ℕ) (s : Standing) : Type 0 where

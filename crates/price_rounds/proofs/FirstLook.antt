@@ -7,7 +7,7 @@ use mathlib.Core.Bool.{Bool, true, false, cond}
 use native.Mathlib.Omega.{arith}
 use lib.Dec.{ltb}
 use lib.ListN.{drop, replicate, getD}
-use Rattle.lists.specs.Lists.{sum, below}
+use Rattle.lists.specs.Lists.{sumOver, below}
 use Rattle.lists.proofs.Sums.{sum-zero, all-of}
 use Rattle.turn.specs.Turn.{shiftMinutes, mostWorth}
 use Rattle.sheet.specs.Kind.{mostTurns}
@@ -28,20 +28,20 @@ use Rattle.price_rule.specs.declared.RuleFor.{RuleFor}
 use Rattle.price_rule.specs.declared.RuleFor.the-variants.{Shift, Hall}
 use Rattle.price_rule.specs.Rules.{pricesOf, ruleLimit, RulePosed}
 
-sum-most : (f : ℕ → ℕ) (most n : ℕ) → ((k : ℕ) → k < n → f k ≤ most) → sum f (below n) ≤ n * most
+sum-most : (f : ℕ → ℕ) (most n : ℕ) → ((k : ℕ) → k < n → f k ≤ most) → sumOver f (below n) ≤ n * most
 sum-most f most zero h = omega arith
 sum-most f most (suc n) h = omega (arith, h n (omega arith), sum-most f most n (λ k l. h k (omega arith)))
 
 -- ---- a shift: a table gives no more than all turns are worth
 
-sum-drop : (f : ℕ → ℕ) (k : ℕ) (ts : List ℕ) → sum f (drop k ts) ≤ sum f ts
+sum-drop : (f : ℕ → ℕ) (k : ℕ) (ts : List ℕ) → sumOver f (drop k ts) ≤ sumOver f ts
 sum-drop f zero ts = omega arith
 sum-drop f (suc k) [] = omega arith
 sum-drop f (suc k) (t ∷ ts) = omega (arith, sum-drop f k ts)
 
-table-most : (T : Turns) (ts : List ℕ) → bestOver T ts .worth ≤ sum (T .worth) ts
+table-most : (T : Turns) (ts : List ℕ) → bestOver T ts .worth ≤ sumOver (T .worth) ts
 table-most T =
-    best-ind T (λ ts b. b .worth ≤ sum (T .worth) ts) (omega arith) (λ t us l p q. omega (arith, p)) (λ t us l p q. omega (arith, q, sum-drop (T .worth) (blocked T t us) us))
+    best-ind T (λ ts b. b .worth ≤ sumOver (T .worth) ts) (omega arith) (λ t us l p q. omega (arith, p)) (λ t us l p q. omega (arith, q, sum-drop (T .worth) (blocked T t us) us))
 
 module _ (T : Turns) (slopes k : ℕ) where
   no-prices : priceSum T slopes (replicate {A = ℕ} k 0) ≡ 0
@@ -61,7 +61,7 @@ module _ (T : Turns) (slopes k : ℕ) where
   unfolding bestWorth countedTurns countsFor
   shift-limit few worths =
       let C = countedTurns T slopes (replicate k 0) in
-      let m : sum (C .worth) (below (T .count)) ≤ T .count * mostWorth = sum-most (C .worth) mostWorth (T .count) (λ t l. omega (arith, worths t l)) in
+      let m : sumOver (C .worth) (below (T .count)) ≤ T .count * mostWorth = sum-most (C .worth) mostWorth (T .count) (λ t l. omega (arith, worths t l)) in
       omega (arith, no-prices, table-most C (turnOrder C), order-sum C (C .worth), m)
 
 -- ---- a hall: no vehicle's best window counts for more than a window is worth

@@ -23,9 +23,9 @@ use Rattle.refine_spec.proofs.Selection.{from-length, from-apart, from-
 
 module _ (change payers price : ℕ) where
   -- where no turn pays it, it falls by the change, not below 0
-  pub moved-unpaid : payers ≡ 0 → movedPrice change payers price ≡ price - change
+  pub moved-without-payers : payers ≡ 0 → movedPrice change payers price ≡ price - change
   unfolding movedPrice
-  moved-unpaid e = rw e refl
+  moved-without-payers e = rw e refl
 
   -- where one does, it stays
   pub moved-once : payers ≡ 1 → movedPrice change payers price ≡ price
@@ -78,10 +78,10 @@ module _ (T : Turns) (slopes : ℕ) (S : List Bool) (change : ℕ) (prices : Lis
   -- no turn pays the price of one without a driver
   no-payers : (u : ℕ) → T .driver u ≡ 0 → turnPayers T S u ≡ 0
   unfolding turnPayers chosen paysTurn byDriver oneDriver
-  no-payers u e = sum-zero (λ t. cond (has S t) (cond (paysTurn T u t) 1 0) 0) (all-of (λ t. rw (unpaid t) (nothing (has S t))) (below (T .count)))
+  no-payers u e = sum-zero (λ t. cond (has S t) (cond (paysTurn T u t) 1 0) 0) (all-of (λ t. rw (pays-not t) (nothing (has S t))) (below (T .count)))
     where
-      unpaid : (t : ℕ) → paysTurn T u t ≡ false
-      unpaid t = rw e
+      pays-not : (t : ℕ) → paysTurn T u t ≡ false
+      pays-not t = rw e
 
       nothing : (b : Bool) → _≡_ {A = ℕ} (cond b 0 0) 0
       nothing true = refl
@@ -89,7 +89,7 @@ module _ (T : Turns) (slopes : ℕ) (S : List Bool) (change : ℕ) (prices : Lis
 
   -- and it stays 0
   pub moved-driverless : (u : ℕ) → u < T .count → T .driver u ≡ 0 → turnPrice slopes prices u ≡ 0 → turnPrice slopes (movedPrices T slopes S change prices) u ≡ 0
-  moved-driverless u l d e = omega (arith, moved-turn u l, moved-unpaid (turnChange change) (turnPayers T S u) (turnPrice slopes prices u) (no-payers u d), e)
+  moved-driverless u l d e = omega (arith, moved-turn u l, moved-without-payers (turnChange change) (turnPayers T S u) (turnPrice slopes prices u) (no-payers u d), e)
 
 -- ---- the rounds
 

@@ -5,7 +5,7 @@ use mathlib.Core.List.{List, _++_}
 use Prim.Native.Nat.{ℕ, _+_, _-_, _*_, _/_, _≤_, max, min}
 use lib.Dec.{eqb}
 use lib.ListN.{length, replicate}
-use Rattle.lists.specs.Lists.{tab, sum, below}
+use Rattle.lists.specs.Lists.{tab, sumOver, below}
 use Rattle.model.specs.Turns.{Turns}
 use Rattle.model.specs.Choice.{has, chosen, fits, choice}
 use Rattle.model.specs.Rules.{Independent}
@@ -78,6 +78,6 @@ shiftRefined T groomers slopes rounds = refined (shiftRule T groomers slopes) ro
 pub record Relaxed (T : Turns) (slopes : ℕ) (prices : List ℕ) (S : List Bool) : Type 0 where
   pub places : length S ≡ T .count
   pub apart : Independent (pricedTurns T slopes prices) S
-  pub greatest : (R : List ℕ) → Feasible (pricedTurns T slopes prices) R → sum (countsFor T slopes prices) R ≤ chosen (T .count) S (countsFor T slopes prices)
-  pub latest : (R : List ℕ) → Feasible (pricedTurns T slopes prices) R → sum (countsFor T slopes prices) R ≡ chosen (T .count) S (countsFor T slopes prices) →
+  pub greatest : (R : List ℕ) → Feasible (pricedTurns T slopes prices) R → sumOver (countsFor T slopes prices) R ≤ chosen (T .count) S (countsFor T slopes prices)
+  pub latest : (R : List ℕ) → Feasible (pricedTurns T slopes prices) R → sumOver (countsFor T slopes prices) R ≡ chosen (T .count) S (countsFor T slopes prices) →
       (x : ℕ) → has S x ≡ true → isAmong R x ≡ false → (y : ℕ) × (isAmong R y ≡ true) × (has S y ≡ false) × Later (pricedTurns T slopes prices) y x

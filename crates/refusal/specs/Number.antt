@@ -77,9 +77,9 @@ partialTurn = 18
 abbrev pub badDriver : ℕ
 badDriver = 19
 
--- more than 96 turns, for the lift desk's screen
-abbrev pub tooManyForScreen : ℕ
-tooManyForScreen = 20
+-- more than 96 turns, for the short reader
+abbrev pub tooManyForShort : ℕ
+tooManyForShort = 20
 
 -- a slope with two turns, or a driver, on a sheet that may have neither
 abbrev pub notSingleTurns : ℕ

@@ -1,4 +1,4 @@
-// The numbers that the box gives for a refusal, in document order; 0 is none. The trade's word for
+// The numbers of refusals, in document order; 0 is none. The trade's word for
 // each stands behind it.
 ghost use mathlib.Core.Path.{_≡_};
 ghost use Rattle.refusal.specs.Written.{writeRefused};
@@ -41,7 +41,7 @@ pub const PARTIAL_TURN: u8 = 18; // uneven: the numbers of a turn table do not m
 
 pub const BAD_DRIVER: u8 = 19; // the driver is above 40
 
-pub const TOO_MANY_FOR_SCREEN: u8 = 20; // more than 96 turns, for the lift desk's screen
+pub const TOO_MANY_FOR_SHORT: u8 = 20; // more than 96 turns, for the short reader
 
 pub const NOT_SINGLE_TURNS: u8 = 21; // a slope with two turns, or a driver, on a sheet that may have neither
 

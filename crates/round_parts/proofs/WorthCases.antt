@@ -9,7 +9,7 @@ use native.Mathlib.Numerals.{add-one}
 use mir.Syntax.{w32}
 use mir.Val.{Fits}
 use lib.ListN.{length}
-use Rattle.lists.specs.Lists.{sum, below}
+use Rattle.lists.specs.Lists.{sumOver, below}
 use Rattle.lists.proofs.Sums.{sum-zero, sum-same, sum-split, all-below}
 use Rattle.turn.specs.Turn.{mostWorth}
 use Rattle.sheet.specs.Kind.{mostTurns}
@@ -25,13 +25,13 @@ use Rattle.instance.proofs.Rows.{worth-at}
 
 -- what the turns before t that a map has chosen are worth
 unfoldable pub worthBefore : Turns → List ℕ → ℕ → ℕ
-worthBefore T map t = sum (λ u. cond (chosenIn map u) (T .worth u) 0) (below t)
+worthBefore T map t = sumOver (λ u. cond (chosenIn map u) (T .worth u) 0) (below t)
 
 -- they are summed up, and t is the next of them
-pub record WorthTo (p : Size) (cols map : List ℕ) (sum t : ℕ) : Type 0 where
+pub record WorthTo (p : Size) (cols map : List ℕ) (sumOver t : ℕ) : Type 0 where
   pub within : t ≤ 8 * length map
   pub here : t < p .count → chosenIn map t ≡ true
-  pub is : sum ≡ worthBefore (turnsBy p cols) map t
+  pub is : sumOver ≡ worthBefore (turnsBy p cols) map t
 
 module _ (T : Turns) (map : List ℕ) where
   -- turns that are not chosen may be passed over
@@ -40,7 +40,7 @@ module _ (T : Turns) (map : List ℕ) where
   worth-skip a b l h =
       let e : b ≡ a + (b - a) = omega arith in
       let p : worthBefore T map b ≡ worthBefore T map (a + (b - a)) = ap (worthBefore T map) e in
-      let rest : sum (λ u. cond (chosenIn map (a + u)) (T .worth (a + u)) 0) (below (b - a)) ≡ 0 =
+      let rest : sumOver (λ u. cond (chosenIn map (a + u)) (T .worth (a + u)) 0) (below (b - a)) ≡ 0 =
       sum-zero (λ u. cond (chosenIn map (a + u)) (T .worth (a + u)) 0) (all-below (b - a) (λ u k. rw (h (a + u) (omega arith) (omega arith)))) in
       omega (arith, p, rest, sum-split (λ u. cond (chosenIn map u) (T .worth u) 0) a (b - a))
 

@@ -7,7 +7,7 @@ use native.Mathlib.Omega.{arith}
 use native.Mathlib.Decide.{decLt}
 use lib.ListN.{length, set, length-append}
 use borrow.Author.Tests.{le-leb, lt-leb}
-use Rattle.lists.specs.Lists.{sum}
+use Rattle.lists.specs.Lists.{sumOver}
 use Rattle.model.specs.Turns.{Turns}
 use Rattle.model.specs.Choice.{fits}
 use Rattle.search_spec.specs.Sets.{setsFrom, oneMore, visitCosts, paidFor}
@@ -17,7 +17,7 @@ use Rattle.search_spec.proofs.Searches.{visitsFrom, visits-none, visits
 
 -- all of them together
 abbrev pub total : List ℕ → ℕ
-total cs = sum (λ c. c) cs
+total cs = sumOver (λ c. c) cs
 
 total-append : (As Bs : List ℕ) → total (As ++ Bs) ≡ total As + total Bs
 total-append [] Bs = omega arith

@@ -21,12 +21,12 @@ use Rattle.turn.specs.declared.Counts.{Counts}
 use Rattle.turn.specs.Turn.{rowNumbers, Numbered}
 use Rattle.sheet.specs.declared.kind.Kind.{Kind}
 use Rattle.sheet.specs.declared.record.Cursor.{Cursor}
-use Rattle.sheet.specs.Kind.{mostTurns, garage, ThreeBytes, three, Sound}
+use Rattle.sheet.specs.Kind.{mostTurns, shiftSheet, ThreeBytes, three, Sound}
 use Rattle.sheet.specs.Record.{recordCauses, cursorAfter, firstCursor}
 use Rattle.sheet.specs.Read.{headerBytes, countsIn, turnCount, countCauses, headerCauses, recordsCauses, turnsFrom, turnsOf, causesFor, readCausesFor, readFor, sheetCauses, readOf}
 use Rattle.sheet.specs.Layout.{headerFor}
 use Rattle.sheet.specs.Accepted.{Records, none, more, SheetFor, AcceptedFor, Accepted, CauseFor, SheetCause}
-use Rattle.sheet.proofs.SoundKinds.{garage-sound, mark-iff}
+use Rattle.sheet.proofs.SoundKinds.{shift-sheet-sound, mark-iff}
 use Rattle.sheet.proofs.Headers.{legal-counts, header-numbered, header-fine}
 use Rattle.sheet.proofs.Scans.{record-numbered}
 use Rattle.sheet.proofs.Readings.{causes-numbered, sheet-by-records, turnsFrom-length}
@@ -152,20 +152,20 @@ module _ (K : Kind) (sound : Sound K) {s : List ℕ} (b : Bytes s) where
   unfolding readCausesFor
   read-accepted-iff-for lent = lent-accepted-iff-for (rowNumbers * turnCount s) (length lent) (read-number-for K s lent)
 
--- ---- the garage's sheet
+-- ---- a shift's sheet
 
 module _ {s : List ℕ} (b : Bytes s) where
   pub accepted-iff : (firstOf (sheetCauses s) ≡ 0) ↔ Accepted s
   unfolding sheetCauses
-  accepted-iff = accepted-iff-for garage garage-sound b
+  accepted-iff = accepted-iff-for shiftSheet shift-sheet-sound b
 
   pub lent-accepted-iff : (need places : ℕ) {f : ℕ} → f ≡ firstOf (thenRoom (sheetCauses s) need places) → (f ≡ 0) ↔ (Accepted s × (need ≤ places))
   unfolding sheetCauses
-  lent-accepted-iff = lent-accepted-iff-for garage garage-sound b
+  lent-accepted-iff = lent-accepted-iff-for shiftSheet shift-sheet-sound b
 
   pub accepted-no-cause : Accepted s ↔ ((k r : ℕ) → SheetCause s k r → ⊥)
-  accepted-no-cause = accepted-no-cause-for garage garage-sound b
+  accepted-no-cause = accepted-no-cause-for shiftSheet shift-sheet-sound b
 
   pub read-accepted-iff : (lent : List ℕ) → (readOf s lent .answer .refusal ≡ 0) ↔ (Accepted s × (rowNumbers * turnCount s ≤ length lent))
   unfolding readOf
-  read-accepted-iff = read-accepted-iff-for garage garage-sound b
+  read-accepted-iff = read-accepted-iff-for shiftSheet shift-sheet-sound b

@@ -14,10 +14,10 @@ use Rattle.wire.specs.Mark.{opensWith}
 use Rattle.turn.specs.Turn.{mostWorth, mostDriver, turnCauses}
 use Rattle.turn.proofs.Ranges.{outside-iff, past-iff}
 use Rattle.sheet.specs.declared.kind.Kind.{Kind}
-use Rattle.sheet.specs.Kind.{garage, ThreeBytes}
+use Rattle.sheet.specs.Kind.{shiftSheet, ThreeBytes}
 use Rattle.sheet.specs.Record.{widthOf, endAt, firstCursor, recordCauses}
 use Rattle.sheet.specs.Read.{headerBytes, countsIn, turnCount, countCauses, headerCauses, recordsCauses, causesFor, sheetCauses}
-use Rattle.sheet.proofs.SoundKinds.{garage-sound, mark-iff}
+use Rattle.sheet.proofs.SoundKinds.{shift-sheet-sound, mark-iff}
 use Rattle.sheet.proofs.Maps.{bad-map-iff}
 use Rattle.sheet.specs.Accepted.{cursorOf, recordMap, turnOf, placeOf, CauseFor, short-header, other-mark, groomer-count, slope-count, turn-count, no-map, wrong-map, short-fields, slope, groomer, time, worth, driver, bytes-behind, FirstCause}
 use Rattle.refusal.proofs.Order.{first-same}
@@ -137,8 +137,8 @@ module _ (K : Kind) (mark : ThreeBytes (K .mark)) (s : List ℕ) where
 pub refused-iff-for : (K : Kind) → ThreeBytes (K .mark) → (s : List ℕ) (k : ℕ) → (k ≡ 0 → ⊥) → (firstOf (causesFor K s) ≡ k) ↔ FirstAmong (CauseFor K s) k
 refused-iff-for K mark s k z = first-same (causesFor K s) (CauseFor K s) (causes-iff-for K mark s) k z
 
--- ---- the garage's sheet
+-- ---- a shift's sheet
 
 pub refused-iff : (s : List ℕ) (k : ℕ) → (k ≡ 0 → ⊥) → (firstOf (sheetCauses s) ≡ k) ↔ FirstCause s k
 unfolding sheetCauses
-refused-iff = refused-iff-for garage (garage-sound .mark)
+refused-iff = refused-iff-for shiftSheet (shift-sheet-sound .mark)

@@ -17,10 +17,10 @@ use Rattle.turn.specs.declared.Turn.{Turn}
 use Rattle.turn.specs.declared.Counts.{Counts}
 use Rattle.sheet.specs.declared.kind.Kind.{Kind}
 use Rattle.sheet.specs.declared.record.Cursor.{Cursor}
-use Rattle.sheet.specs.Kind.{mostTurns, garage, Sound}
+use Rattle.sheet.specs.Kind.{mostTurns, shiftSheet, Sound}
 use Rattle.sheet.specs.Record.{recordBytes, field, turnFrom, mapAt, endAt, turnAt, cursorAfter, recordCauses, firstCursor}
 use Rattle.sheet.specs.Read.{headerBytes, countsIn, turnCount, headerCauses, recordsCauses, causesFor, sheetCauses}
-use Rattle.sheet.proofs.SoundKinds.{garage-sound}
+use Rattle.sheet.proofs.SoundKinds.{shift-sheet-sound}
 use Rattle.sheet.proofs.Headers.{header-numbered, header-few}
 use Rattle.sheet.proofs.Scans.{record-numbered}
 use Rattle.sheet.proofs.Readings.{sheet-by-header, sheet-by-records}
@@ -152,12 +152,12 @@ module _ (K : Kind) (sound : Sound K) where
   pub prefix-same-for : (s : List ℕ) → firstOf (causesFor K s) ≡ 0 → take enoughBytes s ≡ s
   prefix-same-for s e = take-all enoughBytes s (omega (arith, sheet-short s e))
 
--- ---- the garage's sheet
+-- ---- a shift's sheet
 
 pub prefix-refusal : (s : List ℕ) → firstOf (sheetCauses (take enoughBytes s)) ≡ firstOf (sheetCauses s)
 unfolding sheetCauses
-prefix-refusal = prefix-refusal-for garage garage-sound
+prefix-refusal = prefix-refusal-for shiftSheet shift-sheet-sound
 
 pub prefix-same : (s : List ℕ) → firstOf (sheetCauses s) ≡ 0 → take enoughBytes s ≡ s
 unfolding sheetCauses
-prefix-same = prefix-same-for garage garage-sound
+prefix-same = prefix-same-for shiftSheet shift-sheet-sound

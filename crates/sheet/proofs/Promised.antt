@@ -9,12 +9,12 @@ use Rattle.wire.specs.Number.{Bytes}
 use Rattle.turn.specs.Turn.{rowNumbers, rows}
 use Rattle.turn.proofs.Rows.{rows-length}
 use Rattle.sheet.specs.declared.kind.Kind.{Kind}
-use Rattle.sheet.specs.Kind.{garage, Sound}
+use Rattle.sheet.specs.Kind.{shiftSheet, Sound}
 use Rattle.sheet.specs.Read.{turnCount, tableOf, readRefused, readAnswer, readCausesFor, readFor, readOf, Reading}
 use Rattle.refusal.specs.Written.{atFront}
 use Rattle.sheet.specs.Accepted.{AcceptedFor}
 use Rattle.sheet.specs.Promises.{ReadInto, ReadPromisedFor, ReadPromised}
-use Rattle.sheet.proofs.SoundKinds.{garage-sound}
+use Rattle.sheet.proofs.SoundKinds.{shift-sheet-sound}
 use Rattle.sheet.proofs.Accepting.{sheet-reads, read-accepted-iff-for}
 use Rattle.refusal.specs.Outcome.{beside}
 use Rattle.refusal.proofs.Outcome.{number-none, number-refused}
@@ -63,7 +63,7 @@ read-promised-for K sound {s} b lent =
     many : (a : AcceptedFor K s) → turnCount s ≡ length (a .turns)
     many a = sheet-reads K sound s (a .counts) (a .turns) (a .sheet) .3
 
--- the garage's
+-- a shift's
 pub read-promised : {s : List ℕ} → Bytes s → (lent : List ℕ) → ReadPromised s lent
 unfolding readOf
-read-promised b lent = read-promised-for garage garage-sound b lent
+read-promised b lent = read-promised-for shiftSheet shift-sheet-sound b lent

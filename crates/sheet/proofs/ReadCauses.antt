@@ -10,11 +10,11 @@ use Rattle.turn.specs.declared.Counts.{Counts}
 use Rattle.turn.specs.Turn.{rowNumbers, turnCauses}
 use Rattle.sheet.specs.declared.kind.Kind.{Kind}
 use Rattle.sheet.specs.declared.record.Cursor.{Cursor}
-use Rattle.sheet.specs.Kind.{garage, Sound}
+use Rattle.sheet.specs.Kind.{shiftSheet, Sound}
 use Rattle.sheet.specs.Record.{cursorAfter, firstCursor, recordCauses}
 use Rattle.sheet.specs.Read.{countsIn, turnCount, countCauses, headerCauses, recordsCauses, causesFor, readCausesFor, readFor, sheetCauses, readOf, Reading}
 use Rattle.sheet.specs.Accepted.{placeOf, LentCauseFor, ReadCauseFor, LentCause, FirstReadCause, CauseFor, SheetCause, MoreCauseFor, MoreCause}
-use Rattle.sheet.proofs.SoundKinds.{garage-sound}
+use Rattle.sheet.proofs.SoundKinds.{shift-sheet-sound}
 use Rattle.sheet.proofs.Causes.{causes-iff-for}
 use Rattle.refusal.specs.Outcome.{thenRoom}
 use Rattle.refusal.proofs.Words.{Within, Tells, says-tells, says-within, room-tells, then-tells, only-tells, then-within, only-within}
@@ -64,27 +64,27 @@ module _ (K : Kind) (sound : Sound K) (s : List ℕ) where
   read-refused-iff-for lent =
       number-iff (readCausesFor K s (length lent)) _ _ (λ (o : Reading). o .answer .refusal) refl (λ k. refl) (lent-tell-for (rowNumbers * turnCount s) (length lent))
 
--- ---- the garage's sheet
+-- ---- a shift's sheet
 
 module _ (s : List ℕ) where
   pub sheet-tells : Tells (SheetCause s) (sheetCauses s)
   unfolding sheetCauses
-  sheet-tells = causes-tell-for garage garage-sound s
+  sheet-tells = causes-tell-for shiftSheet shift-sheet-sound s
 
   pub sheet-within : Within (SheetCause s) (placeOf (turnCount s) 1)
-  sheet-within = causes-within-for garage garage-sound s
+  sheet-within = causes-within-for shiftSheet shift-sheet-sound s
 
   pub more-tell : (n : ℕ) (P : Type 0) (test : Bool) → (test ≡ true) ↔ P → numbered (n when test ∷ []) ≡ true → Tells (MoreCause s n P) (sheetCauses s ++ n when test ∷ [])
   unfolding sheetCauses
-  more-tell = more-tell-for garage garage-sound s
+  more-tell = more-tell-for shiftSheet shift-sheet-sound s
 
   pub more-within : (n : ℕ) (P : Type 0) → Within (MoreCause s n P) (placeOf (turnCount s) 2)
-  more-within = more-within-for garage garage-sound s
+  more-within = more-within-for shiftSheet shift-sheet-sound s
 
   pub lent-tell : (need places : ℕ) → Tells (LentCause s need places) (thenRoom (sheetCauses s) need places)
   unfolding sheetCauses
-  lent-tell = lent-tell-for garage garage-sound s
+  lent-tell = lent-tell-for shiftSheet shift-sheet-sound s
 
 pub read-refused-iff : (s lent : List ℕ) (k : ℕ) → (k ≡ 0 → ⊥) → (readOf s lent .answer .refusal ≡ k) ↔ FirstReadCause s (length lent) k
 unfolding readOf
-read-refused-iff = read-refused-iff-for garage garage-sound
+read-refused-iff = read-refused-iff-for shiftSheet shift-sheet-sound

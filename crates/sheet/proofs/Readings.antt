@@ -19,11 +19,11 @@ use Rattle.sheet.specs.declared.record.Cursor.{Cursor}
 use Rattle.sheet.specs.declared.header.Header.{Header}
 use Rattle.sheet.specs.declared.header.Header.the-variants.{Found, Refused}
 use Rattle.sheet.specs.declared.answer.ReadAnswer.{ReadAnswer}
-use Rattle.sheet.specs.Kind.{tablePlaces, garage, Sound}
+use Rattle.sheet.specs.Kind.{tablePlaces, shiftSheet, Sound}
 use Rattle.sheet.specs.Record.{recordCauses, cursorAfter, firstCursor}
 use Rattle.sheet.specs.Read.{countsIn, turnCount, headerCauses, headerOf, recordsCauses, turnsFrom, causesFor, sheetCauses, turnsOf, tableOf, readRefused, answerFor, readAnswer}
 use Rattle.refusal.specs.Written.{atFront}
-use Rattle.sheet.proofs.SoundKinds.{garage-sound}
+use Rattle.sheet.proofs.SoundKinds.{shift-sheet-sound}
 use Rattle.sheet.proofs.Headers.{header-numbered, header-few}
 use Rattle.sheet.proofs.Scans.{record-numbered}
 use Rattle.refusal.specs.Outcome.{unless}
@@ -82,7 +82,7 @@ module _ (K : Kind) where
 
 pub sheet-numbered : (s : List ℕ) → numbered (sheetCauses s) ≡ true
 unfolding sheetCauses
-sheet-numbered = causes-numbered garage (garage-sound .numbers)
+sheet-numbered = causes-numbered shiftSheet (shift-sheet-sound .numbers)
 
 -- ---- the answer
 

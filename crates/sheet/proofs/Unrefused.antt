@@ -9,10 +9,10 @@ use Rattle.refusal.specs.Cause.{firstOf}
 use Rattle.refusal.proofs.Order.{none-given, clear-append}
 use Rattle.turn.specs.Turn.{turnIn, InRange, shiftMinutes, mostWorth, mostDriver}
 use Rattle.sheet.specs.declared.kind.Kind.{Kind}
-use Rattle.sheet.specs.Kind.{mostGroomers, mostSlopes, mostTurns, garage, Sound}
+use Rattle.sheet.specs.Kind.{mostGroomers, mostSlopes, mostTurns, shiftSheet, Sound}
 use Rattle.sheet.specs.Read.{countsIn, turnCount, headerCauses, causesFor, sheetCauses, tableOf}
 use Rattle.sheet.specs.Accepted.{Legal, CauseFor, slope, groomer, time, worth, driver, turnOf, Outside}
-use Rattle.sheet.proofs.SoundKinds.{garage-sound}
+use Rattle.sheet.proofs.SoundKinds.{shift-sheet-sound}
 use Rattle.sheet.proofs.Headers.{header-numbered, header-fine}
 use Rattle.sheet.proofs.Causes.{cause-there-for}
 use Rattle.sheet.proofs.Readings.{causes-numbered}
@@ -55,17 +55,17 @@ module _ (K : Kind) (sound : Sound K) (s : List ℕ) (e : firstOf (causesFor K s
   pub row-in-range-for : (i : ℕ) → i < turnCount s → InRange (countsIn s) (turnIn (tableOf s) i)
   row-in-range-for i h = rw (table-row s i h) (turn-in-range i h)
 
--- ---- the garage's sheet
+-- ---- a shift's sheet
 
 module _ (s : List ℕ) (e : firstOf (sheetCauses s) ≡ 0) where
   pub few-groomers : countsIn s .groomers ≤ mostGroomers
-  unfolding sheetCauses garage
-  few-groomers = legal-header garage garage-sound s e .groomers-to
+  unfolding sheetCauses shiftSheet
+  few-groomers = legal-header shiftSheet shift-sheet-sound s e .groomers-to
 
   pub few-slopes : countsIn s .slopes ≤ mostSlopes
-  unfolding sheetCauses garage
-  few-slopes = legal-header garage garage-sound s e .slopes-to
+  unfolding sheetCauses shiftSheet
+  few-slopes = legal-header shiftSheet shift-sheet-sound s e .slopes-to
 
   pub few-turns : turnCount s ≤ mostTurns
-  unfolding sheetCauses garage
-  few-turns = legal-header garage garage-sound s e .turns-to
+  unfolding sheetCauses shiftSheet
+  few-turns = legal-header shiftSheet shift-sheet-sound s e .turns-to

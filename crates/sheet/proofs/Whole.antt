@@ -13,10 +13,10 @@ use Rattle.wire.proofs.Puts.{puts-front}
 use Rattle.turn.specs.Turn.{rowNumbers}
 use Rattle.sheet.specs.declared.kind.Kind.{Kind}
 use Rattle.sheet.specs.declared.answer.ReadAnswer.{ReadAnswer}
-use Rattle.sheet.specs.Kind.{mostTurns, garage, Sound}
+use Rattle.sheet.specs.Kind.{mostTurns, shiftSheet, Sound}
 use Rattle.sheet.specs.Read.{turnCount, tableOf, causesFor, readCausesFor, readRefused, readAnswer, answerFor, readFor, sheetCauses, answerOf, readOf, Reading}
 use Rattle.refusal.specs.Written.{atFront}
-use Rattle.sheet.proofs.SoundKinds.{garage-sound, garage-given}
+use Rattle.sheet.proofs.SoundKinds.{shift-sheet-sound, shift-sheet-given}
 use Rattle.sheet.proofs.Readings.{causes-numbered}
 use Rattle.sheet.proofs.Tables.{table-length}
 use Rattle.sheet.proofs.Unrefused.{legal-header}
@@ -93,28 +93,28 @@ module _ (K : Kind) (s lent : List ℕ) {a : ReadAnswer} (e : a ≡ answerFor K 
 
 pub ruleset read-cases = (read-fault, read-small)
 
--- ---- the garage's sheet
+-- ---- a shift's sheet
 
 module _ (s : List ℕ) {a : ReadAnswer} (e : a ≡ answerOf s) where
   pub whole-refusal : a .refusal ≡ firstOf (sheetCauses s)
   unfolding sheetCauses
-  whole-refusal = whole-refusal-for garage s e
+  whole-refusal = whole-refusal-for shiftSheet s e
 
   module _ (z : a .refusal ≡ 0) where
     pub whole-accepted : firstOf (sheetCauses s) ≡ 0
     whole-accepted = sym whole-refusal ∙ z
 
     pub whole-few : a .turns ≤ mostTurns
-    unfolding garage
-    whole-few = whole-few-for garage s e z garage-sound
+    unfolding shiftSheet
+    whole-few = whole-few-for shiftSheet s e z shift-sheet-sound
 
 -- its reader is that of its kind
-module _ (s : List ℕ) {K : Kind} (k : K ≡ garage) where
-  pub answer-garage : {a : ReadAnswer} → a ≡ answerFor K s → a ≡ answerOf s
-  answer-garage e = e ∙ rw k
+module _ (s : List ℕ) {K : Kind} (k : K ≡ shiftSheet) where
+  pub answer-shift-sheet : {a : ReadAnswer} → a ≡ answerFor K s → a ≡ answerOf s
+  answer-shift-sheet e = e ∙ rw k
 
-  pub read-garage : (lent : List ℕ) {x : Reading} → x ≡ readFor K s lent → x ≡ readOf s lent
+  pub read-shift-sheet : (lent : List ℕ) {x : Reading} → x ≡ readFor K s lent → x ≡ readOf s lent
   unfolding readOf
-  read-garage lent e = e ∙ rw k
+  read-shift-sheet lent e = e ∙ rw k
 
-pub ruleset garage-cases = (garage-given, answer-garage, read-garage)
+pub ruleset shift-sheet-cases = (shift-sheet-given, answer-shift-sheet, read-shift-sheet)

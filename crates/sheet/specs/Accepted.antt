@@ -13,7 +13,7 @@ use Rattle.turn.specs.Turn.{rowNumbers, InRange, shiftMinutes, mostWorth, mostD
 use Rattle.sheet.specs.declared.kind.Maps.{Maps}
 use Rattle.sheet.specs.declared.kind.Kind.{Kind}
 use Rattle.sheet.specs.declared.record.Cursor.{Cursor}
-use Rattle.sheet.specs.Kind.{garage}
+use Rattle.sheet.specs.Kind.{shiftSheet}
 use Rattle.sheet.specs.Record.{widthOf, mapAt, turnAt, cursorAfter, firstCursor}
 use Rattle.sheet.specs.Read.{headerBytes, countsIn, turnCount}
 use Rattle.sheet.specs.Layout.{recordOf, headerFor}
@@ -63,9 +63,9 @@ pub record AcceptedFor (K : Kind) (s : List ℕ) : Type 0 where
   pub turns : List Turn
   pub sheet : SheetFor K s counts turns
 
--- the garage's sheet
+-- a shift's sheet
 abbrev pub Accepted : List ℕ → Type 0
-Accepted = AcceptedFor garage
+Accepted = AcceptedFor shiftSheet
 
 -- ---- the causes at their places
 
@@ -127,23 +127,23 @@ LentCauseFor K s = ThenRoom (CauseFor K s) (placeOf (turnCount s) 1)
 abbrev pub ReadCauseFor : Kind → List ℕ → ℕ → ℕ → ℕ → Type 0
 ReadCauseFor K s places = LentCauseFor K s (rowNumbers * turnCount s) places
 
--- ---- the garage's sheet
+-- ---- a shift's sheet
 
 -- its causes
 abbrev pub SheetCause : List ℕ → ℕ → ℕ → Type 0
-SheetCause = CauseFor garage
+SheetCause = CauseFor shiftSheet
 
 -- with one more
 abbrev pub MoreCause : List ℕ → ℕ → Type 0 → ℕ → ℕ → Type 0
-MoreCause = MoreCauseFor garage
+MoreCause = MoreCauseFor shiftSheet
 
 -- with those of a lent buffer
 abbrev pub LentCause : List ℕ → ℕ → ℕ → ℕ → ℕ → Type 0
-LentCause = LentCauseFor garage
+LentCause = LentCauseFor shiftSheet
 
 -- with those of the reader's table
 abbrev pub ReadCause : List ℕ → ℕ → ℕ → ℕ → Type 0
-ReadCause = ReadCauseFor garage
+ReadCause = ReadCauseFor shiftSheet
 
 -- the first cause to refuse a sheet has number k
 abbrev pub FirstCause : List ℕ → ℕ → Type 0

@@ -26,9 +26,9 @@ mostSlopes = 120
 abbrev pub mostTurns : ℕ
 mostTurns = 400
 
--- the garage's sheet
-unfoldable pub garage : Kind
-garage =
+-- a shift's sheet
+unfoldable pub shiftSheet : Kind
+shiftSheet =
     record {
       mark = sheetMark;
       most = record { groomers = mostGroomers; slopes = mostSlopes; turns = mostTurns };

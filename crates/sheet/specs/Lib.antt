@@ -4,5 +4,5 @@ pub mod Read
 pub mod Layout
 pub mod Accepted
 pub mod Promises
-pub mod Screen
+pub mod Short
 pub mod Shift

@@ -6,7 +6,7 @@ use mathlib.Core.List.{List}
 use lib.ListN.{length, take, drop}
 use Rattle.turn.specs.Turn.{rowNumbers, rows}
 use Rattle.sheet.specs.declared.kind.Kind.{Kind}
-use Rattle.sheet.specs.Kind.{garage}
+use Rattle.sheet.specs.Kind.{shiftSheet}
 use Rattle.sheet.specs.Read.{readRefused, readOf, Reading}
 use Rattle.sheet.specs.Accepted.{AcceptedFor}
 use Rattle.refusal.specs.Outcome.{beside}
@@ -29,6 +29,6 @@ pub record ReadPromisedFor (K : Kind) (s lent : List ℕ) (out : Reading) : Type
   -- a refusal is its number and no counts, and the table is as it was
   pub refuses : (out .answer .refusal ≡ 0 → ⊥) → out ≡ beside (readRefused (out .answer .refusal)) lent
 
--- the garage's reader
+-- a shift's reader
 abbrev pub ReadPromised : List ℕ → List ℕ → Type 0
-ReadPromised s lent = ReadPromisedFor garage s lent (readOf s lent)
+ReadPromised s lent = ReadPromisedFor shiftSheet s lent (readOf s lent)

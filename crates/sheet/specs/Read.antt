@@ -16,7 +16,7 @@ use Rattle.sheet.specs.declared.record.Cursor.{Cursor}
 use Rattle.sheet.specs.declared.header.Header.{Header}
 use Rattle.sheet.specs.declared.header.Header.the-variants.{Found, Refused}
 use Rattle.sheet.specs.declared.answer.ReadAnswer.{ReadAnswer}
-use Rattle.sheet.specs.Kind.{garage}
+use Rattle.sheet.specs.Kind.{shiftSheet}
 use Rattle.sheet.specs.Record.{recordCauses, turnAt, cursorAfter, firstCursor}
 use Rattle.refusal.specs.Written.{atFront}
 use Rattle.refusal.specs.Outcome.{Outcome, beside, unless, thenRoom}
@@ -110,16 +110,16 @@ answerFor K s = unless (causesFor K s) (readAnswer s) readRefused
 unfoldable pub readFor : Kind → List ℕ → List ℕ → Reading
 readFor K s lent = unless (readCausesFor K s (length lent)) (beside (readAnswer s) (atFront (tableOf s) lent)) (λ k. beside (readRefused k) lent)
 
--- ---- the garage's sheet
+-- ---- a shift's sheet
 
 -- its causes
 unfoldable pub sheetCauses : List ℕ → List Cause
-sheetCauses = causesFor garage
+sheetCauses = causesFor shiftSheet
 
 -- its answer
 abbrev pub answerOf : List ℕ → ReadAnswer
-answerOf = answerFor garage
+answerOf = answerFor shiftSheet
 
 -- reading it
 unfoldable pub readOf : List ℕ → List ℕ → Reading
-readOf = readFor garage
+readOf = readFor shiftSheet

@@ -6,7 +6,7 @@ pub const FIRST_MAP: u8 = 31;
 
 pub const FULL_MAP: u8 = 63;
 
-// The most groomers and slopes of the garage's sheet.
+// The most groomers and slopes of a shift's sheet.
 pub const MOST_GROOMERS: u16 = 16;
 
 pub const MOST_SLOPES: u16 = 120;

@@ -1,6 +1,6 @@
-// The garage's kind of sheet, as a value.
+// A shift's kind of sheet, as a value.
 ghost use mathlib.Core.Path.{_≡_};
-ghost use Rattle.sheet.specs.Kind.{garage};
+ghost use Rattle.sheet.specs.Kind.{shiftSheet};
 use sheet::FIRST_MAP;
 use sheet::FULL_MAP;
 use sheet::Kind;
@@ -11,9 +11,9 @@ use sheet::Maps;
 use sheet::Most;
 use turn::Refusals;
 
-// The garage's sheet.
-pub fn garage() -> Kind
-    ensures { λ r. ⌜ r ≡ garage ⌝ }
+// A shift's sheet.
+pub fn shift_sheet() -> Kind
+    ensures { λ r. ⌜ r ≡ shiftSheet ⌝ }
 {
     Kind {
         mark: wire::GRM,

@@ -5,7 +5,7 @@ mod reading;
 
 pub use header::count_fault;
 pub use header::read_header;
-pub use kind::garage;
+pub use kind::shift_sheet;
 pub use reading::first_cursor;
 pub use reading::put_turn;
 pub use reading::read;

@@ -11,7 +11,7 @@ ghost use Rattle.sheet.specs.Read.{recordsCauses, turnsFrom, tableOf, readRefus
 ghost use Rattle.refusal.specs.Written.{atFront};
 ghost use Rattle.refusal.specs.Outcome.{beside};
 use super::header::read_header;
-use super::kind::garage;
+use super::kind::shift_sheet;
 use sheet::Cursor;
 use sheet::HEADER_BYTES;
 use sheet::Header;
@@ -128,12 +128,12 @@ pub fn read_table_of(kind: Kind, s: &[u8], table: &mut [u16]) -> ReadAnswer
     }
 }
 
-// Reads any bytes as the garage's sheet, as read_table_of does a sheet of any kind.
+// Reads any bytes as a shift's sheet, as read_table_of does a sheet of any kind.
 pub fn read_table(s: &[u8], table: &mut [u16]) -> ReadAnswer
     requires { ⌜ tablePlaces ≤ length (now table) ⌝ }
     ensures { λ r. ⌜ (r ≡ answerOf (now (s .entry))) × (r .refusal ≡ 0 → now (table .exit) ≡ atFront (tableOf (now (s .entry))) (now (table .entry))) ⌝ }
 {
-    read_table_of(garage(), s, &mut *table)
+    read_table_of(shift_sheet(), s, &mut *table)
 }
 
 // Copies numbers to the front of a table.
@@ -168,9 +168,9 @@ pub fn read_as(kind: Kind, s: &[u8], table: &mut [u16]) -> ReadAnswer
     r
 }
 
-// Reads any bytes as the garage's sheet into any lent table.
+// Reads any bytes as a shift's sheet into any lent table.
 pub fn read(s: &[u8], table: &mut [u16]) -> ReadAnswer
     ensures { λ r. ⌜ beside r (now (table .exit)) ≡ readOf (now (s .entry)) (now (table .entry)) ⌝ }
 {
-    read_as(garage(), s, &mut *table)
+    read_as(shift_sheet(), s, &mut *table)
 }

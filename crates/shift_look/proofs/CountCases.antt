@@ -11,7 +11,7 @@ use lib.Dec.{ltb, leb}
 use lib.ListN.{length, getD, set, length-set}
 use lib.Seq.{getD-set-same, getD-set-other}
 use borrow.Author.Tests.{lt-ltb}
-use Rattle.lists.specs.Lists.{sum, below}
+use Rattle.lists.specs.Lists.{sumOver, below}
 use Rattle.lists.proofs.Bools.{and-1}
 use Rattle.lists.proofs.Sums.{sum-same, sum-split, sum-zero, all-below}
 use Rattle.sheet.specs.Kind.{mostTurns}
@@ -31,12 +31,12 @@ use Rattle.shift_look.proofs.SumCases.{drivers-sum}
 
 -- where h is g from one place to before another, and 0 elsewhere
 run-total : (h g : ℕ → ℕ) (n from to : ℕ) → from ≤ to → to ≤ n → ((j : ℕ) → j < from → h j ≡ 0) → ((j : ℕ) → from ≤ j → j < to → h j ≡ g j) → ((j : ℕ) → to ≤ j → j < n → h j ≡ 0)
-    → sum h (below n) + sum g (below from) ≡ sum g (below to)
+    → sumOver h (below n) + sumOver g (below from) ≡ sumOver g (below to)
 run-total h g n from to a b before in-run past =
     let e : n ≡ from + ((to - from) + (n - to)) = omega arith in
     let f : to ≡ from + (to - from) = omega arith in
-    let whole : sum h (below n) ≡ sum h (below (from + ((to - from) + (n - to)))) = ap (λ (k : ℕ). sum h (below k)) e in
-    let run : sum g (below to) ≡ sum g (below (from + (to - from))) = ap (λ (k : ℕ). sum g (below k)) f in
+    let whole : sumOver h (below n) ≡ sumOver h (below (from + ((to - from) + (n - to)))) = ap (λ (k : ℕ). sumOver h (below k)) e in
+    let run : sumOver g (below to) ≡ sumOver g (below (from + (to - from))) = ap (λ (k : ℕ). sumOver g (below k)) f in
     omega (
       arith,
       whole,
@@ -70,7 +70,7 @@ module _ (T : Turns) (slopes : ℕ) (prices : List ℕ) (t from to : ℕ) (r : P
       go true e = absurd (d (r .pays j h .0 e))
       go false e = refl
 
-  run-sum : sum (λ u. cond (paysTurn T u t) (turnPrice slopes prices u) 0) (below (T .count)) + placesSum T slopes prices from ≡ placesSum T slopes prices to
+  run-sum : sumOver (λ u. cond (paysTurn T u t) (turnPrice slopes prices u) 0) (below (T .count)) + placesSum T slopes prices from ≡ placesSum T slopes prices to
   unfolding placesSum
   run-sum =
       let whole = drivers-sum T (λ u. cond (paysTurn T u t) (turnPrice slopes prices u) 0) in
@@ -95,7 +95,7 @@ module _ (e : Extent) (cols orders prices sums : List ℕ) (t : ℕ) (ht : t < e
   sum-to : getD sums (paidTo orders t) 0 ≡ placesSum (turnsIn e cols) (e .slopes) prices (paidTo orders t)
   sum-to = s .values (paidTo orders t) run-to
 
-  total : sum (λ u. cond (paysTurn (turnsIn e cols) u t) (turnPrice (e .slopes) prices u) 0) (below (turnsIn e cols .count)) + placesSum (turnsIn e cols) (e .slopes) prices (paidFrom orders t) ≡ placesSum (turnsIn e cols) (e .slopes) prices (paidTo orders t)
+  total : sumOver (λ u. cond (paysTurn (turnsIn e cols) u t) (turnPrice (e .slopes) prices u) 0) (below (turnsIn e cols .count)) + placesSum (turnsIn e cols) (e .slopes) prices (paidFrom orders t) ≡ placesSum (turnsIn e cols) (e .slopes) prices (paidTo orders t)
   total = run-sum (turnsIn e cols) (e .slopes) prices t (paidFrom orders t) (paidTo orders t) run
 
   pub paid-few : t < mostTurns

@@ -10,7 +10,7 @@ use lib.Dec.{leb, eqb}
 use lib.ListN.{length, drop, getD, length-drop}
 use lib.Seq.{getD-drop}
 use borrow.Author.Tests.{leb-true, le-leb, eq-eqb, ne-eqb}
-use Rattle.lists.specs.Lists.{sum, All, none, more}
+use Rattle.lists.specs.Lists.{sumOver, All, none, more}
 use Rattle.lists.proofs.Bools.{and-1, and-2, and-of, not-both}
 use Rattle.lists.proofs.Sums.{sum-point}
 use Rattle.model.specs.Turns.{Turns, PositiveLengths, byDriver}
@@ -26,11 +26,11 @@ use Rattle.shift_look.specs.OrdersAndCounts.{byDrivers, OneRun, RunStart
 
 -- ---- an order has each turn at just one place
 
-place-of : (u : ℕ) (ts : List ℕ) → 1 ≤ sum (λ x. cond (eqb x u) 1 0) ts → (j : ℕ) × (j < length ts) × (getD ts j 0 ≡ u)
+place-of : (u : ℕ) (ts : List ℕ) → 1 ≤ sumOver (λ x. cond (eqb x u) 1 0) ts → (j : ℕ) × (j < length ts) × (getD ts j 0 ≡ u)
 place-of u [] h = absurd (omega arith)
 place-of u (x ∷ ts) h = go (ℕ-discrete x u) h (place-of u ts)
   where
-    go : Dec (x ≡ u) → 1 ≤ cond (eqb x u) 1 0 + sum (λ x. cond (eqb x u) 1 0) ts → (1 ≤ sum (λ x. cond (eqb x u) 1 0) ts → (j : ℕ) × (j < length ts) × (getD ts j 0 ≡ u)) →
+    go : Dec (x ≡ u) → 1 ≤ cond (eqb x u) 1 0 + sumOver (λ x. cond (eqb x u) 1 0) ts → (1 ≤ sumOver (λ x. cond (eqb x u) 1 0) ts → (j : ℕ) × (j < length ts) × (getD ts j 0 ≡ u)) →
         (j : ℕ) × (j < suc (length ts)) × (getD (x ∷ ts) j 0 ≡ u)
     go (yes e) k ih = (0, omega arith, e)
     go (no d) k ih = let z = rw (ne-eqb x u d) at k in let (j, l, q) = ih (omega arith) in (suc j, omega arith, q)

@@ -12,7 +12,7 @@ use lib.Dec.{ltb}
 use lib.ListN.{length, getD, set, replicate, length-set, length-replicate, getD-replicate}
 use lib.Seq.{getD-set-same, getD-set-other}
 use borrow.Author.Tests.{lt-ltb}
-use Rattle.lists.specs.Lists.{sum, below}
+use Rattle.lists.specs.Lists.{sumOver, below}
 use Rattle.lists.proofs.Sums.{sum-zero, sum-same, sum-split, all-below}
 use Rattle.sheet.specs.Kind.{mostTurns, mostSlopes}
 use Rattle.model.specs.Turns.{Turns}
@@ -188,7 +188,7 @@ module _ (e : Extent) (cols prices sums : List ℕ) (w : Priced e cols prices) w
         v : ℕ
         v = getD sums j 0 + r
 
-        value : (k : ℕ) → k ≤ j + 1 → Dec (k ≡ j + 1) → getD (set sums (j + 1) v) k 0 ≡ sum (placePrice (turnsIn e cols) (e .slopes) prices) (below k)
+        value : (k : ℕ) → k ≤ j + 1 → Dec (k ≡ j + 1) → getD (set sums (j + 1) v) k 0 ≡ sumOver (placePrice (turnsIn e cols) (e .slopes) prices) (below k)
         value k a (yes d) = rw (d, getD-set-same sums (j + 1) v 0 (omega (arith, s .places, w .few)), add-one j) (omega (arith, s .values j (omega arith), q))
         value k a (no d) = getD-set-other sums (j + 1) k v 0 d ∙ s .values k (omega arith)
 
@@ -214,19 +214,19 @@ pub ruleset sums-cases = (sums-start, sums-within, sums-fit, sums-next, sums-ins
 
 -- ---- a sum over an order's places is one over all turns
 
-sum-places : (g : ℕ → ℕ) (ts : List ℕ) → sum (λ j. g (getD ts j 0)) (below (length ts)) ≡ sum g ts
+sum-places : (g : ℕ → ℕ) (ts : List ℕ) → sumOver (λ j. g (getD ts j 0)) (below (length ts)) ≡ sumOver g ts
 sum-places g [] = refl
 sum-places g (t ∷ ts) =
     let e : length (t ∷ ts) ≡ 1 + length ts = omega arith in
-    let whole : sum (λ j. g (getD (t ∷ ts) j 0)) (below (length (t ∷ ts))) ≡ sum (λ j. g (getD (t ∷ ts) j 0)) (below (1 + length ts)) = ap (λ (k : ℕ). sum (λ j. g (getD (t ∷ ts) j 0)) (below k)) e in
-    let rest : sum (λ u. g (getD (t ∷ ts) (1 + u) 0)) (below (length ts)) ≡ sum (λ u. g (getD ts u 0)) (below (length ts)) =
+    let whole : sumOver (λ j. g (getD (t ∷ ts) j 0)) (below (length (t ∷ ts))) ≡ sumOver (λ j. g (getD (t ∷ ts) j 0)) (below (1 + length ts)) = ap (λ (k : ℕ). sumOver (λ j. g (getD (t ∷ ts) j 0)) (below k)) e in
+    let rest : sumOver (λ u. g (getD (t ∷ ts) (1 + u) 0)) (below (length ts)) ≡ sumOver (λ u. g (getD ts u 0)) (below (length ts)) =
     sum-same (λ u. g (getD (t ∷ ts) (1 + u) 0)) (λ u. g (getD ts u 0)) (length ts) (λ u l. let z : 1 + u ≡ suc u = omega arith in rw z) in
     omega (arith, whole, rest, sum-split (λ j. g (getD (t ∷ ts) j 0)) 1 (length ts), sum-places g ts)
 
-pub drivers-sum : (T : Turns) (g : ℕ → ℕ) → sum (λ j. g (getD (turnOrder (byDrivers T)) j 0)) (below (T .count)) ≡ sum g (below (T .count))
+pub drivers-sum : (T : Turns) (g : ℕ → ℕ) → sumOver (λ j. g (getD (turnOrder (byDrivers T)) j 0)) (below (T .count)) ≡ sumOver g (below (T .count))
 unfolding byDrivers
 drivers-sum T g =
-    ap (λ (k : ℕ). sum (λ j. g (getD (turnOrder (byDrivers T)) j 0)) (below k)) (sym (order-length (byDrivers T)))
+    ap (λ (k : ℕ). sumOver (λ j. g (getD (turnOrder (byDrivers T)) j 0)) (below k)) (sym (order-length (byDrivers T)))
     ∙ sum-places g (turnOrder (byDrivers T))
     ∙ ordering.order-sum (byDrivers T) g
 
@@ -234,7 +234,7 @@ drivers-sum T g =
 module _ (e : Extent) (cols prices sums : List ℕ) (s : SumsTo (turnsIn e cols) (e .slopes) prices sums (e .size .count)) {a : ℕ} where
   pub both-are : a ≡ slopesSum prices (e .slopes) → a + getD sums (e .size .count) 0 ≡ priceSum (turnsIn e cols) (e .slopes) prices
   unfolding slopesSum placesSum placePrice placeDriver priceSum turnsBy byDrivers
-  both-are f = rw f (ap (λ (n : ℕ). sum (λ k. slopePrice prices (k + 1)) (below (e .slopes)) + n)
+  both-are f = rw f (ap (λ (n : ℕ). sumOver (λ k. slopePrice prices (k + 1)) (below (e .slopes)) + n)
       (s .values (e .size .count) (omega arith) ∙ drivers-sum (turnsBy (e .size) cols) (λ u. cond (ltb 0 (turnsBy (e .size) cols .driver u)) (turnPrice (e .slopes) prices u) 0)))
 
   pub both-most : e .size .count ≤ mostTurns → a ≤ mostSlopes * mostPrice → a + getD sums (e .size .count) 0 ≤ (mostSlopes + mostTurns) * mostPrice

@@ -6,7 +6,7 @@ use mathlib.Core.List.{List}
 use Prim.Native.Nat.{ℕ, zero, suc, _+_, _-_, _*_, _≤_, _<_, max}
 use lib.Dec.{ltb}
 use lib.ListN.{length, getD, set}
-use Rattle.lists.specs.Lists.{sum, below}
+use Rattle.lists.specs.Lists.{sumOver, below}
 use Rattle.turn.specs.Turn.{mostDriver}
 use Rattle.model.specs.Turns.{Turns}
 use Rattle.best_spec.specs.Table.{turnOrder}
@@ -65,11 +65,11 @@ placePrice T slopes prices j = cond (ltb 0 (placeDriver T j)) (turnPrice slopes 
 
 -- what is paid at the first n places
 unfoldable pub placesSum : Turns → ℕ → List ℕ → ℕ → ℕ
-placesSum T slopes prices n = sum (placePrice T slopes prices) (below n)
+placesSum T slopes prices n = sumOver (placePrice T slopes prices) (below n)
 
 -- the prices of the first n slopes
 unfoldable pub slopesSum : List ℕ → ℕ → ℕ
-slopesSum prices n = sum (λ k. slopePrice prices (k + 1)) (below n)
+slopesSum prices n = sumOver (λ k. slopePrice prices (k + 1)) (below n)
 
 -- the orders with turn t at place i of the drivers' order, and its run
 abbrev pub withRun : List ℕ → ℕ → ℕ → ℕ → ℕ → List ℕ
@@ -146,10 +146,10 @@ pub record NamedFrom (T : Turns) (n r : ℕ) : Type 0 where
   pub named : (j : ℕ) → r ≤ j → j < n → 0 < placeDriver T j
 
 -- the first k of n prices are summed up
-pub record SummedTo (want : ℕ → ℕ) (n k sum : ℕ) : Type 0 where
+pub record SummedTo (want : ℕ → ℕ) (n k sumOver : ℕ) : Type 0 where
   pub within : k ≤ n
-  pub is : sum ≡ want k
-  pub most : sum ≤ k * mostPrice
+  pub is : sumOver ≡ want k
+  pub most : sumOver ≤ k * mostPrice
 
 -- the first i turns have their numbers, in a list for all turns that a sheet can have
 pub record NumbersTo (number : ℕ → ℕ) (numbers : List ℕ) (i : ℕ) : Type 0 where

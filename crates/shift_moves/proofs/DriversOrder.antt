@@ -70,10 +70,10 @@ no-zero false = refl
 -- no turn pays the price of one that names no driver
 pub no-payers : (T : Turns) (S : List Bool) (u : ℕ) → T .driver u ≡ 0 → turnPayers T S u ≡ 0
 unfolding turnPayers chosen paysTurn byDriver oneDriver
-no-payers T S u e = sum-zero (λ t. cond (has S t) (cond (paysTurn T u t) 1 0) 0) (all-of (λ t. rw (unpaid t) (no-zero (has S t))) (below (T .count)))
+no-payers T S u e = sum-zero (λ t. cond (has S t) (cond (paysTurn T u t) 1 0) 0) (all-of (λ t. rw (pays-not t) (no-zero (has S t))) (below (T .count)))
   where
-    unpaid : (t : ℕ) → paysTurn T u t ≡ false
-    unpaid t = rw e
+    pays-not : (t : ℕ) → paysTurn T u t ≡ false
+    pays-not t = rw e
 
 -- ---- as the code leaves it
 

@@ -12,7 +12,7 @@ use lib.Dec.{ltb, leb, eqb}
 use lib.ListN.{length, getD, set, drop, replicate, length-set, length-replicate, getD-replicate}
 use lib.Seq.{drop-cons, drop-length, getD-set-same, getD-set-other}
 use borrow.Author.Tests.{lt-ltb, le-ltb, le-leb, lt-leb, eq-eqb, ne-eqb}
-use Rattle.lists.specs.Lists.{sum, All, none, more}
+use Rattle.lists.specs.Lists.{sumOver, All, none, more}
 use Rattle.lists.proofs.Sums.{sum-add, sum-zero, all-of, all-map, all-at}
 use Rattle.lists.specs.Counting.{sumBefore}
 use Rattle.sheet.specs.Kind.{mostTurns}
@@ -25,7 +25,7 @@ one-most : (b : Bool) → cond b 1 0 ≤ 1
 one-most true = omega arith
 one-most false = omega arith
 
-sum-most : (q : ℕ → Bool) (ts : List ℕ) → sum (λ t. cond (q t) 1 0) ts ≤ length ts
+sum-most : (q : ℕ → Bool) (ts : List ℕ) → sumOver (λ t. cond (q t) 1 0) ts ≤ length ts
 sum-most q [] = omega arith
 sum-most q (t ∷ ts) = omega (arith, one-most (q t), sum-most q ts)
 
@@ -120,7 +120,7 @@ run-step a b m l = go (decLt a m) (ℕ-discrete a m) (decLt b m) (ℕ-discrete b
     go (no x) (no e) (no y) d = rw (le-ltb a (suc m) (omega arith), ne-eqb b m (omega arith), le-ltb a m (omega arith), ne-eqb a m e)
 
 -- a sum over turns that are equal one by one
-pub sum-equal : (g h : ℕ → ℕ) {ts : List ℕ} → All (λ t. g t ≡ h t) ts → sum g ts ≡ sum h ts
+pub sum-equal : (g h : ℕ → ℕ) {ts : List ℕ} → All (λ t. g t ≡ h t) ts → sumOver g ts ≡ sumOver h ts
 sum-equal g h none = refl
 sum-equal g h (more e es) = omega (arith, e, sum-equal g h es)
 

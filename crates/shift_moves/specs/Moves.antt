@@ -6,7 +6,7 @@ use mathlib.Core.List.{List}
 use Prim.Native.Nat.{ℕ, _+_, _-_, _*_, _≤_, _<_}
 use lib.Dec.{ltb, leb, eqb}
 use lib.ListN.{length, getD}
-use Rattle.lists.specs.Lists.{sum, All}
+use Rattle.lists.specs.Lists.{sumOver, All}
 use Rattle.lists.specs.Counting.{sumBefore}
 use Rattle.model.specs.Choice.{chosen}
 use Rattle.sheet.specs.Kind.{mostTurns}
@@ -24,11 +24,11 @@ numberBehind numbers at t = getD numbers (at + t) 0
 
 -- how many turns of a list have number k
 unfoldable pub timesTaken : List ℕ → (ℕ → ℕ) → ℕ → ℕ
-timesTaken taken f k = sum (λ t. cond (eqb (f t) k) 1 0) taken
+timesTaken taken f k = sumOver (λ t. cond (eqb (f t) k) 1 0) taken
 
 -- how many of them pay for the place of the drivers' order before place m: their runs start before m and do not end before it
 unfoldable pub payersBefore : List ℕ → List ℕ → ℕ → ℕ
-payersBefore taken orders m = sum (λ t. cond (ltb (paidFrom orders t) m && leb m (paidTo orders t)) 1 0) taken
+payersBefore taken orders m = sumOver (λ t. cond (ltb (paidFrom orders t) m && leb m (paidTo orders t)) 1 0) taken
 
 -- those that joined before place m, less those that left before it
 abbrev pub payersPresent : List ℕ → List ℕ → ℕ → ℕ
@@ -74,7 +74,7 @@ pub record Taken (n : ℕ) (taken : List ℕ) : Type 0 where
 
 -- it has the turns of a set: whatever is summed up, it comes to the same over both
 unfoldable pub TurnsOf : ℕ → List Bool → List ℕ → Type 0
-TurnsOf n S taken = (f : ℕ → ℕ) → sum f taken ≡ chosen n S f
+TurnsOf n S taken = (f : ℕ → ℕ) → sumOver f taken ≡ chosen n S f
 
 -- the turns of a list have numbers in a column from a place on, each with a place in a table of payers
 pub record SmallNumbers (taken numbers : List ℕ) (at : ℕ) : Type 0 where

@@ -11,7 +11,7 @@ ghost use Rattle.check_spec.specs.Check.{checkOf};
 ghost use Rattle.plan_spec.specs.Plan.{planOf};
 ghost use Rattle.listing_spec.specs.List.{listOf};
 ghost use Rattle.assign_spec.specs.Assign.{assignOf};
-ghost use Rattle.sheet.specs.Screen.{readShortOf};
+ghost use Rattle.sheet.specs.Short.{readShortOf};
 ghost use Rattle.draw_spec.specs.DrawnSheet.{drawOf};
 ghost use Rattle.best_spec.specs.Best.{bestOf};
 ghost use Rattle.limit_spec.specs.Limit.{limitOf};

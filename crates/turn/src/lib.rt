@@ -64,10 +64,10 @@ pub fn outside_range(x: u32, top: u16) -> bool
 }
 
 // Whether a turn has no length or ends after the shift.
-fn past_shift(start: u16, length: u16) -> bool
-    ensures { λ r. ⌜ r ≡ pastShift start length ⌝ }
+fn past_shift(start: u16, minutes: u16) -> bool
+    ensures { λ r. ⌜ r ≡ pastShift start minutes ⌝ }
 {
-    length == 0 || SHIFT_MINUTES < start as u32 + length as u32
+    minutes == 0 || SHIFT_MINUTES < start as u32 + minutes as u32
 }
 
 // The first thing wrong with a turn's values, or 0.

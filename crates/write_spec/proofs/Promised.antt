@@ -12,11 +12,11 @@ use Rattle.turn.specs.declared.Turn.{Turn}
 use Rattle.turn.specs.declared.Counts.{Counts}
 use Rattle.turn.specs.Turn.{rows, tableRows, tableTurns}
 use Rattle.turn.proofs.Rows.{rows-length, turns-rows}
-use Rattle.sheet.specs.Kind.{garage}
+use Rattle.sheet.specs.Kind.{shiftSheet}
 use Rattle.sheet.specs.Record.{firstCursor}
 use Rattle.sheet.specs.Read.{tableOf, readOf}
 use Rattle.sheet.specs.Layout.{recordOf}
-use Rattle.sheet.proofs.SoundKinds.{garage-sound}
+use Rattle.sheet.proofs.SoundKinds.{shift-sheet-sound}
 use Rattle.sheet.proofs.Accepting.{sheet-reads}
 use Rattle.write_spec.specs.Order.{InWrittenOrder}
 use Rattle.write_spec.specs.Write.{mapFor, recordsOf, sheetOf, writtenTurns, tableCauses, writeOf}
@@ -65,7 +65,7 @@ module _ (counts : Counts) (table out : List ℕ) (z : writeOf counts table out 
   sheet-again : (other : List ℕ) → length (sheetOf counts (writtenTurns table)) ≤ length other → writeOf counts (rows (writtenTurns table)) other ≡ wrote (sheetOf counts (writtenTurns table)) other
   unfolding tableOf
   sheet-again other h =
-      let r = sheet-reads garage garage-sound (sheetOf counts (writtenTurns table)) counts (writtenTurns table) (written-sheet counts table fine) in
+      let r = sheet-reads shiftSheet shift-sheet-sound (sheetOf counts (writtenTurns table)) counts (writtenTurns table) (written-sheet counts table fine) in
       rw (r .1, r .2) at (write-again counts table other fine h)
 
   -- ---- the first map
@@ -79,7 +79,7 @@ module _ (counts : Counts) (table out : List ℕ) (z : writeOf counts table out 
         many = rw (is-sheet, is-wrote);
         below = rw is-sheet (written-bytes counts table fine);
         accepted = rw is-sheet (written-accepted counts table fine);
-        its-counts = rw is-sheet (sheet-reads garage garage-sound (sheetOf counts (writtenTurns table)) counts (writtenTurns table) (written-sheet counts table fine) .1);
+        its-counts = rw is-sheet (sheet-reads shiftSheet shift-sheet-sound (sheetOf counts (writtenTurns table)) counts (writtenTurns table) (written-sheet counts table fine) .1);
         read-answer = λ lent l. rw (is-read lent l);
         read-turns = λ lent l. rw (is-table lent l, turns-rows) (sorted-order (tableTurns table));
         read-behind = is-behind;

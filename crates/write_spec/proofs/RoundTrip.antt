@@ -24,13 +24,13 @@ use Rattle.turn.specs.declared.Turn.{Turn}
 use Rattle.turn.specs.declared.Counts.{Counts}
 use Rattle.turn.specs.Turn.{rowNumbers, rows, tableRows, tableTurns, InRange}
 use Rattle.turn.proofs.Rows.{rows-length, table-turns-length, turns-rows}
-use Rattle.sheet.specs.Kind.{garage}
+use Rattle.sheet.specs.Kind.{shiftSheet}
 use Rattle.sheet.specs.Record.{firstCursor}
 use Rattle.sheet.specs.Read.{countsIn, turnCount, countCauses, causesFor, turnsOf, tableOf, readCausesFor, readRefused, readFor, readOf, Reading}
 use Rattle.sheet.specs.Layout.{fieldBytes, recordOf}
 use Rattle.sheet.specs.Accepted.{Legal, Records, SheetFor, Accepted}
 use Rattle.sheet.specs.Accepted as accepted
-use Rattle.sheet.proofs.SoundKinds.{garage-sound}
+use Rattle.sheet.proofs.SoundKinds.{shift-sheet-sound}
 use Rattle.sheet.proofs.Headers.{legal-counts, counts-numbered}
 use Rattle.sheet.proofs.Readings.{causes-numbered}
 use Rattle.sheet.proofs.Accepting.{sheet-reads}
@@ -45,13 +45,13 @@ use Rattle.refusal.proofs.Outcome.{enough-iff}
 
 -- ---- what is written is a sheet of these turns
 
-records-written : (counts : Counts) (first : Bool) (p : Turn) {ts : List Turn} → All (InRange counts) ts → Records garage counts first p (recordsOf first p ts) ts
+records-written : (counts : Counts) (first : Bool) (p : Turn) {ts : List Turn} → All (InRange counts) ts → Records shiftSheet counts first p (recordsOf first p ts) ts
 unfolding recordsOf
 records-written counts first p All.none = accepted.Records.none
 records-written counts first p (All.more {t = t} r rs) = accepted.Records.more (map-good first p t) (map-carries first p t) r (records-written counts false t rs)
 
-pub sheet-for : (counts : Counts) (ts : List Turn) → Legal garage counts (length ts) → firstOf (turnsCauses (garage .refusals) counts ts) ≡ 0 → SheetFor garage (sheetOf counts ts) counts ts
-unfolding sheetOf garage
+pub sheet-for : (counts : Counts) (ts : List Turn) → Legal shiftSheet counts (length ts) → firstOf (turnsCauses (shiftSheet .refusals) counts ts) ≡ 0 → SheetFor shiftSheet (sheetOf counts ts) counts ts
+unfolding sheetOf shiftSheet
 sheet-for counts ts l e = record { legal = l; body = allRecords ts; bytes = refl; records = records-written counts true (firstCursor .prev) (fine-all counts ts e) }
 
 -- ---- and its numbers are bytes
@@ -89,7 +89,7 @@ module _ (counts : Counts) (table : List ℕ) (e : firstOf (tableCauses counts t
   pub written-rows : length (writtenTurns table) ≡ tableRows table
   written-rows = sorted-length (tableTurns table) ∙ table-turns-length (tableRows table) table 0
 
-  pub written-sheet : SheetFor garage (sheetOf counts (writtenTurns table)) counts (writtenTurns table)
+  pub written-sheet : SheetFor shiftSheet (sheetOf counts (writtenTurns table)) counts (writtenTurns table)
   unfolding sortedTurns
   written-sheet =
       let s = table-writable counts table e in
@@ -100,7 +100,7 @@ module _ (counts : Counts) (table : List ℕ) (e : firstOf (tableCauses counts t
   written-accepted = record { counts = counts; turns = writtenTurns table; sheet = written-sheet }
 
   pub written-bytes : Bytes (sheetOf counts (writtenTurns table))
-  unfolding garage
+  unfolding shiftSheet
   written-bytes = let l = table-writable counts table e .legal in sheet-below counts (writtenTurns table) (omega arith) (omega arith)
 
 -- ---- reading
@@ -113,12 +113,12 @@ readingOf counts ts lent =
     (beside (readRefused bufferTooSmall) lent)
     (beside (record { refusal = 0; groomers = counts .groomers; slopes = counts .slopes; turns = length ts }) (atFront (rows ts) lent))
 
-pub reading : {s : List ℕ} {counts : Counts} {ts : List Turn} → SheetFor garage s counts ts → (lent : List ℕ) → readOf s lent ≡ readingOf counts ts lent
+pub reading : {s : List ℕ} {counts : Counts} {ts : List Turn} → SheetFor shiftSheet s counts ts → (lent : List ℕ) → readOf s lent ≡ readingOf counts ts lent
 unfolding readOf readFor readCausesFor firstOf tableOf unless
 reading {s} {counts} {ts} f lent =
-    let r = sheet-reads garage garage-sound s counts ts f in
-    let n : firstOf (readCausesFor garage s (length lent)) ≡ cond (ltb (length lent) (rowNumbers * length ts)) bufferTooSmall 0 =
-    first-goes (causesFor garage s) (bufferTooSmall when ltb (length lent) (rowNumbers * turnCount s) ∷ []) (causes-numbered garage (garage-sound .numbers) s) (r .0) ∙ rw (r .3) in
+    let r = sheet-reads shiftSheet shift-sheet-sound s counts ts f in
+    let n : firstOf (readCausesFor shiftSheet s (length lent)) ≡ cond (ltb (length lent) (rowNumbers * length ts)) bufferTooSmall 0 =
+    first-goes (causesFor shiftSheet s) (bufferTooSmall when ltb (length lent) (rowNumbers * turnCount s) ∷ []) (causes-numbered shiftSheet (shift-sheet-sound .numbers) s) (r .0) ∙ rw (r .3) in
     rw (n, ap (λ (c : Counts). c .groomers) (r .1), ap (λ (c : Counts). c .slopes) (r .1), r .2, r .3) (go (ltb (length lent) (rowNumbers * length ts)))
   where
     go : (b : Bool)
@@ -176,15 +176,15 @@ read-in-order table = rw (turns-rows (writtenTurns table)) (sorted-order (tableT
 pub writable-table : (counts : Counts) (table : List ℕ) → Writable counts table → firstOf (tableCauses counts table) ≡ 0
 unfolding tableCauses firstOf
 writable-table counts table s =
-    let n = counts-numbered garage counts (tableRows table) (garage-sound .numbers) in
-    rw (eq-eqb (length table % rowNumbers) 0 (s .whole)) (first-goes (countCauses garage counts (tableRows table)) _ n (legal-counts garage counts (tableRows table) (s .legal)) ∙ s .fine)
+    let n = counts-numbered shiftSheet counts (tableRows table) (shift-sheet-sound .numbers) in
+    rw (eq-eqb (length table % rowNumbers) 0 (s .whole)) (first-goes (countCauses shiftSheet counts (tableRows table)) _ n (legal-counts shiftSheet counts (tableRows table) (s .legal)) ∙ s .fine)
 
-records-in-range : {limits : Counts} {first : Bool} {p : Turn} {bytes : List ℕ} {ts : List Turn} → Records garage limits first p bytes ts → All (InRange limits) ts
+records-in-range : {limits : Counts} {first : Bool} {p : Turn} {bytes : List ℕ} {ts : List Turn} → Records shiftSheet limits first p bytes ts → All (InRange limits) ts
 records-in-range accepted.Records.none = All.none
 records-in-range (accepted.Records.more map kept fits r) = All.more fits (records-in-range r)
 
 -- the table of a sheet of these counts and turns is one that the writer accepts
-sheet-table : {s : List ℕ} {counts : Counts} {ts : List Turn} → SheetFor garage s counts ts → firstOf (tableCauses counts (rows ts)) ≡ 0
+sheet-table : {s : List ℕ} {counts : Counts} {ts : List Turn} → SheetFor shiftSheet s counts ts → firstOf (tableCauses counts (rows ts)) ≡ 0
 sheet-table {s} {counts} {ts} f =
     let n : tableRows (rows ts) ≡ length ts = omega (arith, rows-length ts) in
     writable-table counts (rows ts) (record { whole = omega (arith, rows-length ts); legal = rw n (f .legal); fine = rw (turns-rows ts) (all-fine counts (records-in-range (f .records))) })
@@ -201,11 +201,11 @@ pub record Rewritten (s : List ℕ) : Type 0 where
 pub rewritten : (s : List ℕ) → Accepted s → Rewritten s
 unfolding tableOf
 rewritten s a =
-    let r = sheet-reads garage garage-sound s (a .counts) (a .turns) (a .sheet) in
-    let f : SheetFor garage s (countsIn s) (turnsOf s) = rw (r .1, r .2) (a .sheet) in
+    let r = sheet-reads shiftSheet shift-sheet-sound s (a .counts) (a .turns) (a .sheet) in
+    let f : SheetFor shiftSheet s (countsIn s) (turnsOf s) = rw (r .1, r .2) (a .sheet) in
     let t = turns-rows (turnsOf s) in
     let e = sheet-table f in
-    let w : SheetFor garage (sheetOf (countsIn s) (sortedTurns (turnsOf s))) (countsIn s) (sortedTurns (turnsOf s)) = subst (λ (ts : List Turn). SheetFor garage (sheetOf (countsIn s) (sortedTurns ts)) (countsIn s) (sortedTurns ts)) t (written-sheet (countsIn s) (rows (turnsOf s)) e) in
+    let w : SheetFor shiftSheet (sheetOf (countsIn s) (sortedTurns (turnsOf s))) (countsIn s) (sortedTurns (turnsOf s)) = subst (λ (ts : List Turn). SheetFor shiftSheet (sheetOf (countsIn s) (sortedTurns ts)) (countsIn s) (sortedTurns ts)) t (written-sheet (countsIn s) (rows (turnsOf s)) e) in
     record {
       turns-same = t;
       writes = λ out l. writing (countsIn s) (rows (turnsOf s)) out e (rw t l) ∙ rw t;
@@ -228,9 +228,9 @@ one-sheet counts a b out same whole e =
     write-clear counts b out z ∙ rw (← t) (sym (write-clear counts a out e))
 
 -- of sheets with a table's turns in the written order, none is shorter than the one that is written, and none of its length is another
-module _ (counts : Counts) (table : List ℕ) {s : List ℕ} {ts : List Turn} (f : SheetFor garage s counts ts) (o : InWrittenOrder (tableTurns table) ts) where
-  in-order-sheet : SheetFor garage s counts (writtenTurns table)
-  in-order-sheet = subst (λ (us : List Turn). SheetFor garage s counts us) (sorted-iff (tableTurns table) ts .0 o) f
+module _ (counts : Counts) (table : List ℕ) {s : List ℕ} {ts : List Turn} (f : SheetFor shiftSheet s counts ts) (o : InWrittenOrder (tableTurns table) ts) where
+  in-order-sheet : SheetFor shiftSheet s counts (writtenTurns table)
+  in-order-sheet = subst (λ (us : List Turn). SheetFor shiftSheet s counts us) (sorted-iff (tableTurns table) ts .0 o) f
 
   pub written-shortest : length (sheetOf counts (writtenTurns table)) ≤ length s
   written-shortest = shortest in-order-sheet
@@ -244,6 +244,6 @@ pub write-again : (counts : Counts) (table out : List ℕ) → firstOf (tableCau
 unfolding tableOf
 write-again counts table out e l =
     let s = sheetOf counts (writtenTurns table) in
-    let r = sheet-reads garage garage-sound s counts (writtenTurns table) (written-sheet counts table e) in
+    let r = sheet-reads shiftSheet shift-sheet-sound s counts (writtenTurns table) (written-sheet counts table e) in
     let again : sheetOf (countsIn s) (sortedTurns (turnsOf s)) ≡ s = rw (r .1, r .2, sorted-twice) in
     rewritten s (written-accepted counts table e) .writes out (rw again l) ∙ ap (λ (w : List ℕ). wrote w out) again

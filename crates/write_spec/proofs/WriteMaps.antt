@@ -7,7 +7,7 @@ use native.Mathlib.Omega.{arith}
 use lib.Dec.{eqb}
 use borrow.Author.Tests.{eq-eqb, ne-eqb, eqb-true, eqb-false}
 use Rattle.turn.specs.declared.Turn.{Turn}
-use Rattle.sheet.specs.Kind.{firstMap, fullMap, garage}
+use Rattle.sheet.specs.Kind.{firstMap, fullMap, shiftSheet}
 use Rattle.sheet.specs.Record.{widthOf, firstCursor}
 use Rattle.write_spec.specs.Write.{differs, mapFor}
 use Rattle.sheet.specs.Accepted.{GoodMap, Carried}
@@ -111,8 +111,8 @@ unfolding mapFor firstCursor
 first-least t z = rw (eq-eqb 0 (t .driver) (sym z))
 
 -- it is a map that the record may have
-pub map-good : (first : Bool) (p t : Turn) → GoodMap (garage .maps) first (mapFor first p t)
-unfolding garage
+pub map-good : (first : Bool) (p t : Turn) → GoodMap (shiftSheet .maps) first (mapFor first p t)
+unfolding shiftSheet
 map-good true p t = record { below = map-most p t true; full = λ e. first-one p t }
 map-good false p t = record { below = map-most p t false; full = λ e. absurd (true≢false (sym e)) }
 
@@ -161,18 +161,18 @@ first-lowest : (m : ℕ) → (m ≡ firstMap) ⊎ (m ≡ fullMap) → Lowest m
 first-lowest m (inl e) = rw e (record { slope = omega arith; groomer = omega arith; start = omega arith; length = omega arith; worth = omega arith })
 first-lowest m (inr e) = rw e (record { slope = omega arith; groomer = omega arith; start = omega arith; length = omega arith; worth = omega arith })
 
-garage-first : (m : ℕ) → GoodMap (garage .maps) true m → Lowest m
-unfolding garage
-garage-first m g = first-lowest m (g .full refl)
+shift-sheet-first : (m : ℕ) → GoodMap (shiftSheet .maps) true m → Lowest m
+unfolding shiftSheet
+shift-sheet-first m g = first-lowest m (g .full refl)
 
-pub map-below : (first : Bool) (m : ℕ) → GoodMap (garage .maps) first m → m ≤ fullMap
-unfolding garage
+pub map-below : (first : Bool) (m : ℕ) → GoodMap (shiftSheet .maps) first m → m ≤ fullMap
+unfolding shiftSheet
 map-below first m g = g .below
 
-map-within : (first : Bool) (p t : Turn) (m : ℕ) → GoodMap (garage .maps) first m → Carried m p t → Within (mapFor first p t) m
+map-within : (first : Bool) (p t : Turn) (m : ℕ) → GoodMap (shiftSheet .maps) first m → Carried m p t → Within (mapFor first p t) m
 map-within true p t m g c =
     let b = first-bits p t in
-    let l = garage-first m g in
+    let l = shift-sheet-first m g in
     record {
       slope = rw (b .slope) (l .slope);
       groomer = rw (b .groomer) (l .groomer);
@@ -200,7 +200,7 @@ within-same : {a0 a1 a2 a3 a4 a5 b0 b1 b2 b3 b4 b5 : ℕ} → a0 ≤ b0 → a1 �
     → b0 + 2 * b1 + 4 * b2 + 8 * b3 + 16 * b4 + 32 * b5 ≡ a0 + 2 * a1 + 4 * a2 + 8 * a3 + 16 * a4 + 32 * a5
 within-same h0 h1 h2 h3 h4 h5 l = omega arith
 
-module _ (first : Bool) (p t : Turn) (m : ℕ) (g : GoodMap (garage .maps) first m) (c : Carried m p t) where
+module _ (first : Bool) (p t : Turn) (m : ℕ) (g : GoodMap (shiftSheet .maps) first m) (c : Carried m p t) where
   pub written-least : widthOf (mapFor first p t) ≤ widthOf m
   unfolding widthOf
   written-least = let w = map-within first p t m g c in within-width (w .slope) (w .groomer) (w .start) (w .length) (w .worth) (w .driver)

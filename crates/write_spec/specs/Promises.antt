@@ -9,7 +9,7 @@ use Rattle.wire.specs.Number.{Bytes}
 use Rattle.turn.specs.declared.Turn.{Turn}
 use Rattle.turn.specs.declared.Counts.{Counts}
 use Rattle.turn.specs.Turn.{countsOf, rowNumbers, tableRows, tableTurns}
-use Rattle.sheet.specs.Kind.{garage}
+use Rattle.sheet.specs.Kind.{shiftSheet}
 use Rattle.sheet.specs.Read.{countsIn, readOf}
 use Rattle.sheet.specs.Accepted.{SheetFor, Accepted}
 use Rattle.write_spec.specs.Order.{SameTurns, InWrittenOrder}
@@ -46,9 +46,9 @@ pub record WritePromised (counts : Counts) (table out : List ℕ) : Type 0 where
   -- and goes on as it was
   pub read-behind : (lent : List ℕ) → length table ≤ length lent → drop (length table) (readOf (bytesWritten counts table out) lent .lent) ≡ drop (length table) lent
   -- no sheet of these counts with the table's turns in the written order is shorter
-  pub shortest : {s : List ℕ} {ts : List Turn} → SheetFor garage s counts ts → InWrittenOrder (tableTurns table) ts → length (bytesWritten counts table out) ≤ length s
+  pub shortest : {s : List ℕ} {ts : List Turn} → SheetFor shiftSheet s counts ts → InWrittenOrder (tableTurns table) ts → length (bytesWritten counts table out) ≤ length s
   -- and one of the same length is these very bytes
-  pub only : {s : List ℕ} {ts : List Turn} → SheetFor garage s counts ts → InWrittenOrder (tableTurns table) ts → length s ≡ length (bytesWritten counts table out) → s ≡ bytesWritten counts table out
+  pub only : {s : List ℕ} {ts : List Turn} → SheetFor shiftSheet s counts ts → InWrittenOrder (tableTurns table) ts → length s ≡ length (bytesWritten counts table out) → s ≡ bytesWritten counts table out
   -- the counts and the table that are read of them, written again into any lent bytes that are no fewer, give the same bytes, and behind them what was there
   pub again : (lent other : List ℕ) → length table ≤ length lent → length (bytesWritten counts table out) ≤ length other
       → writeOf (countsBack counts table out lent) (tableBack counts table out lent) other ≡ wrote (bytesWritten counts table out) other

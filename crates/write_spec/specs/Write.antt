@@ -12,7 +12,7 @@ use Rattle.turn.specs.declared.Counts.{Counts}
 use Rattle.wire.specs.Mark.{sheetMark}
 use Rattle.turn.specs.declared.Refusals.{Refusals}
 use Rattle.turn.specs.Turn.{rowNumbers, tableRows, tableTurns, turnCauses}
-use Rattle.sheet.specs.Kind.{firstMap, garage}
+use Rattle.sheet.specs.Kind.{firstMap, shiftSheet}
 use Rattle.sheet.specs.Record.{firstCursor}
 use Rattle.sheet.specs.Read.{countCauses}
 use Rattle.sheet.specs.Layout.{recordOf, headerFor}
@@ -64,7 +64,7 @@ turnsCauses refusals counts (t ∷ ts) = turnCauses refusals counts t ++ turnsCa
 unfoldable pub tableCauses : Counts → List ℕ → List Cause
 tableCauses counts table =
     partialTurn when not (eqb (length table % rowNumbers) 0)
-    ∷ (countCauses garage counts (tableRows table) ++ turnsCauses (garage .refusals) counts (tableTurns table))
+    ∷ (countCauses shiftSheet counts (tableRows table) ++ turnsCauses (shiftSheet .refusals) counts (tableTurns table))
 
 -- and last the lent bytes
 unfoldable pub writeCauses : Counts → List ℕ → ℕ → List Cause

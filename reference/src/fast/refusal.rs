@@ -39,7 +39,7 @@ pub const PARTIAL_TURN: u8 = 18;
 /// A turn's driver is above 40.
 pub const BAD_DRIVER: u8 = 19;
 /// The sheet has over 96 turns, which are too many for the short reader.
-pub const TOO_MANY_FOR_SCREEN: u8 = 20;
+pub const TOO_MANY_FOR_SHORT: u8 = 20;
 /// A slope has two turns, or a turn names a driver.
 pub const NOT_SINGLE_TURNS: u8 = 21;
 /// The sheet has over 64 turns, which are too many to search.

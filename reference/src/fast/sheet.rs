@@ -45,7 +45,7 @@ pub fn read(sheet: &[u8], table: &mut [u16]) -> Result<Header, u8> {
 /// Reads a sheet of at most [`MOST_SHORT_TURNS`] turns into a turn table.
 pub fn read_short(sheet: &[u8], table: &mut [u16]) -> Result<Header, u8> {
     let mut turns = [Turn::default(); MOST_SHORT_TURNS];
-    let header = parse_within(sheet, &mut turns, refusal::TOO_MANY_FOR_SCREEN)?;
+    let header = parse_within(sheet, &mut turns, refusal::TOO_MANY_FOR_SHORT)?;
     put_table(header, &turns, table)
 }
 

@@ -328,7 +328,7 @@ fn no_allowed_set_is_worth_more_than_promised() {
 /// The plan of the kind is full: nothing of its kind could be added. Two large
 /// windows are allowed together just if they do not clash.
 #[test]
-fn plans_are_full_and_large_ones_clash() {
+fn plans_are_full_and_large_ones_conflict() {
     let mut rng = Rng::new(142);
     for round in 0..1500 {
         let windows = rng.below(14) as usize;
@@ -351,8 +351,8 @@ fn plans_are_full_and_large_ones_clash() {
                     let mut two = vec![false; windows];
                     (two[a], two[b]) = (true, true);
                     let (x, y) = (&hall.windows[a], &hall.windows[b]);
-                    let clash = x.slope == y.slope || share_a_minute(x, y);
-                    assert_eq!(is_allowed(&hall, &two), !clash);
+                    let conflict = x.slope == y.slope || share_a_minute(x, y);
+                    assert_eq!(is_allowed(&hall, &two), !conflict);
                 }
             }
         }

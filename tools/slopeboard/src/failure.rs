@@ -217,7 +217,7 @@ fn limit(refusal: Refusal) -> Option<String> {
         }
         Refusal::TooManyTurns => format!("a sheet has at most {MOST_TURNS} turns"),
         Refusal::BadDriver => format!("a turn's driver is above {MOST_DRIVER}"),
-        Refusal::TooManyForScreen => format!("it has more than {MOST_SHORT_TURNS} turns"),
+        Refusal::TooManyForShort => format!("it has more than {MOST_SHORT_TURNS} turns"),
         Refusal::TooManyToSearch => {
             format!("it has more than {MOST_SEARCHED_TURNS} turns, too many to search")
         }
@@ -254,7 +254,7 @@ fn rule(refusal: Refusal) -> &'static str {
         Refusal::BadCounts
         | Refusal::TooManyTurns
         | Refusal::BadDriver
-        | Refusal::TooManyForScreen
+        | Refusal::TooManyForShort
         | Refusal::TooManyToSearch
         | Refusal::BadSeed
         | Refusal::BadDelays => "a limit is passed",

@@ -341,7 +341,7 @@ fn tables_written(corpus: &mut Corpus) {
     );
 }
 
-/// Where a planner goes astray, one sheet each; turns close to each other, equal
+/// Mistakes of a planner, one sheet each; turns close to each other, equal
 /// ends, and drivers.
 const PLANS: &str = "
 0 a turn that only the fill chooses: 1 1 0 60 10 0, 1 2 0 90 15 0, 2 2 30 70 4 0
