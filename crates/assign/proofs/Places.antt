@@ -10,7 +10,7 @@ use Rattle.instance_spec.specs.ByStart.{orderByStart}
 use Rattle.assign_spec.specs.Numbering.{numberFor}
 use Rattle.assign.specs.Serving.{NextIn, BusyUntil, Serving}
 use Rattle.assign.proofs.Serving.{earliest-none, used-least, serving-first, serving-turn, serving-more, serving-done, serving-used, serving-few}
-use Rattle.instance_by_start.proofs.OrderPlaces.{order-place, order-fits}
+use Rattle.instance.proofs.OrderPlaces.{order-place, order-fits}
 
 -- ---- a list put place by place
 

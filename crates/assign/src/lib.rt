@@ -24,7 +24,7 @@ fn number_by_order(p: Size, cols: &[u16; PLACES], order: &mut [u16], numbers: &m
     ensures { λ r. ⌜ (now (numbers .exit) ≡ numbersOf (turnsBy p (now (cols .entry))))
         × (r ≡ usedOf (turnsBy p (now (cols .entry)))) × (r ≤ mostTurns) ⌝ }
 {
-    instance_by_start::put_order(p, cols, &mut *order);
+    instance::put_order(p, cols, &mut *order);
     assigning::clear(&mut *numbers);
     assigning::number_all(p, cols, &*order, &mut *numbers)
 }

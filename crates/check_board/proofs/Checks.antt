@@ -22,10 +22,10 @@ use Rattle.instance.specs.Columns.{turnsBy}
 use Rattle.instance_spec.specs.Problem.{sheetTurns}
 use Rattle.instance.specs.Load.{shiftSize, Loaded}
 use Rattle.check_spec.specs.declared.CheckAnswer.{CheckAnswer}
-use Rattle.replay.specs.declared.replay.Judgement.{Judgement}
+use Rattle.check_board.specs.declared.replay.Judgement.{Judgement}
 use Rattle.check_spec.specs.Check.{boardCauses, checkCauses, checked, checkOf}
-use Rattle.replay.specs.Judged.{judged}
-use Rattle.replay.proofs.Faults.{judged-number, judged-limit}
+use Rattle.check_board.specs.Judged.{judged}
+use Rattle.check_board.proofs.Faults.{judged-number, judged-limit}
 use Rattle.refusal.proofs.Outcome.{unless-first, unless-none}
 use Rattle.instance.proofs.Posed.{loaded-held, loaded-turns}
 

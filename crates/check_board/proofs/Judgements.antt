@@ -22,10 +22,10 @@ use Rattle.board_open.proofs.Openings.{opened, shut, formed-steps, formed-map, 
 use Rattle.instance.specs.declared.columns.Size.{Size}
 use Rattle.instance.specs.Columns.{turnsBy, Held}
 use Rattle.selection.specs.Bounds.{HeldWithMap}
-use Rattle.replay.specs.declared.replay.Judgement.{Judgement}
+use Rattle.check_board.specs.declared.replay.Judgement.{Judgement}
 use Rattle.check_spec.specs.Check.{choiceCauses, stepCauses, ruleCauses, sumCauses, partCauses, boardCauses}
-use Rattle.replay.specs.Judged.{faultAt, judged}
-use Rattle.replay.proofs.Faults.{fault-judged, judged-number, judged-same}
+use Rattle.check_board.specs.Judged.{faultAt, judged}
+use Rattle.check_board.proofs.Faults.{fault-judged, judged-number, judged-same}
 
 -- ---- the choice
 

@@ -1,2 +1,5 @@
 pub mod Judgements
 pub mod Checks
+pub mod Faults
+pub mod Replays
+pub mod Order

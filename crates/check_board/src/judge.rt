@@ -10,15 +10,15 @@ ghost use Rattle.board.specs.Board.{boardHeader, stepSize, boardSteps, boardTal
 ghost use Rattle.instance.specs.Columns.{columnPlaces, turnsBy, Held};
 ghost use Rattle.selection.specs.Bounds.{HeldWithMap};
 ghost use Rattle.model.specs.Ceiling.{ceiling};
-ghost use Rattle.replay.specs.Judged.{judged};
+ghost use Rattle.check_board.specs.Judged.{judged};
 ghost use Rattle.check_spec.specs.Check.{choiceCauses, ruleCauses, sumCauses, partCauses, boardCauses, checked, checkOf};
+use super::replay::Judgement;
+use super::replay::fault_at;
+use super::replay::steps_fault;
 use check_spec::CheckAnswer;
 use instance::MOST_TURNS;
 use instance::PLACES;
 use instance::Size;
-use replay::Judgement;
-use replay::fault_at;
-use replay::steps_fault;
 
 // The first cause that the choice gives, 0 if none. Here and below, the room is for the rows of the
 // chosen turns, and then for all rows by end: nothing is said of what it holds afterwards.

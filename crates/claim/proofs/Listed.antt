@@ -12,8 +12,8 @@ use Rattle.instance_spec.specs.Problem.{sheetTurns}
 use Rattle.check_spec.specs.Check.{checkOf}
 use Rattle.plan_spec.specs.Plan.{plannedBoard, planOf}
 use Rattle.plan_spec.proofs.Planned.{planned-back}
-use Rattle.listing_spec.specs.List.{sumsFor, listingFor, sheetListing, listCauses, listOf}
-use Rattle.listing_spec.proofs.Listed.{sheet-rounds, sheet-lines, list-number}
+use Rattle.list_spec.specs.List.{sumsFor, listingFor, sheetListing, listCauses, listOf}
+use Rattle.list_spec.proofs.Listed.{sheet-rounds, sheet-lines, list-number}
 use Rattle.claim.specs.Listed.{sumsIn, textFor, ListPromised}
 use Rattle.claim.proofs.Claimed.{planned-passes, planned-answer, plan-front}
 use Rattle.refusal.proofs.Outcome.{enough-iff}

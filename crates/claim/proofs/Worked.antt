@@ -25,9 +25,9 @@ use Rattle.board_open.specs.Open.{badSizes, malformed, openOf, stepsPart}
 use Rattle.check_spec.specs.Check.{choiceCauses, afterRight, stepCauses, ruleCauses, sumCauses, boardCauses, checkCauses, checkOf}
 use Rattle.plan_spec.specs.Plan.{boardFor, plannedBoard, planCauses, planOf}
 use Rattle.text.specs.Decimal.{decimalIn, decimal}
-use Rattle.listing_spec.specs.Round.{startsAt, startsBelow, roundFrom, roundOf}
-use Rattle.listing_spec.specs.Text.{labelled, twoLabelled, headingOf, lineOf, linesOf, groomerText, groomersFrom, sumsLine, listingOf}
-use Rattle.listing_spec.specs.List.{sumsFor, listingFor, sheetListing, listCauses, listOf}
+use Rattle.list_spec.specs.Round.{startsAt, startsBelow, roundFrom, roundOf}
+use Rattle.list_spec.specs.Text.{labelled, twoLabelled, headingOf, lineOf, linesOf, groomerText, groomersFrom, sumsLine, listingOf}
+use Rattle.list_spec.specs.List.{sumsFor, listingFor, sheetListing, listCauses, listOf}
 use Rattle.claim.specs.Cases.{costsOf, WorkedCases}
 use Rattle.refusal.specs.Outcome.{unless}
 

@@ -17,7 +17,7 @@ use Rattle.write_spec.specs.Write.{writeOf}
 use Rattle.board_open.specs.Open.{openOf, stepsPart}
 use Rattle.check_spec.specs.Check.{checkOf, checked}
 use Rattle.plan_spec.specs.Plan.{planOf}
-use Rattle.listing_spec.specs.List.{listOf}
+use Rattle.list_spec.specs.List.{listOf}
 use Rattle.sheet.specs.Shift.{shift}
 use Rattle.board.specs.Shift.{shiftBoard}
 use Rattle.claim.specs.Shift.{shiftTable, shiftWritten, shiftSteps, stepsExchanged, shiftListing, header, emptyBoard, lateTurn, wrongWorth, oneAndThree, oneToFill}

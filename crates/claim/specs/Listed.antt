@@ -11,10 +11,10 @@ use Rattle.board.specs.Board.{boardMap, boardChoice}
 use Rattle.instance_spec.specs.Problem.{sheetTurns}
 use Rattle.check_spec.specs.declared.CheckAnswer.{CheckAnswer}
 use Rattle.check_spec.specs.Check.{Passes, checkOf}
-use Rattle.listing_spec.specs.Round.{roundOf, Round}
-use Rattle.listing_spec.specs.declared.Sums.{Sums}
-use Rattle.listing_spec.specs.Text.{listingOf}
-use Rattle.listing_spec.specs.List.{listOf}
+use Rattle.list_spec.specs.Round.{roundOf, Round}
+use Rattle.list_spec.specs.declared.Sums.{Sums}
+use Rattle.list_spec.specs.Text.{listingOf}
+use Rattle.list_spec.specs.List.{listOf}
 
 -- the sums of a last line, as an answer of the check has them
 abbrev pub sumsIn : CheckAnswer → Sums

@@ -17,14 +17,14 @@ use Rattle.draw_spec.specs.DrawnSheet.{drawOf}
 use Rattle.sheet.specs.declared.answer.ReadAnswer.{ReadAnswer}
 use Rattle.assign_spec.specs.declared.AssignAnswer.{AssignAnswer}
 use Rattle.best_spec.specs.declared.BestAnswer.{BestAnswer}
-use Rattle.hall_spec.specs.declared.ChargeAnswer.{ChargeAnswer}
+use Rattle.charge_spec.specs.declared.ChargeAnswer.{ChargeAnswer}
 use Rattle.check_spec.specs.declared.CheckAnswer.{CheckAnswer}
 use Rattle.check_spec.specs.Check.{checkOf}
 use Rattle.board_open.specs.declared.opening.CountAnswer.{CountAnswer}
 use Rattle.board_open.specs.Open.{openOf}
 use Rattle.board_open.specs.Chosen.{countOf, turnChosen}
-use Rattle.search_spec.specs.declared.ImproveAnswer.{ImproveAnswer}
-use Rattle.search_spec.specs.Improve.{improveOf}
+use Rattle.improve_spec.specs.declared.ImproveAnswer.{ImproveAnswer}
+use Rattle.improve_spec.specs.Improve.{improveOf}
 use Rattle.turn.specs.Turn.{countsOf}
 use Rattle.corpus.specs.declared.entries.Line.{Line}
 use Rattle.corpus.specs.declared.entries.Line.the-variants.{Two, Four}

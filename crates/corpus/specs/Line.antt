@@ -14,8 +14,8 @@ use Rattle.board_open.specs.Open.{openOf}
 use Rattle.board_open.specs.Chosen.{countOf, turnChosen}
 use Rattle.assign_spec.specs.declared.AssignAnswer.{AssignAnswer}
 use Rattle.best_spec.specs.declared.BestAnswer.{BestAnswer}
-use Rattle.search_spec.specs.declared.ImproveAnswer.{ImproveAnswer}
-use Rattle.hall_spec.specs.declared.ChargeAnswer.{ChargeAnswer}
+use Rattle.improve_spec.specs.declared.ImproveAnswer.{ImproveAnswer}
+use Rattle.charge_spec.specs.declared.ChargeAnswer.{ChargeAnswer}
 use Rattle.corpus.specs.declared.entries.Line.{Line}
 use Rattle.corpus.specs.declared.entries.Line.the-variants.{One, Two, Three, Four}
 

@@ -10,22 +10,22 @@ ghost use Rattle.write_spec.specs.Write.{writeOf};
 ghost use Rattle.draw_spec.specs.DrawnSheet.{drawOf};
 ghost use Rattle.check_spec.specs.Check.{checkOf};
 ghost use Rattle.plan_spec.specs.Plan.{planOf};
-ghost use Rattle.listing_spec.specs.List.{listOf};
+ghost use Rattle.list_spec.specs.List.{listOf};
 ghost use Rattle.assign_spec.specs.Assign.{assignOf};
 ghost use Rattle.best_spec.specs.Best.{bestOf};
-ghost use Rattle.search_spec.specs.Improve.{improveOf};
+ghost use Rattle.improve_spec.specs.Improve.{improveOf};
 ghost use Rattle.archive_spec.specs.Archive.{keepOf, restoreOf};
-ghost use Rattle.hall_spec.specs.Charge.{chargeOf};
+ghost use Rattle.charge_spec.specs.Charge.{chargeOf};
 ghost use Rattle.corpus.specs.Line.{askedAt, askedLong, numbersIn, tableIn, choicesIn, shown, openLine};
 ghost use Rattle.corpus.specs.Line.{readLine, writeLine, checkLine, assignLine, bestLine, improveLine, chargeLine};
 use assign_spec::AssignAnswer;
 use best_spec::BestAnswer;
 use check_spec::CheckAnswer;
-use hall_spec::ChargeAnswer;
+use charge_spec::ChargeAnswer;
 use numbers::lesser_usize;
 use numbers::one_if_u16;
 use refusal::WriteAnswer;
-use search_spec::ImproveAnswer;
+use improve_spec::ImproveAnswer;
 use sheet::ReadAnswer;
 
 // Bytes of the numbers that an entry is asked with: one of eight bytes, three of four.
@@ -168,7 +168,7 @@ pub fn plan(sheet: &[u8], board: &mut [u8]) -> Line
 pub fn list(sheet: &[u8], text: &mut [u8]) -> Line
     ensures { λ r. ⌜ beside r (now (text .exit)) ≡ shown writeLine (listOf (now (sheet .entry)) (now (text .entry))) ⌝ }
 {
-    let a: WriteAnswer = listing::list(sheet, &mut *text);
+    let a: WriteAnswer = list::list(sheet, &mut *text);
     Line::One(a.refusal, a.bytes as u64)
 }
 
@@ -218,6 +218,6 @@ pub fn restore(kept: &[u8], sheet: &mut [u8]) -> Line
 pub fn charge(sheet: &[u8], map: &mut [u8]) -> Line
     ensures { λ r. ⌜ beside r (now (map .exit)) ≡ shown chargeLine (chargeOf (now (sheet .entry)) (now (map .entry))) ⌝ }
 {
-    let a: ChargeAnswer = hall::charge(sheet, &mut *map);
+    let a: ChargeAnswer = charge::charge(sheet, &mut *map);
     Line::One(a.refusal, a.worth as u64)
 }

@@ -17,24 +17,24 @@ use Rattle.choice_map.specs.Choice.{bitOf, chosenIn}
 use Rattle.archive_spec.proofs.KeptCauses.{keep-accepted-iff, restore-accepted-iff}
 use Rattle.instance_spec.specs.Problem.{problemOf, sheetTurns}
 use Rattle.plan_spec.proofs.PlanCauses.{plan-accepted-iff}
-use Rattle.listing_spec.proofs.Listed.{list-accepted-iff}
+use Rattle.list_spec.proofs.Listed.{list-accepted-iff}
 use Rattle.assign_spec.proofs.AssignCauses.{assign-accepted-iff}
 use Rattle.best_spec.proofs.BestCauses.{best-accepted-iff}
-use Rattle.search_spec.proofs.ImproveCauses.{improve-accepted-iff, too-many-iff}
+use Rattle.improve_spec.proofs.ImproveCauses.{improve-accepted-iff, too-many-iff}
 use Rattle.play_spec.proofs.PlayCauses.{play-accepted-iff}
 use Rattle.draw_spec.specs.Draw.{nextDraw, turnDrawn}
 use Rattle.draw_spec.proofs.DrawCauses.{draw-accepted-iff}
 use Rattle.draw_spec.proofs.Draws.{ten-thousandth, length-first, length-second, length-third, length-fourth}
-use Rattle.hall_spec.specs.Hall.{isWide, wideDraw}
-use Rattle.hall_spec.specs.Plan.{roundedUp, smallTakes}
-use Rattle.hall_spec.specs.Charge.{chargingSheet}
+use Rattle.charge_spec.specs.Hall.{isWide, wideDraw}
+use Rattle.charge_spec.specs.Plan.{roundedUp, smallTakes}
+use Rattle.charge_spec.specs.Charge.{chargingSheet}
 use Rattle.limit_spec.specs.Prices.{slopePrice, turnPrice}
 use Rattle.limit_spec.proofs.LimitCauses.{limit-accepted-iff}
 use Rattle.refine_spec.specs.Rounds.{startFrom, firstChange, nextChange}
 use Rattle.refine_spec.specs.Shift.{movedPrice, turnChange, shiftStart, shiftRule}
 use Rattle.hall_by_prices_spec.specs.Prices.{minutePrice, windowPays, supplyCost}
 use Rattle.hall_by_prices_spec.specs.Hall.{movedMinute, hallStart, hallRule}
-use Rattle.hall_spec.proofs.ChargeCauses.{charge-accepted-iff}
+use Rattle.charge_spec.proofs.ChargeCauses.{charge-accepted-iff}
 use Rattle.refine_spec.specs.Selection.{poorerFirst, choiceFrom}
 use Rattle.refine_spec.proofs.RefineCauses.{refine-accepted-iff}
 use Rattle.hall_by_prices_spec.proofs.RefineCauses.{charge-refine-accepted-iff}

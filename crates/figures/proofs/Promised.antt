@@ -40,8 +40,8 @@ use Rattle.plan_spec.proofs.PlanCauses.{plan-refused-iff, plan-unchanged}
 use Rattle.check_spec.specs.declared.CheckAnswer.{CheckAnswer}
 use Rattle.check_spec.specs.Check.{checkCauses, checked, checkOf}
 use Rattle.check_spec.proofs.CheckCauses.{check-refused-iff}
-use Rattle.listing_spec.specs.List.{listOf}
-use Rattle.listing_spec.proofs.Listed.{list-refused-iff, list-unchanged}
+use Rattle.list_spec.specs.List.{listOf}
+use Rattle.list_spec.proofs.Listed.{list-refused-iff, list-unchanged}
 use Rattle.assign_spec.specs.Assign.{assignOf}
 use Rattle.assign_spec.proofs.AssignCauses.{assign-refused-iff, assign-unchanged}
 use Rattle.assign_spec.proofs.Promised.{assign-promised}
@@ -49,9 +49,9 @@ use Rattle.best_spec.specs.Groomers.{groomerWorth}
 use Rattle.best_spec.specs.Best.{bestOf}
 use Rattle.best_spec.proofs.BestCauses.{best-clear, best-refused-iff, best-unchanged}
 use Rattle.best_spec.proofs.Promised.{best-of-sheet, best-promised}
-use Rattle.search_spec.specs.Improve.{improveOf}
-use Rattle.search_spec.proofs.ImproveCauses.{improve-refused-iff, improve-unchanged}
-use Rattle.search_spec.proofs.SheetPromised.{improved-sheet, none-allowed-plan}
+use Rattle.improve_spec.specs.Improve.{improveOf}
+use Rattle.improve_spec.proofs.ImproveCauses.{improve-refused-iff, improve-unchanged}
+use Rattle.improve_spec.proofs.SheetPromised.{improved-sheet, none-allowed-plan}
 use Rattle.play_spec.specs.declared.Stint.{Stint}
 use Rattle.play_spec.specs.declared.Standing.{Standing}
 use Rattle.play_spec.specs.Standing.{StandingIs}
@@ -68,9 +68,9 @@ use Rattle.refine_spec.specs.Rounds.{firstChange}
 use Rattle.refine_spec.specs.Refine.{refineOf}
 use Rattle.refine_spec.proofs.RefineCauses.{refine-refused-iff, refine-unchanged}
 use Rattle.refine_spec.proofs.Promised.{refine-promised}
-use Rattle.hall_spec.specs.Charge.{hallOf, chargeOf}
-use Rattle.hall_spec.proofs.ChargeCauses.{charge-promises, charge-refused-iff, charge-unchanged}
-use Rattle.hall_spec.proofs.SheetPromised.{charge-promised}
+use Rattle.charge_spec.specs.Charge.{hallOf, chargeOf}
+use Rattle.charge_spec.proofs.ChargeCauses.{charge-promises, charge-refused-iff, charge-unchanged}
+use Rattle.charge_spec.proofs.SheetPromised.{charge-promised}
 use Rattle.hall_by_prices_spec.specs.Limit.{chargeLimitCauses, chargeLimitOf}
 use Rattle.hall_by_prices_spec.specs.Refine.{chargeRefineOf}
 use Rattle.hall_by_prices_spec.proofs.LimitCauses.{charge-limit-refused-iff}

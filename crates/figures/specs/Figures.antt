@@ -33,20 +33,20 @@ use Rattle.model.specs.Promises.{Promises}
 use Rattle.local_ratio.specs.Bounds.{leastResidual}
 use Rattle.plan_spec.specs.Plan.{planOf}
 use Rattle.check_spec.specs.Check.{BoardKeeps}
-use Rattle.listing_spec.specs.List.{sheetListing, listOf}
+use Rattle.list_spec.specs.List.{sheetListing, listOf}
 use Rattle.assign_spec.specs.Assign.{assignOf}
 use Rattle.best_spec.specs.Best.{bestOf}
-use Rattle.search_spec.specs.Improve.{mostSearched, improveOf}
+use Rattle.improve_spec.specs.Improve.{mostSearched, improveOf}
 use Rattle.draw_spec.specs.Draw.{mostDraw, nextDraw, drawNumber, turnDraws, turnDrawn}
 use Rattle.draw_spec.specs.DrawnSheet.{drawnSheet, drawOf}
 use Rattle.play_spec.specs.Day.{overMinutes, mostDelay}
 use Rattle.play_spec.specs.declared.Standing.{Standing}
 use Rattle.play_spec.specs.Standing.{noTurnNumber}
 use Rattle.play_spec.specs.Play.{playOf}
-use Rattle.hall_spec.specs.Hall.{mostUnits, mostVehicles, hallGap, Hall, windowCount, draw, sameVehicle, shareMinute, isWide, staysAllowed, Allowed}
-use Rattle.hall_spec.specs.Plan.{smallTakes, smallSteps, hallWorth}
-use Rattle.hall_spec.specs.Promises.{worthOfWindows, HallPromises}
-use Rattle.hall_spec.specs.Charge.{chargingSheet, AcceptedCharging, chargeOf}
+use Rattle.charge_spec.specs.Hall.{mostUnits, mostVehicles, hallGap, Hall, windowCount, draw, sameVehicle, shareMinute, isWide, staysAllowed, Allowed}
+use Rattle.charge_spec.specs.Plan.{smallTakes, smallSteps, hallWorth}
+use Rattle.charge_spec.specs.Promises.{worthOfWindows, HallPromises}
+use Rattle.charge_spec.specs.Charge.{chargingSheet, AcceptedCharging, chargeOf}
 use Rattle.limit_spec.specs.Prices.{slopePrice, turnPrice}
 use Rattle.limit_spec.specs.Limit.{limitOf}
 use Rattle.refine_spec.specs.Rounds.{nextChange, greatestOf}

@@ -44,17 +44,17 @@ use Rattle.board_open.specs.Chosen.{countOf, turnChosen}
 use Rattle.board_open.specs.Part.{stepsPartAt}
 use Rattle.plan_spec.specs.Plan.{plannedBoard, planOf, FirstPlanCause}
 use Rattle.check_spec.specs.Check.{BoardKeeps, BoardCause, CheckCause, FirstCheckCause, checkOf, checked}
-use Rattle.listing_spec.specs.Round.{roundOf, Rising}
-use Rattle.listing_spec.specs.Text.{listingOf}
-use Rattle.listing_spec.specs.List.{listOf, FirstListCause}
+use Rattle.list_spec.specs.Round.{roundOf, Rising}
+use Rattle.list_spec.specs.Text.{listingOf}
+use Rattle.list_spec.specs.List.{listOf, FirstListCause}
 use Rattle.assign_spec.specs.Numbering.{numberIn, GreedyNumbers, Assignment, different, heldTogether}
 use Rattle.assign_spec.specs.Assign.{assignRefused, assignOf, FirstAssignCause}
 use Rattle.best_spec.specs.Table.{bestChoice, isAmong, Later}
 use Rattle.best_spec.specs.Groomers.{groomerWorth, groomersWorth, OwnSet}
 use Rattle.best_spec.specs.Best.{Earned, bestRefused, bestOf, FirstBestCause}
-use Rattle.search_spec.specs.Search.{noneTaken, fromPlan}
-use Rattle.search_spec.specs.Sets.{wholeVisits, setsOf, setsWithin, visitCosts, comparedAll, ListedSet, SetOf, SetsInOrder, FirstMost}
-use Rattle.search_spec.specs.Improve.{Improvement, improveRefused, improvedFor, improveOf, FirstImproveCause}
+use Rattle.improve_spec.specs.Search.{noneTaken, fromPlan}
+use Rattle.improve_spec.specs.Sets.{wholeVisits, setsOf, setsWithin, visitCosts, comparedAll, ListedSet, SetOf, SetsInOrder, FirstMost}
+use Rattle.improve_spec.specs.Improve.{Improvement, improveRefused, improvedFor, improveOf, FirstImproveCause}
 use Rattle.play_spec.specs.declared.Standing.{Standing}
 use Rattle.play_spec.specs.declared.Stint.{Stint}
 use Rattle.play_spec.specs.declared.PlayAnswer.{PlayAnswer}
@@ -68,9 +68,9 @@ use Rattle.limit_spec.specs.Limit.{priceCount, limitIs, limitRefused, limitOf, 
 use Rattle.refine_spec.specs.Rounds.{greatestOf, LowestKept, BestKept}
 use Rattle.refine_spec.specs.Shift.{greatestWorth, shiftRule}
 use Rattle.refine_spec.specs.Refine.{Refinement, notRefined, refineOf, FirstRefineCause}
-use Rattle.hall_spec.specs.Hall.{Hall, windowCount, vehicle, isWide, isSmall, Allowed, AllowedChoice, FullAmong}
-use Rattle.hall_spec.specs.Plan.{ChosenAmong, wideSteps, smallSteps, wideChoice, smallChoice, worthIn, hallChoice}
-use Rattle.hall_spec.specs.Charge.{hallOf, Charged, chargeRefused, chargeOf, FirstChargeCause}
+use Rattle.charge_spec.specs.Hall.{Hall, windowCount, vehicle, isWide, isSmall, Allowed, AllowedChoice, FullAmong}
+use Rattle.charge_spec.specs.Plan.{ChosenAmong, wideSteps, smallSteps, wideChoice, smallChoice, worthIn, hallChoice}
+use Rattle.charge_spec.specs.Charge.{hallOf, Charged, chargeRefused, chargeOf, FirstChargeCause}
 use Rattle.hall_by_prices_spec.specs.Prices.{windowCounts, richestOf, vehicleBest, supplyCost}
 use Rattle.hall_by_prices_spec.specs.Hall.{hallRule}
 use Rattle.hall_by_prices_spec.specs.Limit.{chargeLimitOf, FirstChargeLimitCause}

@@ -18,10 +18,10 @@ use Rattle.sheet.specs.Read.{countsIn, causesFor, answerFor}
 use Rattle.sheet.proofs.Readings.{causes-numbered}
 use Rattle.sheet.proofs.Whole.{whole-refusal-for, whole-answer-for}
 use Rattle.instance.specs.Load.{PosedFor}
-use Rattle.hall_spec.specs.Hall.{hallGap}
-use Rattle.hall_spec.specs.Charge.{chargingSheet, hallOf}
-use Rattle.hall_spec.proofs.ChargingSheets.{charging-sound, charging-given, vehicles-of}
-use Rattle.hall.proofs.Charges.{accepted, charge-held, hall-is}
+use Rattle.charge_spec.specs.Hall.{hallGap}
+use Rattle.charge_spec.specs.Charge.{chargingSheet, hallOf}
+use Rattle.charge_spec.proofs.ChargingSheets.{charging-sound, charging-given, vehicles-of}
+use Rattle.charge.proofs.Charges.{accepted, charge-held, hall-is}
 use Rattle.limit_spec.specs.declared.LimitAnswer.{LimitAnswer}
 use Rattle.limit_spec.specs.Limit.{limitIs, limitRefused}
 use Rattle.hall_by_prices_spec.specs.Prices.{hallLimit}

@@ -24,12 +24,12 @@ use Rattle.choice_map.proofs.Clean.{clean-map, map-choice, map-clean}
 use Rattle.instance.specs.Columns.{columnPlaces, turnsBy}
 use Rattle.instance.specs.Load.{PosedFor}
 use Rattle.instance.proofs.Rows.{count-is}
-use Rattle.hall_spec.specs.Hall.{hallGap}
-use Rattle.hall_spec.specs.Plan.{hallChoice, hallWorth, worthIn}
-use Rattle.hall_spec.proofs.Halls.{plan-length}
-use Rattle.hall_spec.specs.Charge.{chargingSheet, hallOf}
-use Rattle.hall_spec.proofs.ChargingSheets.{charging-sound, charging-given}
-use Rattle.hall.proofs.Charges.{accepted, count}
+use Rattle.charge_spec.specs.Hall.{hallGap}
+use Rattle.charge_spec.specs.Plan.{hallChoice, hallWorth, worthIn}
+use Rattle.charge_spec.proofs.Halls.{plan-length}
+use Rattle.charge_spec.specs.Charge.{chargingSheet, hallOf}
+use Rattle.charge_spec.proofs.ChargingSheets.{charging-sound, charging-given}
+use Rattle.charge.proofs.Charges.{accepted, count}
 use Rattle.refine_spec.specs.Rounds.{RoundRule, Stage, startFrom, refined, firstChange}
 use Rattle.refine_spec.specs.Shift.{greatestWorth}
 use Rattle.price_rule.specs.declared.RuleFor.the-variants.{Hall}

@@ -23,7 +23,7 @@ pub fn charge_limit(s: &[u8], prices: &[u16]) -> LimitAnswer
 {
     let mut cols = [0u16; PLACES];
     let mut room = [0u16; PLACES];
-    let r = instance::load_as(hall::charging_sheet(), s, &mut cols, &mut room);
+    let r = instance::load_as(charge::charging_sheet(), s, &mut cols, &mut room);
     let fault = r.refusal;
     if fault != 0 {
         return refused(fault);
@@ -36,7 +36,7 @@ pub fn charge_limit(s: &[u8], prices: &[u16]) -> LimitAnswer
         vehicles: r.slopes,
         size: Size {
             count: r.turns as usize,
-            gap: hall::HALL_GAP,
+            gap: charge::HALL_GAP,
         },
     };
     LimitAnswer {

@@ -33,7 +33,7 @@ fn plan_rounds(
     requires { ⌜ length (now room) ≡ columnPlaces ⌝ }
     ensures { λ r. ⌜ Reaches (h .size .count) (hallRefined (hallFor h (now (cols .entry))) (h .vehicles) rounds) r (now (lowest .exit)) (now (map .exit)) ⌝ }
 {
-    let worth = hall::write_plan(h.units, h.size, cols, &mut *map);
+    let worth = charge::write_plan(h.units, h.size, cols, &mut *map);
     let start = Start {
         rounds: rounds,
         worth: worth,
@@ -90,7 +90,7 @@ pub fn charge_refine(
 {
     let mut cols = [0u16; PLACES];
     let mut room = [0u16; PLACES];
-    let r = instance::load_as(hall::charging_sheet(), s, &mut cols, &mut room);
+    let r = instance::load_as(charge::charging_sheet(), s, &mut cols, &mut room);
     let fault = r.refusal;
     if fault != 0 {
         return refused(fault);
@@ -106,7 +106,7 @@ pub fn charge_refine(
         vehicles: r.slopes,
         size: Size {
             count: r.turns as usize,
-            gap: hall::HALL_GAP,
+            gap: charge::HALL_GAP,
         },
     };
     refine_hall(h, rounds, &cols, &mut *map, &mut *prices, &mut room)

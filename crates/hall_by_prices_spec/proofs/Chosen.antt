@@ -10,10 +10,10 @@ use Rattle.refine_spec.proofs.Selection.{from-kept, from-length}
 use Rattle.refine_spec.proofs.Asked.{not-before-itself, chosen-before, before-same, from-at, from-alone}
 use Rattle.model.specs.Choice.{has, members, chooseEach, back, fill}
 use Rattle.model.proofs.Members.{chosen-members}
-use Rattle.hall_spec.specs.Hall.{Hall, windowCount, isWide, staysAllowed, AllowedChoice}
-use Rattle.hall_spec.specs.Plan.{worthIn}
-use Rattle.hall_spec.specs.Promises.{worthOfWindows}
-use Rattle.hall_spec.proofs.Allowing.{Admissible, admissible-allowed, allowed-admissible, refused-more, fewer-allowed, put-admissible, stays-is, chosen-allowed}
+use Rattle.charge_spec.specs.Hall.{Hall, windowCount, isWide, staysAllowed, AllowedChoice}
+use Rattle.charge_spec.specs.Plan.{worthIn}
+use Rattle.charge_spec.specs.Promises.{worthOfWindows}
+use Rattle.charge_spec.proofs.Allowing.{Admissible, admissible-allowed, allowed-admissible, refused-more, fewer-allowed, put-admissible, stays-is, chosen-allowed}
 use Rattle.refine_spec.specs.Selection.{choiceFrom, ChosenBefore}
 use Rattle.hall_by_prices_spec.specs.Hall.{WindowsFrom}
 

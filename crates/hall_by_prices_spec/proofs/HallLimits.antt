@@ -19,9 +19,9 @@ use Rattle.best_spec.proofs.Members.{among-cons}
 use Rattle.turn.specs.Turn.{shiftMinutes}
 use Rattle.limit_spec.specs.Promises.{AllFree}
 use Rattle.limit_spec.proofs.Duality.{weak-duality, paid-costs, paid-one}
-use Rattle.hall_spec.specs.Hall.{Hall, windowCount, vehicle, draw, sameVehicle, chargesAt, drawAt, Allowed}
-use Rattle.hall_spec.specs.Promises.{worthOfWindows}
-use Rattle.hall_spec.proofs.Windows.{vehicle-is, is-vehicle}
+use Rattle.charge_spec.specs.Hall.{Hall, windowCount, vehicle, draw, sameVehicle, chargesAt, drawAt, Allowed}
+use Rattle.charge_spec.specs.Promises.{worthOfWindows}
+use Rattle.charge_spec.proofs.Windows.{vehicle-is, is-vehicle}
 use Rattle.hall_by_prices_spec.specs.Prices.{priceParts, minutePrice, minutesCost, windowPays, windowCounts, alone, richestOf, vehicleBest, supplyCost, hallLimit, hallRelaxed, MostOfVehicle, TakenWindow}
 
 -- ---- sums

@@ -11,10 +11,10 @@ use borrow.Author.Tests.{lt-ltb, le-ltb}
 use Rattle.lists.specs.Lists.{tab}
 use Rattle.lists.proofs.Sums.{tab-length, tab-at}
 use Rattle.turn.specs.Turn.{shiftMinutes}
-use Rattle.hall_spec.specs.Hall.{Hall, windowCount, vehicle, drawnAt, Allowed, AllowedChoice}
-use Rattle.hall_spec.specs.Plan.{roundedUp, worthIn, hallWorth}
-use Rattle.hall_spec.specs.Promises.{worthOfWindows}
-use Rattle.hall_spec.proofs.Halls.{plan-allowed, plan-length}
+use Rattle.charge_spec.specs.Hall.{Hall, windowCount, vehicle, drawnAt, Allowed, AllowedChoice}
+use Rattle.charge_spec.specs.Plan.{roundedUp, worthIn, hallWorth}
+use Rattle.charge_spec.specs.Promises.{worthOfWindows}
+use Rattle.charge_spec.proofs.Halls.{plan-allowed, plan-length}
 use Rattle.refine_spec.specs.Rounds.{RoundRule, Stage, startFrom}
 use Rattle.refine_spec.proofs.Rounds.{listed-limit, chosen-worth, choice-kept, lists-kept, worth-grows}
 use Rattle.hall_by_prices_spec.specs.Prices.{minutePrice, hallLimit, hallRelaxed}

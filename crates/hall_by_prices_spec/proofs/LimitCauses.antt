@@ -18,8 +18,8 @@ use Rattle.sheet.proofs.Accepting.{accepted-iff-for}
 use Rattle.sheet.proofs.ReadCauses.{more-tell-for}
 use Rattle.limit_spec.specs.declared.LimitAnswer.{LimitAnswer}
 use Rattle.limit_spec.specs.Limit.{limitIs, limitRefused}
-use Rattle.hall_spec.specs.Charge.{chargingSheet, AcceptedCharging}
-use Rattle.hall_spec.proofs.ChargingSheets.{charging-sound}
+use Rattle.charge_spec.specs.Charge.{chargingSheet, AcceptedCharging}
+use Rattle.charge_spec.proofs.ChargingSheets.{charging-sound}
 use Rattle.hall_by_prices_spec.specs.Limit.{chargeLimitCauses, sheetHallLimit, chargeLimitOf, FirstChargeLimitCause}
 
 module _ (s prices : List ℕ) where

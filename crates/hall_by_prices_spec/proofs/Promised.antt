@@ -7,10 +7,10 @@ use Rattle.refusal.specs.Cause.{firstOf}
 use Rattle.lists.specs.Lists.{sumOver, below}
 use Rattle.sheet.specs.Read.{countsIn, turnCount, causesFor}
 use Rattle.instance_spec.proofs.SheetTurns.{sheet-count-for, sheet-slopes-for}
-use Rattle.hall_spec.specs.Hall.{hallGap, windowCount, vehicle}
+use Rattle.charge_spec.specs.Hall.{hallGap, windowCount, vehicle}
 use Rattle.limit_spec.specs.declared.LimitAnswer.{LimitAnswer}
-use Rattle.hall_spec.specs.Charge.{chargingSheet, hallOf}
-use Rattle.hall_spec.proofs.ChargingSheets.{charging-sound}
+use Rattle.charge_spec.specs.Charge.{chargingSheet, hallOf}
+use Rattle.charge_spec.proofs.ChargingSheets.{charging-sound}
 use Rattle.hall_by_prices_spec.specs.Prices.{richestOf, hallLimit}
 use Rattle.hall_by_prices_spec.specs.Limit.{sheetHallLimit, chargeLimitOf}
 use Rattle.hall_by_prices_spec.specs.Promises.{ChargeLimitPromised}

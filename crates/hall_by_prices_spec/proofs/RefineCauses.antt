@@ -17,8 +17,8 @@ use Rattle.sheet.proofs.Readings.{causes-numbered}
 use Rattle.sheet.proofs.Accepting.{accepted-iff-for}
 use Rattle.sheet.proofs.ReadCauses.{more-tell-for}
 use Rattle.choice_map.specs.Choice.{mapBytes}
-use Rattle.hall_spec.specs.Charge.{chargingSheet, hallOf, AcceptedCharging}
-use Rattle.hall_spec.proofs.ChargingSheets.{charging-sound}
+use Rattle.charge_spec.specs.Charge.{chargingSheet, hallOf, AcceptedCharging}
+use Rattle.charge_spec.proofs.ChargingSheets.{charging-sound}
 use Rattle.hall_by_prices_spec.specs.Hall.{hallRefined}
 use Rattle.hall_by_prices_spec.specs.Refine.{ChargeRefinement, chargeRefineCauses, chargeRefinement, notChargeRefined, chargeRefineOf, HallPlacesFail, few-bytes, few-prices, FirstChargeRefineCause}
 

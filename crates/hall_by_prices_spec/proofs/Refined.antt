@@ -9,18 +9,18 @@ use Rattle.refine_spec.proofs.Rounds.{Given, given-made, given-ended, given-mor
 use Rattle.refusal.specs.Cause.{firstOf}
 use Rattle.refusal.proofs.Outcome.{enough-iff}
 use Rattle.sheet.proofs.Readings.{causes-numbered}
-use Rattle.hall_spec.proofs.ChargingSheets.{charging-sound}
+use Rattle.charge_spec.proofs.ChargingSheets.{charging-sound}
 use Rattle.turn.specs.Turn.{shiftMinutes}
 use Rattle.sheet.specs.Read.{countsIn, turnCount, causesFor}
 use Rattle.refusal.specs.Written.{atFront}
 use Rattle.choice_map.specs.Choice.{mapBytes, mapOf, choiceIn}
 use Rattle.choice_map.proofs.Clean.{map-length, map-choice}
-use Rattle.hall_spec.specs.Hall.{Hall, Allowed}
-use Rattle.hall_spec.specs.Plan.{hallWorth, hallChoice}
-use Rattle.hall_spec.specs.Promises.{worthOfWindows}
+use Rattle.charge_spec.specs.Hall.{Hall, Allowed}
+use Rattle.charge_spec.specs.Plan.{hallWorth, hallChoice}
+use Rattle.charge_spec.specs.Promises.{worthOfWindows}
 use Rattle.limit_spec.specs.Limit.{limitIs}
-use Rattle.hall_spec.specs.Charge.{chargingSheet, hallOf, Charged, chargeCauses, chargeOf}
-use Rattle.hall_spec.proofs.ChargeCauses.{charge-number, charge-answers}
+use Rattle.charge_spec.specs.Charge.{chargingSheet, hallOf, Charged, chargeCauses, chargeOf}
+use Rattle.charge_spec.proofs.ChargeCauses.{charge-number, charge-answers}
 use Rattle.refine_spec.specs.Rounds.{Stage, startFrom, LowestKept, BestKept}
 use Rattle.hall_by_prices_spec.specs.Hall.{hallRefined, hallRule, hallStart}
 use Rattle.hall_by_prices_spec.specs.Limit.{sheetHallLimit, chargeLimitOf}

@@ -9,8 +9,8 @@ use lib.ListN.{length, set, replicate}
 use Rattle.lists.specs.Lists.{tab, below}
 use Rattle.turn.specs.Turn.{shiftMinutes}
 use Rattle.model.specs.Choice.{has}
-use Rattle.hall_spec.specs.Hall.{Hall, windowCount, drawnAt, staysAllowed, AllowedChoice}
-use Rattle.hall_spec.specs.Plan.{roundedUp, worthIn, hallChoice}
+use Rattle.charge_spec.specs.Hall.{Hall, windowCount, drawnAt, staysAllowed, AllowedChoice}
+use Rattle.charge_spec.specs.Plan.{roundedUp, worthIn, hallChoice}
 use Rattle.refine_spec.specs.Rounds.{RoundRule, Stage, startFrom, refined, greatestOf, firstChange}
 use Rattle.refine_spec.specs.Selection.{choiceFrom, ChosenBefore}
 use Rattle.hall_by_prices_spec.specs.Prices.{minutePrice, hallLimit, hallRelaxed}

@@ -13,7 +13,7 @@ use Rattle.sheet.specs.Read.{countsIn, causesFor}
 use Rattle.sheet.specs.Accepted.{MoreCauseFor}
 use Rattle.limit_spec.specs.declared.LimitAnswer.{LimitAnswer}
 use Rattle.limit_spec.specs.Limit.{limitIs, limitRefused}
-use Rattle.hall_spec.specs.Charge.{chargingSheet, hallOf}
+use Rattle.charge_spec.specs.Charge.{chargingSheet, hallOf}
 use Rattle.hall_by_prices_spec.specs.Prices.{hallLimit}
 
 -- after the sheet's causes: a list that has not one number for each minute

@@ -9,7 +9,7 @@ use lib.ListN.{getD}
 use Rattle.lists.specs.Lists.{sumOver, tab, below}
 use Rattle.turn.specs.Turn.{shiftMinutes}
 use Rattle.best_spec.specs.Table.{Best, noTurns, greater, isAmong}
-use Rattle.hall_spec.specs.Hall.{Hall, windowCount, vehicle, draw, chargesAt}
+use Rattle.charge_spec.specs.Hall.{Hall, windowCount, vehicle, draw, chargesAt}
 
 -- prices are in parts of worth: so many parts are a worth of 1
 abbrev pub priceParts : ℕ

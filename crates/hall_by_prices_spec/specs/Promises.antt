@@ -9,12 +9,12 @@ use Rattle.lists.specs.Lists.{sumOver, below}
 use Rattle.turn.specs.Turn.{shiftMinutes}
 use Rattle.sheet.specs.Read.{countsIn, turnCount}
 use Rattle.choice_map.specs.Choice.{mapBytes, mapOf, choiceIn}
-use Rattle.hall_spec.specs.Hall.{windowCount, Allowed, AllowedChoice}
-use Rattle.hall_spec.specs.Plan.{worthIn, hallChoice}
-use Rattle.hall_spec.specs.Promises.{worthOfWindows}
+use Rattle.charge_spec.specs.Hall.{windowCount, Allowed, AllowedChoice}
+use Rattle.charge_spec.specs.Plan.{worthIn, hallChoice}
+use Rattle.charge_spec.specs.Promises.{worthOfWindows}
 use Rattle.limit_spec.specs.Limit.{limitIs}
 use Rattle.limit_spec.specs.Promises.{AllFree}
-use Rattle.hall_spec.specs.Charge.{hallOf, chargeOf}
+use Rattle.charge_spec.specs.Charge.{hallOf, chargeOf}
 use Rattle.hall_by_prices_spec.specs.Prices.{richestOf, vehicleBest, supplyCost, MostOfVehicle}
 use Rattle.refine_spec.specs.Rounds.{RoundRule, greatestOf, firstChange, LowestKept, BestKept}
 use Rattle.hall_by_prices_spec.specs.Hall.{hallRule}

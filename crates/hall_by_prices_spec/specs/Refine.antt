@@ -12,7 +12,7 @@ use Rattle.sheet.specs.Read.{countsIn, turnCount, causesFor}
 use Rattle.refusal.specs.Written.{atFront}
 use Rattle.sheet.specs.Accepted.{MoreCauseFor}
 use Rattle.choice_map.specs.Choice.{mapBytes, mapOf}
-use Rattle.hall_spec.specs.Charge.{chargingSheet, hallOf}
+use Rattle.charge_spec.specs.Charge.{chargingSheet, hallOf}
 use Rattle.refine_spec.specs.Rounds.{Stage}
 use Rattle.hall_by_prices_spec.specs.Hall.{hallRefined}
 

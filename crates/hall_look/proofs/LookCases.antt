@@ -23,8 +23,8 @@ use Rattle.choice_map.proofs.Clean.{zeros-at}
 use Rattle.instance.specs.declared.ways.Row.{Row}
 use Rattle.instance.specs.Columns.{rowIn}
 use Rattle.instance.proofs.Rows.{count-is, slope-at, groomer-at, start-at, end-at, worth-at}
-use Rattle.hall_spec.specs.Hall.{mostUnits, mostVehicles, Hall, vehicle, draw, chargesAt}
-use Rattle.hall_spec.proofs.Windows.{in-charges}
+use Rattle.charge_spec.specs.Hall.{mostUnits, mostVehicles, Hall, vehicle, draw, chargesAt}
+use Rattle.charge_spec.proofs.Windows.{in-charges}
 use Rattle.hall_by_prices_spec.specs.Prices.{priceParts, minutePrice, minutesCost, windowPays, windowCounts, alone, richestOf, vehicleBest, supplyCost, hallLimit}
 use Rattle.limit_spec.specs.Prices.{mostPrice}
 use Rattle.hall_look.specs.declared.HallSize.{HallSize}

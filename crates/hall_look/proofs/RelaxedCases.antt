@@ -21,7 +21,7 @@ use Rattle.best_spec.proofs.Members.{among-all}
 use Rattle.choice_map.specs.Choice.{chosenIn, choiceIn, withTurn, Clean}
 use Rattle.choice_map.proofs.Clean.{choice-has, choice-length, choice-with, clean-bits, clean-with}
 use Rattle.instance.proofs.Rows.{count-is}
-use Rattle.hall_spec.specs.Hall.{Hall, windowCount, vehicle}
+use Rattle.charge_spec.specs.Hall.{Hall, windowCount, vehicle}
 use Rattle.hall_by_prices_spec.specs.Prices.{alone, windowCounts, richestOf, vehicleBest, hallRelaxed}
 use Rattle.hall_look.specs.declared.HallSize.{HallSize}
 use Rattle.hall_look.specs.Look.{vehiclePlaces, hallFor, windowBefore, withBefore, HallPosed, WindowsTaken}

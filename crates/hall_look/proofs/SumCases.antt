@@ -12,7 +12,7 @@ use lib.ListN.{length, getD, set, length-set}
 use lib.Seq.{getD-set-same, getD-set-other}
 use Rattle.turn.specs.Turn.{shiftMinutes, mostWorth}
 use Rattle.instance.specs.declared.ways.Row.{Row}
-use Rattle.hall_spec.specs.Hall.{mostUnits}
+use Rattle.charge_spec.specs.Hall.{mostUnits}
 use Rattle.hall_by_prices_spec.specs.Prices.{minutePrice}
 use Rattle.limit_spec.specs.Prices.{mostPrice}
 use Rattle.hall_look.specs.Look.{sumPlaces, pricesBelow, rowCost, rowCounts, MinuteSumsTo, MinuteSums, WindowRow}

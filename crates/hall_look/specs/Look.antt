@@ -7,7 +7,7 @@ use Rattle.lists.specs.Lists.{sumOver, below}
 use Rattle.turn.specs.Turn.{shiftMinutes, mostWorth}
 use Rattle.choice_map.specs.Choice.{withTurn}
 use Rattle.instance.specs.declared.ways.Row.{Row}
-use Rattle.hall_spec.specs.Hall.{mostUnits, mostVehicles, Hall}
+use Rattle.charge_spec.specs.Hall.{mostUnits, mostVehicles, Hall}
 use Rattle.shares.specs.Taking.{hallBy}
 use Rattle.hall_steps.specs.Bounds.{HallHeld}
 use Rattle.hall_by_prices_spec.specs.Prices.{priceParts, minutePrice, windowCounts, richestOf, vehicleBest}

@@ -7,7 +7,7 @@ ghost use lib.ListN.{length, getD, set, replicate};
 ghost use Rattle.limit_spec.specs.Prices.{mostPrice};
 ghost use Rattle.turn.specs.Turn.{shiftMinutes};
 ghost use Rattle.sheet.specs.Kind.{mostTurns};
-ghost use Rattle.hall_spec.specs.Hall.{mostUnits, mostVehicles};
+ghost use Rattle.charge_spec.specs.Hall.{mostUnits, mostVehicles};
 ghost use Rattle.hall_by_prices_spec.specs.Prices.{priceParts, supplyCost, hallLimit};
 ghost use Rattle.hall_look.specs.Look.{vehiclePlaces, hallFor, bestsSum, HallPosed, MinuteSums, Bests, WindowsTaken};
 use super::HallSize;

@@ -25,11 +25,11 @@ use Rattle.choice_map.proofs.NextChosen.{next-from, next-clear, next-chosen}
 use Rattle.instance.specs.declared.ways.Row.{Row}
 use Rattle.instance.specs.Columns.{rowIn}
 use Rattle.instance.proofs.Rows.{count-is, groomer-at, start-at, end-at}
-use Rattle.hall_spec.specs.Hall.{mostUnits, Hall, chargesAt, drawAt, drawnAt}
-use Rattle.hall_spec.specs.Plan.{roundedUp}
-use Rattle.hall_spec.proofs.Windows.{charges-in, in-charges, drawAt-charging, drawAt-not}
-use Rattle.hall.specs.Supply.{Drawn}
-use Rattle.hall.proofs.Supplies.{draw-start, draw-done, draw-next}
+use Rattle.charge_spec.specs.Hall.{mostUnits, Hall, chargesAt, drawAt, drawnAt}
+use Rattle.charge_spec.specs.Plan.{roundedUp}
+use Rattle.charge_spec.proofs.Windows.{charges-in, in-charges, drawAt-charging, drawAt-not}
+use Rattle.charge.specs.Supply.{Drawn}
+use Rattle.charge.proofs.Supplies.{draw-start, draw-done, draw-next}
 use Rattle.hall_by_prices_spec.specs.Prices.{minutePrice}
 use Rattle.hall_by_prices_spec.specs.Hall.{highestMinutePrice, movedMinute, movedMinutes}
 use Rattle.hall_look.specs.declared.HallSize.{HallSize}

@@ -8,8 +8,8 @@ use lib.ListN.{length, getD}
 use Rattle.lists.specs.Lists.{tab, FilledTo}
 use Rattle.turn.specs.Turn.{shiftMinutes, mostWorth}
 use Rattle.sheet.specs.Kind.{mostTurns}
-use Rattle.hall_spec.specs.Hall.{mostUnits, Hall, drawnAt}
-use Rattle.hall_spec.specs.Plan.{roundedUp}
+use Rattle.charge_spec.specs.Hall.{mostUnits, Hall, drawnAt}
+use Rattle.charge_spec.specs.Plan.{roundedUp}
 use Rattle.hall_by_prices_spec.specs.Prices.{minutePrice}
 use Rattle.hall_by_prices_spec.specs.Hall.{highestMinutePrice}
 use Rattle.limit_spec.specs.Prices.{mostPrice}

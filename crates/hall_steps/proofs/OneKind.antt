@@ -16,7 +16,7 @@ use Rattle.instance.specs.declared.columns.Size.{Size}
 use Rattle.instance.specs.Ways.{turnRow}
 use Rattle.instance.specs.Columns.{columnPlaces, rowIn, withRow, within, turnsBy, Held}
 use Rattle.instance.proofs.Rows.{row-length, row-new, row-other, row-is}
-use Rattle.hall_spec.specs.Hall.{Hall, draw, wideDraw}
+use Rattle.charge_spec.specs.Hall.{Hall, draw, wideDraw}
 use Rattle.hall_steps.specs.declared.one_kind.OneKind.{OneKind}
 use Rattle.hall_steps.specs.OneKind.{kindHall, kindDraw, ofKind, kindRow, engineTurns}
 use Rattle.hall_steps.specs.Bounds.{HallHeld}

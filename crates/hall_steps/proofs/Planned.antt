@@ -10,11 +10,11 @@ use Rattle.model.specs.Steps.{Step}
 use Rattle.model.specs.Pick.{steps}
 use Rattle.board.specs.Board.{stepBytes}
 use Rattle.instance.specs.Columns.{turnsBy}
-use Rattle.model_relabel.specs.Relabelling.{Places, SameTimes, SameWorths, SameTakes, TiesKept, relabelAll}
-use Rattle.model_relabel.proofs.Relabelling.{steps-same-by, first-alike}
-use Rattle.hall_spec.specs.Hall.{Hall, draw, isWide, isSmall, sameVehicle, shareMinute}
-use Rattle.hall_spec.specs.Plan.{turnsAmong, smallTakes, wideSteps, smallSteps}
-use Rattle.hall_spec.proofs.Windows.{small-is}
+use Rattle.model.specs.Relabelling.{Places, SameTimes, SameWorths, SameTakes, TiesKept, relabelAll}
+use Rattle.model.proofs.Relabelling.{steps-same-by, first-alike}
+use Rattle.charge_spec.specs.Hall.{Hall, draw, isWide, isSmall, sameVehicle, shareMinute}
+use Rattle.charge_spec.specs.Plan.{turnsAmong, smallTakes, wideSteps, smallSteps}
+use Rattle.charge_spec.proofs.Windows.{small-is}
 use Rattle.steps.specs.declared.stepping.Rule.{Rule}
 use Rattle.steps.specs.declared.stepping.Rule.the-variants.{Conflicts, Shares}
 use Rattle.steps.specs.Rule.{takesBy, nextBy, planFor, stepsFor, RuleHeld}

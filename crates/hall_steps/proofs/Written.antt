@@ -20,12 +20,12 @@ use Rattle.board.proofs.StepBytes.{SmallSteps, step-bytes-length, steps-at, ste
 use Rattle.board.proofs.WrittenSteps.{each-inside, each-small, steps-small}
 use Rattle.instance.specs.Columns.{turnsBy}
 use Rattle.instance.proofs.Rows.{count-is}
-use Rattle.hall_spec.specs.Hall.{Hall, windowCount, isWide, isSmall}
-use Rattle.hall_spec.specs.Plan.{turnsAmong, smallTakes, wideSteps, smallSteps}
-use Rattle.hall_spec.proofs.Windows.{among-count, among-worth}
-use Rattle.hall_spec.proofs.Takes.{small-taking}
-use Rattle.hall_spec.proofs.Open.{OnlyKind, first-only, after-only}
-use Rattle.hall_spec.proofs.Limits.{first-within, next-within, small-few}
+use Rattle.charge_spec.specs.Hall.{Hall, windowCount, isWide, isSmall}
+use Rattle.charge_spec.specs.Plan.{turnsAmong, smallTakes, wideSteps, smallSteps}
+use Rattle.charge_spec.proofs.Windows.{among-count, among-worth}
+use Rattle.charge_spec.proofs.Takes.{small-taking}
+use Rattle.charge_spec.proofs.Open.{OnlyKind, first-only, after-only}
+use Rattle.charge_spec.proofs.Limits.{first-within, next-within, small-few}
 use Rattle.hall_steps.specs.declared.one_kind.OneKind.{OneKind}
 use Rattle.hall_steps.specs.OneKind.{kindHall, stepsBy}
 use Rattle.hall_steps.specs.Bounds.{HallHeld}

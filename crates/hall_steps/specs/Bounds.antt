@@ -4,7 +4,7 @@ use mathlib.Core.List.{List}
 use Prim.Native.Nat.{ℕ, _≤_, _<_}
 use Rattle.instance.specs.declared.columns.Size.{Size}
 use Rattle.instance.specs.Columns.{turnsBy, Held}
-use Rattle.hall_spec.specs.Hall.{hallGap, mostUnits, mostVehicles}
+use Rattle.charge_spec.specs.Hall.{hallGap, mostUnits, mostVehicles}
 
 -- columns that hold a hall's windows within what every charging sheet keeps to
 pub record HallHeld (units : ℕ) (p : Size) (cols : List ℕ) : Type 0 where

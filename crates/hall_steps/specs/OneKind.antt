@@ -5,8 +5,8 @@ use Prim.Native.Nat.{ℕ}
 use Rattle.model.specs.Turns.{Turns}
 use Rattle.model.specs.Steps.{Step}
 use Rattle.instance.specs.declared.ways.Row.{Row}
-use Rattle.hall_spec.specs.Hall.{hallGap, Hall, windowCount, draw, wideDraw}
-use Rattle.hall_spec.specs.Plan.{wideSteps, smallSteps}
+use Rattle.charge_spec.specs.Hall.{hallGap, Hall, windowCount, draw, wideDraw}
+use Rattle.charge_spec.specs.Plan.{wideSteps, smallSteps}
 use Rattle.shares.specs.Taking.{hallBy}
 use Rattle.steps.specs.declared.stepping.Rule.{Rule}
 use Rattle.steps.specs.declared.stepping.Rule.the-variants.{Conflicts, Shares}

@@ -1,1 +1,4 @@
 pub mod Start
+pub mod Words
+pub mod Table
+pub mod Carried

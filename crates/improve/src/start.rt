@@ -3,11 +3,11 @@ ghost use mathlib.Core.Path.{_≡_};
 ghost use Prim.Native.Nat.{_≤_};
 ghost use lib.ListN.{length};
 ghost use Rattle.instance.specs.Columns.{columnPlaces, turnsBy, Held};
-ghost use Rattle.search.specs.Words.{wordBits};
+ghost use Rattle.improve.specs.Words.{wordBits};
 ghost use Rattle.improve.specs.Start.{StartOf};
+use super::words::word_of;
 use instance::PLACES;
 use instance::Size;
-use search::word_of;
 
 // The board's worth, its ceiling, and its set as a word.
 pub struct Start {

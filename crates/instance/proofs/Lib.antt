@@ -3,3 +3,8 @@ pub mod Rows
 pub mod Flagging
 pub mod Copying
 pub mod Posed
+pub mod StartOrder
+pub mod OrderPlaces
+pub mod Orders
+pub mod Placed
+pub mod PutBack

@@ -2,3 +2,4 @@ pub mod Ways
 pub mod Columns
 pub mod Flags
 pub mod Load
+pub mod Placing

@@ -1,9 +1,15 @@
 // A sheet's turns as the engine holds them: in columns of numbers; and by which ways two turns conflict.
+mod by_end;
+mod by_start;
 mod columns;
 mod flags;
 mod posing;
 mod ways;
 
+pub use by_end::place_of;
+pub use by_end::put_by_end;
+pub use by_end::put_places;
+pub use by_start::put_order;
 pub use columns::MAP_BYTES;
 pub use columns::MOST_TURNS;
 pub use columns::PLACES;

@@ -16,3 +16,4 @@ pub mod Promised
 pub mod Limits
 pub mod Selection
 pub mod Filling
+pub mod Relabelling

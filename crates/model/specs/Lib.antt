@@ -9,3 +9,4 @@ pub mod Promises
 pub mod IntervalSelection
 pub mod Ceiling
 pub mod Filling
+pub mod Relabelling

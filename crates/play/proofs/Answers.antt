@@ -33,10 +33,10 @@ use Rattle.instance_spec.proofs.SheetTurns.{sheet-count, sheet-groomers}
 use Rattle.model.specs.Rules.{Independent}
 use Rattle.model.proofs.Readings.{independent-is}
 use Rattle.play_spec.proofs.Delayed.{taken-few}
-use Rattle.replay.specs.declared.replay.Judgement.{Judgement}
+use Rattle.check_board.specs.declared.replay.Judgement.{Judgement}
 use Rattle.check_spec.specs.Check.{boardCauses, checkCauses}
-use Rattle.replay.specs.Judged.{judged}
-use Rattle.replay.proofs.Faults.{judged-number}
+use Rattle.check_board.specs.Judged.{judged}
+use Rattle.check_board.proofs.Faults.{judged-number}
 use Rattle.check_spec.proofs.Passing.{board-clear, board-numbered}
 use Rattle.play_spec.specs.Day.{delayIn, delaysFit, dayOf}
 use Rattle.play_spec.specs.DayTable.{DelaysFit, Days}

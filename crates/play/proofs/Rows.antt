@@ -25,7 +25,7 @@ use Rattle.instance.specs.Columns.{rowIn, turnsBy, Held}
 use Rattle.instance.proofs.Rows.{count-is, groomer-at, start-at, end-at}
 use Rattle.instance_spec.specs.ByStart.{orderByStart}
 use Rattle.instance_spec.proofs.ByStart.{order-length, order-turn}
-use Rattle.instance_by_start.proofs.OrderPlaces.{order-place, zeros-few, few-zeros}
+use Rattle.instance.proofs.OrderPlaces.{order-place, zeros-few, few-zeros}
 use Rattle.play_spec.specs.declared.Stint.{Stint}
 use Rattle.play_spec.specs.Day.{overMinutes, mostDelay, delayIn, delaysFit, stintOf, stintsFrom, takes, takenOf, dayOf}
 use Rattle.play_spec.specs.DayTable.{dayRows, dayTablePlaces, cut, stintPlace, stintIn, noStint, cutStint, stintRow, DelaysFit, Days}

@@ -193,7 +193,7 @@ pub fn put_days(
 {
     let n = p.count;
     let mut places = [0u16; MOST_TURNS];
-    instance_by_start::put_order(p, cols, &mut places[..n]);
+    instance::put_order(p, cols, &mut places[..n]);
     put_turns(p, cols, map, delays, &places[..n], &mut *table);
 }
 

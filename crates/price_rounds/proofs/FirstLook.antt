@@ -19,7 +19,7 @@ use Rattle.choice_map.proofs.Clean.{zeros-at}
 use Rattle.instance.proofs.Rows.{count-is}
 use Rattle.limit_spec.specs.Prices.{slopePrice, turnPrice, countsFor, priceSum}
 use Rattle.shift_look.specs.OrdersAndCounts.{countedTurns, turnsIn}
-use Rattle.hall_spec.specs.Hall.{windowCount, vehicle}
+use Rattle.charge_spec.specs.Hall.{windowCount, vehicle}
 use Rattle.hall_by_prices_spec.specs.Prices.{minutePrice, windowCounts, vehicleBest, supplyCost, hallLimit}
 use Rattle.hall_by_prices_spec.proofs.HallLimits.{vehicle-most}
 use Rattle.hall_look.specs.declared.HallSize.{HallSize}

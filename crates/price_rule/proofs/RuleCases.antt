@@ -29,7 +29,7 @@ use Rattle.shift_moves.specs.Moves.{Taken, TurnsOf, MovedFor}
 use Rattle.shift_moves.proofs.TakenTurns.{worth-taken, worth-turns}
 use Rattle.round_parts.specs.Ranks.{withChosen}
 use Rattle.round_parts.proofs.RankCases.{ranks-length, list-made}
-use Rattle.hall_spec.specs.Hall.{staysAllowed}
+use Rattle.charge_spec.specs.Hall.{staysAllowed}
 use Rattle.hall_by_prices_spec.specs.Prices.{hallLimit, hallRelaxed}
 use Rattle.hall_by_prices_spec.specs.Hall.{movedMinutes}
 use Rattle.hall_look.specs.declared.HallSize.{HallSize}

@@ -20,7 +20,7 @@ use Rattle.refine_spec.specs.Rounds.{RoundRule, firstChange}
 use Rattle.refine_spec.specs.Selection.{byWorth, choiceFrom}
 use Rattle.refine_spec.specs.Shift.{greatestWorth, movedPrices}
 use Rattle.round_parts.specs.Ranks.{withChosen}
-use Rattle.hall_spec.specs.Hall.{staysAllowed}
+use Rattle.charge_spec.specs.Hall.{staysAllowed}
 use Rattle.hall_by_prices_spec.specs.Prices.{hallLimit, hallRelaxed}
 use Rattle.hall_by_prices_spec.specs.Hall.{movedMinutes}
 use Rattle.hall_look.specs.Look.{hallFor, HallPosed}

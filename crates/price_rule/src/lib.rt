@@ -9,7 +9,7 @@ ghost use Rattle.model.specs.Choice.{chooseEach, chosen};
 ghost use Rattle.choice_map.specs.Choice.{choiceIn, Clean};
 ghost use Rattle.instance.specs.Columns.{columnPlaces, turnsBy};
 ghost use Rattle.selection.specs.Asked.{NumbersOf};
-ghost use Rattle.hall_spec.specs.Hall.{staysAllowed};
+ghost use Rattle.charge_spec.specs.Hall.{staysAllowed};
 ghost use Rattle.hall_look.specs.Look.{hallFor, HallPosed};
 ghost use Rattle.shift_look.specs.OrdersAndCounts.{orderPlaces};
 ghost use Rattle.price_rule.specs.Rules.{sizeOf, pricesOf, changeOf, ruleLimit, relaxedOf, fitsOf, choosingList, movedOf, RulePosed, OrderedFor, RunsFor};
@@ -101,7 +101,7 @@ fn choose_in_hall(h: HallSize, cols: &[u16; PLACES], list: &[u16], map: &mut [u8
         size: p,
         wide: false,
     };
-    hall::choose_listed(all, cols, list, &mut *map);
+    charge::choose_listed(all, cols, list, &mut *map);
     round_parts::worth_chosen(p, cols, &*map)
 }
 

@@ -22,8 +22,8 @@ use Rattle.local_ratio.specs.Bounds.{Small, Residuals, ClosedTo}
 use Rattle.local_ratio.specs.Blocks.{Stepped}
 use Rattle.local_ratio.proofs.Blocks.{stepped-none, stepped-more, stepped-done}
 use Rattle.local_ratio.proofs.Steps.{closed-after}
-use Rattle.hall_spec.specs.Hall.{hallGap, mostUnits, sameVehicle, shareMinute}
-use Rattle.hall_spec.specs.Plan.{roundedUp, smallTakes}
+use Rattle.charge_spec.specs.Hall.{hallGap, mostUnits, sameVehicle, shareMinute}
+use Rattle.charge_spec.specs.Plan.{roundedUp, smallTakes}
 use Rattle.shares.specs.Taking.{hallBy, rowTakes, sharePlaces, SharesTo, SharesBy, HalfDraws}
 
 -- ---- a share of the amount

@@ -9,8 +9,8 @@ use Rattle.model.specs.Turns.{overlapping}
 use Rattle.instance.specs.declared.ways.Row.{Row}
 use Rattle.instance.specs.declared.columns.Size.{Size}
 use Rattle.instance.specs.Columns.{turnsBy}
-use Rattle.hall_spec.specs.Hall.{hallGap, mostUnits, Hall}
-use Rattle.hall_spec.specs.Plan.{roundedUp}
+use Rattle.charge_spec.specs.Hall.{hallGap, mostUnits, Hall}
+use Rattle.charge_spec.specs.Plan.{roundedUp}
 
 -- the hall in some columns: its units, and its windows
 abbrev pub hallBy : ℕ → Size → List ℕ → Hall

@@ -9,7 +9,7 @@ ghost use Rattle.board_open.specs.Open.{openOf, stepsPart};
 ghost use Rattle.board_open.specs.Chosen.{countOf, turnChosen};
 ghost use Rattle.check_spec.specs.Check.{checkOf};
 ghost use Rattle.plan_spec.specs.Plan.{planOf};
-ghost use Rattle.listing_spec.specs.List.{listOf};
+ghost use Rattle.list_spec.specs.List.{listOf};
 ghost use Rattle.assign_spec.specs.Assign.{assignOf};
 ghost use Rattle.sheet.specs.Short.{readShortOf};
 ghost use Rattle.draw_spec.specs.DrawnSheet.{drawOf};
@@ -20,10 +20,10 @@ ghost use Rattle.hall_by_prices_spec.specs.Limit.{chargeLimitOf};
 ghost use Rattle.hall_by_prices_spec.specs.Refine.{chargeRefineOf};
 ghost use Rattle.hall_by_prices_spec.specs.Answer.{chargeRefinedBy};
 ghost use Rattle.refine_spec.specs.Answer.{refinedBy};
-ghost use Rattle.search_spec.specs.Improve.{improveOf};
+ghost use Rattle.improve_spec.specs.Improve.{improveOf};
 ghost use Rattle.archive_spec.specs.Archive.{keepOf, restoreOf};
 ghost use Rattle.play_spec.specs.Play.{playOf};
-ghost use Rattle.hall_spec.specs.Charge.{chargeOf};
+ghost use Rattle.charge_spec.specs.Charge.{chargeOf};
 ghost use Rattle.board_open.specs.Part.{stepsPartAt};
 ghost use Rattle.refusal.specs.Outcome.{beside};
 use assign_spec::AssignAnswer;
@@ -32,13 +32,13 @@ use board_open::CountAnswer;
 use board_open::Part;
 use check_spec::CheckAnswer;
 use hall_by_prices_spec::ChargeRefineAnswer;
-use hall_spec::ChargeAnswer;
+use charge_spec::ChargeAnswer;
 use limit_spec::LimitAnswer;
 use play_spec::PlayAnswer;
 use play_spec::Standing;
 use refine_spec::RefineAnswer;
 use refusal::WriteAnswer;
-use search_spec::ImproveAnswer;
+use improve_spec::ImproveAnswer;
 use sheet::ReadAnswer;
 
 #[no_mangle]
@@ -128,7 +128,7 @@ pub extern "C" fn slopeboard_plan(sheet: &[u8], board: &mut [u8]) -> WriteAnswer
 pub extern "C" fn slopeboard_list(sheet: &[u8], text: &mut [u8]) -> WriteAnswer
     ensures { λ r. ⌜ beside r (now (text .exit)) ≡ listOf (now (sheet .entry)) (now (text .entry)) ⌝ }
 {
-    listing::list(sheet, &mut *text)
+    list::list(sheet, &mut *text)
 }
 
 #[no_mangle]
@@ -182,7 +182,7 @@ pub extern "C" fn slopeboard_play<'a>(
 pub extern "C" fn slopeboard_charge(sheet: &[u8], map: &mut [u8]) -> ChargeAnswer
     ensures { λ r. ⌜ beside r (now (map .exit)) ≡ chargeOf (now (sheet .entry)) (now (map .entry)) ⌝ }
 {
-    hall::charge(sheet, &mut *map)
+    charge::charge(sheet, &mut *map)
 }
 
 #[no_mangle]

@@ -15,11 +15,11 @@ use Rattle.sheet.specs.Read.{sheetCauses}
 use Rattle.sheet.proofs.Readings.{sheet-numbered}
 use Rattle.sheet.proofs.Prefix.{prefix-refusal, prefix-same}
 use Rattle.refusal.specs.declared.WriteAnswer.{WriteAnswer}
-use Rattle.listing_spec.specs.Text.{refusedLine}
-use Rattle.listing_spec.specs.Limits.{inputBytes, listingBytes}
-use Rattle.listing_spec.specs.List.{sheetListing, listCauses, listOf}
+use Rattle.list_spec.specs.Text.{refusedLine}
+use Rattle.list_spec.specs.Limits.{inputBytes, listingBytes}
+use Rattle.list_spec.specs.List.{sheetListing, listCauses, listOf}
 use Rattle.refusal.specs.Outcome.{beside}
-use Rattle.listing_spec.proofs.Bytes.{listing-bytes}
+use Rattle.list_spec.proofs.Bytes.{listing-bytes}
 use Rattle.slopes.specs.Printed.{printed}
 use Rattle.refusal.proofs.Outcome.{unless-none, unless-first}
 

@@ -2,8 +2,8 @@
 use Prim.Native.Nat.{ℕ}
 use mathlib.Core.List.{List}
 use Rattle.sheet.specs.Read.{sheetCauses}
-use Rattle.listing_spec.specs.Text.{refusedLine}
-use Rattle.listing_spec.specs.List.{sheetListing}
+use Rattle.list_spec.specs.Text.{refusedLine}
+use Rattle.list_spec.specs.List.{sheetListing}
 use Rattle.refusal.specs.Outcome.{unless}
 
 -- the listing of a sheet, or the one line of its refusal

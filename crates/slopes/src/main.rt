@@ -2,11 +2,11 @@
 ghost use mathlib.Core.Path.{_≡_};
 ghost use Prim.Native.Nat.{_≤_};
 ghost use lib.ListN.{length, take};
-ghost use Rattle.listing_spec.specs.Limits.{inputBytes, listingBytes};
+ghost use Rattle.list_spec.specs.Limits.{inputBytes, listingBytes};
 ghost use Rattle.slopes.specs.Printed.{printed};
 use libc::STDIN_FILENO;
 use libc::STDOUT_FILENO;
-use listing::LISTING_BYTES;
+use list::LISTING_BYTES;
 
 // One byte more than the longest sheet has: what is behind it changes no answer.
 const INPUT_BYTES: usize = 4008;
@@ -16,11 +16,11 @@ fn answer(sheet: &[u8], text: &mut [u8]) -> usize
     requires { ⌜ listingBytes ≤ length (now text) ⌝ }
     ensures { λ r. ⌜ (r ≤ length (now (text .exit))) × (take r (now (text .exit)) ≡ printed (now (sheet .entry))) ⌝ }
 {
-    let a = listing::list(sheet, &mut *text);
+    let a = list::list(sheet, &mut *text);
     if a.refusal == 0 {
         return a.bytes as usize;
     }
-    listing::refused_line(&mut *text, a.refusal)
+    list::refused_line(&mut *text, a.refusal)
 }
 
 // Bytes of standard input to the front of these, by io::read_full; returns how many came, no more than there is place for.

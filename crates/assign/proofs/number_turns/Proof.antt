@@ -1,4 +1,4 @@
-use Rattle.instance_by_start.proofs.OrderPlaces.{local-cases}
+use Rattle.instance.proofs.OrderPlaces.{local-cases}
 use borrow.Author.Needs.{needs}
 use Rattle.assign.proofs.number_turns.Statement.{statement}
 use Rattle.assign.proofs.number_turns.Tie as tie

@@ -4,7 +4,7 @@ use Rattle.shares.specs.Taking.{hallBy, SharesBy}
 use Rattle.local_ratio.specs.Bounds.{Residuals}
 use Rattle.local_ratio.specs.Blocks.{Stepped}
 use Rattle.instance.specs.Columns.{rowIn}
-use Rattle.hall_spec.specs.Plan.{smallTakes}
+use Rattle.charge_spec.specs.Plan.{smallTakes}
 use mathlib.Core.Path.{_≡_}
 use Prim.Native.Nat.{_-_, _≤_}
 use borrow.Author.Needs.{needs}

@@ -123,7 +123,7 @@ fn functions(listing: &str) -> Result<BTreeMap<String, Function>, String> {
 const DEPTHS: &[(&str, usize)] = &[
     // The search comes to at most 64 turns, one level deeper for each that it
     // takes, and once past the last.
-    ("search::search::without", 64 + 1),
+    ("improve::search::without", 64 + 1),
 ];
 
 /// The functions that can be called, one by the other, from this one.

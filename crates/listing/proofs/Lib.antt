@@ -1,3 +1,0 @@
-pub mod NoteCases
-pub mod PartCases
-pub mod AnswerCases

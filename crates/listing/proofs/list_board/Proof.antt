@@ -1,9 +1,0 @@
-use Rattle.listing.proofs.AnswerCases.{sums-cases}
-use borrow.Author.Needs.{needs}
-use Rattle.listing.proofs.list_board.Statement.{statement}
-use Rattle.listing.proofs.list_board.Tie as tie
-
-pub list-board-spec : {M : Type 1} → statement M
-list-board-spec =
-    tie.close
-    (tie.spec (λ c κs. search sums-cases) (λ c κs. search sums-cases) (λ c κs. search sums-cases) (λ c κs. (search sums-cases, search sums-cases)) (λ c. search needs) (λ c. search sums-cases))

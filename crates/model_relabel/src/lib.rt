@@ -1,1 +1,0 @@
-// Turns under other numbers: definitions and theorems only; no code.

@@ -1,9 +1,0 @@
-use Rattle.replay.proofs.Order.{earlier-is}
-use borrow.Author.Needs.{needs}
-use Rattle.replay.proofs.orders.is_no_earlier.Statement.{statement}
-use Rattle.replay.proofs.orders.is_no_earlier.Tie as tie
-
-pub is-no-earlier-spec : {M : Type 1} → statement M
-is-no-earlier-spec =
-    tie.close
-    (tie.spec (λ c κs. search needs) (λ c κs. search needs) (λ c κs. search needs) (λ c κs. search needs) (λ c. search (needs, earlier-is)))
