@@ -15,9 +15,9 @@ ghost use Rattle.charge_spec.specs.Charge.{chargingSheet, chargeRefused, charge
 mod choosing;
 mod supply;
 
+use charge_spec::ChargeAnswer;
 pub use choosing::choose_listed;
 use choosing::choose_windows;
-use charge_spec::ChargeAnswer;
 use hall_steps::OneKind;
 use instance::MAP_BYTES;
 use instance::MOST_TURNS;

@@ -20,12 +20,12 @@ ghost use Rattle.corpus.specs.Line.{askedAt, askedLong, numbersIn, table
 ghost use Rattle.corpus.specs.Line.{readLine, writeLine, checkLine, assignLine, bestLine, improveLine, chargeLine};
 use assign_spec::AssignAnswer;
 use best_spec::BestAnswer;
-use check_spec::CheckAnswer;
 use charge_spec::ChargeAnswer;
+use check_spec::CheckAnswer;
+use improve_spec::ImproveAnswer;
 use numbers::lesser_usize;
 use numbers::one_if_u16;
 use refusal::WriteAnswer;
-use improve_spec::ImproveAnswer;
 use sheet::ReadAnswer;
 
 // Bytes of the numbers that an entry is asked with: one of eight bytes, three of four.

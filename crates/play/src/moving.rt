@@ -6,6 +6,7 @@ ghost use Rattle.turn.specs.Turn.{shiftMinutes};
 ghost use Rattle.play_spec.specs.DayTable.{doingBy};
 ghost use Rattle.play_spec.specs.Standing.{freshOf, movedBy, totalOf};
 ghost use Rattle.play_spec.specs.Minutes.{begunOf, stepOf, minuteOf, MinuteReady, AllReady};
+ghost use Rattle.play.specs.Packed.{packed, mostAdded};
 use super::days::OVER_MINUTES;
 use super::days::stint_in;
 use play_spec::Standing;
@@ -13,6 +14,15 @@ use play_spec::Stint;
 
 // The turn in hand where none is.
 const NO_TURN: u16 = 65535;
+
+// A standing packed into 64 bits, 16 for each: minutes worked, driven over, stood, and the turn in hand.
+const DRIVING_UNIT: u64 = 65536;
+
+const STANDING_UNIT: u64 = 4294967296;
+
+const TURN_UNIT: u64 = 281474976710656;
+
+const NONE_IN_HAND: u64 = NO_TURN as u64 * TURN_UNIT;
 
 // Before the first minute.
 fn fresh() -> Standing
@@ -36,32 +46,35 @@ fn begun(s: Standing, m: u16) -> Standing
     s
 }
 
-// A standing after minute m: before the stint the groomer stands, in it it works, after it it drives over.
+// What minute m of a stint adds to a packed standing: before the stint the groomer stands, in it it works, after
+// it it drives over. The stint comes as its numbers, so that the compiled code has no branch.
+fn added(turn: u16, begin: u16, end: u16, m: u16) -> u64
+    ensures { λ r. ⌜ (r ≡ packed (movedBy freshOf (doingBy (record { turn = turn; begin = begin; end = end }) m))) × (r ≤ mostAdded) ⌝ }
+{
+    let worked = 1 + turn as u64 * TURN_UNIT;
+    if m < begin {
+        return STANDING_UNIT + NONE_IN_HAND;
+    }
+    if m < end {
+        return worked;
+    }
+    DRIVING_UNIT + NONE_IN_HAND
+}
+
+// A standing after minute m.
 fn moved(s: Standing, k: Stint, m: u16) -> Standing
     requires { ⌜ totalOf s < shiftMinutes ⌝ }
     ensures { λ r. ⌜ r ≡ movedBy s (doingBy k m) ⌝ }
 {
-    if m < k.begin {
-        return Standing {
-            working: s.working,
-            driving: s.driving,
-            standing: s.standing + 1,
-            turn: NO_TURN,
-        };
-    }
-    if m < k.end {
-        return Standing {
-            working: s.working + 1,
-            driving: s.driving,
-            standing: s.standing,
-            turn: k.turn,
-        };
-    }
+    let counts = s.working as u64
+        + s.driving as u64 * DRIVING_UNIT
+        + s.standing as u64 * STANDING_UNIT;
+    let x = counts + added(k.turn, k.begin, k.end, m);
     Standing {
-        working: s.working,
-        driving: s.driving + 1,
-        standing: s.standing,
-        turn: NO_TURN,
+        working: (x % DRIVING_UNIT) as u16,
+        driving: (x / DRIVING_UNIT % DRIVING_UNIT) as u16,
+        standing: (x / STANDING_UNIT % DRIVING_UNIT) as u16,
+        turn: (x / TURN_UNIT) as u16,
     }
 }
 

@@ -30,15 +30,15 @@ use assign_spec::AssignAnswer;
 use best_spec::BestAnswer;
 use board_open::CountAnswer;
 use board_open::Part;
+use charge_spec::ChargeAnswer;
 use check_spec::CheckAnswer;
 use hall_by_prices_spec::ChargeRefineAnswer;
-use charge_spec::ChargeAnswer;
+use improve_spec::ImproveAnswer;
 use limit_spec::LimitAnswer;
 use play_spec::PlayAnswer;
 use play_spec::Standing;
 use refine_spec::RefineAnswer;
 use refusal::WriteAnswer;
-use improve_spec::ImproveAnswer;
 use sheet::ReadAnswer;
 
 #[no_mangle]
