@@ -1,37 +1,32 @@
 -- The entry's answer by its cases, each premise in the form in which the code's calls and tests leave it. Assumes nothing.
 use Prim.Native.Nat.{ℕ, _<_, _≤_}
 use mathlib.Core.Path.{_≡_, refl, sym, ap, _∙_}
-use mathlib.Core.Bool.{Bool, true, false, not, cond}
+use mathlib.Core.Bool.{Bool, true, false, not}
 use mathlib.Core.List.{List, [], _∷_, _++_}
 use native.Mathlib.Omega.{arith}
 use lib.ListN.{length, drop, take, replicate}
 use lib.Seq.{length-take-le}
 use Rattle.refusal.specs.Number.{bufferTooSmall, notSingleTurns}
-use Rattle.refusal.specs.Cause.{_when_, firstOf}
-use Rattle.refusal.proofs.Order.{first-stops, first-goes}
+use Rattle.refusal.specs.Cause.{Cause, _when_, firstOf}
 use Rattle.sheet.specs.declared.answer.ReadAnswer.{ReadAnswer}
-use Rattle.sheet.specs.Read.{turnCount, sheetCauses}
-use Rattle.sheet.proofs.Readings.{sheet-numbered}
-use Rattle.sheet.proofs.Unrefused.{few-groomers}
+use Rattle.sheet.specs.Read.{turnCount}
 use Rattle.choice_map.specs.Choice.{choiceIn, mapBytes, mapOf, Clean}
 use Rattle.choice_map.proofs.Clean.{clean-map, zeros-clean, zeros-choice, map-length}
 use Rattle.instance.specs.declared.columns.Size.{Size}
 use Rattle.instance.specs.Columns.{turnsBy}
 use Rattle.instance_spec.specs.Problem.{sheetTurns}
 use Rattle.instance.specs.Load.{shiftSize, Loaded}
-use Rattle.instance_spec.proofs.SheetTurns.{sheet-count, sheet-groomers}
+use Rattle.instance_spec.proofs.SheetTurns.{sheet-count}
 use Rattle.instance.proofs.Rows.{count-is}
 use Rattle.model.specs.Turns.{Turns}
 use Rattle.best_spec.specs.declared.BestAnswer.{BestAnswer}
 use Rattle.best_spec.specs.Table.{bestWorth, bestChoice}
 use Rattle.best_spec.specs.Single.{singleTurns}
-use Rattle.best_spec.specs.Best.{bestCauses, found, bestIn, bestOf, singleCauses, bestRefused}
-use Rattle.best_table.specs.OrderAndTable.{Ranged}
+use Rattle.best_spec.specs.Best.{bestCauses, Earned, found, bestIn, bestOf, singleCauses, bestRefused}
 use Rattle.best_spec.proofs.Optimal.{best-length}
-use Rattle.best_spec.proofs.BestCauses.{single-numbered}
 use Rattle.refusal.specs.Outcome.{beside, unless, thenRoom}
-use Rattle.refusal.proofs.Outcome.{room-stopped, room-short, room-enough, room-left}
-use Rattle.instance.proofs.Posed.{loaded-held, loaded-turns, loaded-count}
+use Rattle.refusal.proofs.Outcome.{unless-first, unless-same, tried-before, tried-behind, room-short, room-enough}
+use Rattle.instance.proofs.Posed.{loaded-tried, loaded-held, loaded-turns, loaded-groomers}
 
 -- ---- the map of the best set
 
@@ -72,45 +67,33 @@ pub ruleset problem-cases = (problem-small, problem-room, problem-done)
 -- ---- the answer
 
 module _ (s cols lent : List ℕ) {r : ReadAnswer} (e : Loaded s r cols) where
-  -- a cause before the lent bytes is given
-  declines : (k : ℕ) → firstOf (singleCauses s) ≡ k → (k ≡ 0 → ⊥) → bestOf s lent ≡ beside (bestRefused k) lent
-  unfolding bestOf bestCauses
-  declines = room-stopped (singleCauses s) (mapBytes (turnCount s)) (length lent) _ (λ k. beside (bestRefused k) lent)
+  abbrev refused : ℕ → Earned
+  refused k = beside (bestRefused k) lent
 
   pub best-fault : {x : BestAnswer} → (r .refusal ≡ 0 → ⊥) → x ≡ bestRefused (r .refusal) → beside x lent ≡ bestOf s lent
-  unfolding singleCauses
-  best-fault f g = rw g (sym (declines (r .refusal) (first-stops (sheetCauses s) _ (r .refusal) (sym (e .refusal)) f) f))
+  unfolding bestOf bestCauses singleCauses
+  best-fault f g = rw g (tried-before (loaded-tried s cols e) _ refused _ _ f)
 
-  module _ (f : r .refusal ≡ 0) where
-    sound : firstOf (sheetCauses s) ≡ 0
-    sound = e .posed f .sound
+  module _ (f : r .refusal ≡ 0) {p : Size} (q : p ≡ shiftSize (r .turns)) {b : Bool} (g : b ≡ singleTurns (turnsBy p cols)) where
+    -- what may be wrong then
+    abbrev few : List Cause
+    few = thenRoom [] (mapBytes (turnCount s)) (length lent)
 
-    later : {b : Bool} → singleTurns (sheetTurns s) ≡ b → firstOf (singleCauses s) ≡ cond (not b) notSingleTurns 0
-    unfolding singleCauses firstOf
-    later g = first-goes (sheetCauses s) (notSingleTurns when not (singleTurns (sheetTurns s)) ∷ []) (sheet-numbered s) sound ∙ rw g
+    later : unless (notSingleTurns when not b ∷ few) (found (sheetTurns s) lent) refused ≡ bestOf s lent
+    unfolding bestOf bestCauses singleCauses
+    later = rw (g, loaded-turns s cols e f q) (tried-behind (loaded-tried s cols e) _ refused (notSingleTurns when not (singleTurns (sheetTurns s)) ∷ []) few f)
 
-    module _ {p : Size} (q : p ≡ shiftSize (r .turns)) where
-      turns-are : turnsBy p cols ≡ sheetTurns s
-      turns-are = loaded-turns s cols e f q
+    pub best-two : {x : BestAnswer} → b ≡ false → x ≡ bestRefused notSingleTurns → beside x lent ≡ bestOf s lent
+    unfolding firstOf
+    best-two z h = rw h (sym (unless-first (notSingleTurns when not b ∷ few) (found (sheetTurns s) lent) refused notSingleTurns (rw z) (omega arith)) ∙ later)
 
-      pub best-ranged : Ranged p cols
-      best-ranged = record { groomers = λ t h. rw turns-are (omega (arith, sheet-groomers s sound t (omega (arith, loaded-count s cols e f q)), few-groomers s sound)) }
+    pub best-found : {x : BestAnswer} {lent′ : List ℕ} → b ≡ true → beside x lent′ ≡ bestIn (turnsBy p cols) lent → beside x lent′ ≡ bestOf s lent
+    unfolding bestIn firstOf
+    best-found z h =
+        h
+        ∙ ap (λ (T : Turns). bestIn T lent) (loaded-turns s cols e f q)
+        ∙ ap (λ (n : ℕ). unless (thenRoom [] (mapBytes n) (length lent)) (found (sheetTurns s) lent) refused) (sheet-count s (e .posed f .sound))
+        ∙ unless-same few (found (sheetTurns s) lent) refused (notSingleTurns when not b ∷ few) (rw z)
+        ∙ later
 
-      module _ {b : Bool} (g : b ≡ singleTurns (turnsBy p cols)) where
-        single-is : singleTurns (sheetTurns s) ≡ b
-        single-is = sym (g ∙ ap singleTurns turns-are)
-
-        pub best-two : {x : BestAnswer} → b ≡ false → x ≡ bestRefused notSingleTurns → beside x lent ≡ bestOf s lent
-        best-two z h = rw h (sym (declines notSingleTurns (later (single-is ∙ z)) (omega arith)))
-
-        -- with one turn a slope and no drivers: only the lent bytes may be too few
-        whole : b ≡ true → bestIn (sheetTurns s) lent ≡ bestOf s lent
-        unfolding bestIn bestOf bestCauses
-        whole z =
-            ap (λ (n : ℕ). unless (thenRoom [] (mapBytes n) (length lent)) (found (sheetTurns s) lent) (λ k. beside (bestRefused k) lent)) (sheet-count s sound)
-            ∙ room-left (singleCauses s) (mapBytes (turnCount s)) (length lent) _ (λ k. beside (bestRefused k) lent) (single-numbered s) (later (single-is ∙ z))
-
-        pub best-found : {x : BestAnswer} {lent′ : List ℕ} → b ≡ true → beside x lent′ ≡ bestIn (turnsBy p cols) lent → beside x lent′ ≡ bestOf s lent
-        best-found z h = h ∙ ap (λ (T : Turns). bestIn T lent) turns-are ∙ whole z
-
-pub ruleset best-cases = (best-fault, loaded-held, best-ranged, best-two, best-found)
+pub ruleset best-cases = (best-fault, loaded-held, loaded-groomers, best-two, best-found)

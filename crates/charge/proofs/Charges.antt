@@ -41,7 +41,7 @@ use Rattle.charge.specs.OneKind.{kindChoice}
 use Rattle.charge_spec.specs.Charge.{chargingSheet, hallOf, chargeCauses, hallFound, chargeIn, chargeOf, chargeRefused}
 use Rattle.charge_spec.proofs.ChargingSheets.{charging-sound, charging-given, units-of, vehicle-of, draw-of}
 use Rattle.refusal.specs.Outcome.{beside, unless, thenRoom}
-use Rattle.refusal.proofs.Outcome.{room-stopped, room-short, room-enough, room-left}
+use Rattle.refusal.proofs.Outcome.{Tried, tried-stops, tried-goes, room-short, room-enough}
 
 -- ---- the plan of one kind
 
@@ -167,57 +167,55 @@ pub ruleset charge-in-cases = (hall-small, hall-room, hall-done)
 
 -- ---- the answer
 
-module _ (s lent : List ℕ) {K : Kind} {r : ReadAnswer} (k : K ≡ chargingSheet) (e : r ≡ answerFor K s) where
+module _ (s : List ℕ) {K : Kind} {r : ReadAnswer} (k : K ≡ chargingSheet) (e : r ≡ answerFor K s) where
   own : r ≡ answerFor chargingSheet s
   own = e ∙ ap (λ (J : Kind). answerFor J s) k
 
-  pub charge-fault : {x : ChargeAnswer} → (r .refusal ≡ 0 → ⊥) → x ≡ chargeRefused (r .refusal) → beside x lent ≡ chargeOf s lent
-  unfolding chargeOf chargeCauses
-  charge-fault f g = rw g (sym (room-stopped (causesFor chargingSheet s) (mapBytes (turnCount s)) (length lent) _ (λ k. beside (chargeRefused k) lent) (r .refusal) (sym (whole-refusal-for chargingSheet s own)) f))
+  -- an entry's causes come behind the sheet's
+  pub charge-tried : Tried (causesFor chargingSheet s) (r .refusal)
+  charge-tried = record { number = whole-refusal-for chargingSheet s own; above = causes-numbered chargingSheet (charging-sound .numbers) s }
 
   module _ (f : r .refusal ≡ 0) where
     pub accepted : firstOf (causesFor chargingSheet s) ≡ 0
     accepted = whole-accepted-for chargingSheet s own f
 
-    pub count : r .turns ≡ turnCount s
-    count = whole-turns-for chargingSheet s own f
-
-    units : r .groomers ≡ countsIn s .groomers
-    units = ap (λ (x : ReadAnswer). x .groomers) (whole-answer-for chargingSheet s own f)
+    pub counts-are : (r .groomers ≡ countsIn s .groomers) × (r .slopes ≡ countsIn s .slopes) × (r .turns ≡ turnCount s)
+    counts-are = let w = whole-answer-for chargingSheet s own f in (ap (λ (x : ReadAnswer). x .groomers) w, ap (λ (x : ReadAnswer). x .slopes) w, whole-turns-for chargingSheet s own f)
 
     module _ (cols : List ℕ) (w : r .refusal ≡ 0 → (gap : ℕ) → PosedFor gap s cols) where
       abbrev size : Size
       size = record { count = r .turns; gap = hallGap }
 
       turns-are : turnsBy size cols ≡ problemOf hallGap (turnsOf s)
-      turns-are = rw count (w f hallGap .turns)
+      turns-are = rw (counts-are .2) (w f hallGap .turns)
 
       pub charge-held : HallHeld (r .groomers) (record { count = r .turns; gap = hallGap }) cols
       charge-held =
           record {
-            held = rw count (w f hallGap .held);
+            held = rw (counts-are .2) (w f hallGap .held);
             gapless = refl;
-            units-from = rw units (units-of s accepted .0);
-            units-to = rw units (units-of s accepted .1);
-            vehicles = λ t l. rw turns-are (vehicle-of s accepted t (omega (arith, count)));
-            draws = λ t l. rw (turns-are, units) (draw-of s accepted t (omega (arith, count)) .1);
+            units-from = rw (counts-are .0) (units-of s accepted .0);
+            units-to = rw (counts-are .0) (units-of s accepted .1);
+            vehicles = λ t l. rw turns-are (vehicle-of s accepted t (omega (arith, counts-are .2)));
+            draws = λ t l. rw (turns-are, counts-are .0) (draw-of s accepted t (omega (arith, counts-are .2)) .1);
           }
 
       pub hall-is : hallBy (r .groomers) (record { count = r .turns; gap = hallGap }) cols ≡ hallOf s
       unfolding hallOf
-      hall-is = rw (units, turns-are)
+      hall-is = rw (counts-are .0, turns-are)
 
-      window-count : windowCount (hallOf s) ≡ turnCount s
-      unfolding hallOf
-      window-count = sheet-count-for chargingSheet charging-sound hallGap s accepted
+  module _ (lent : List ℕ) where
+    pub charge-fault : {x : ChargeAnswer} → (r .refusal ≡ 0 → ⊥) → x ≡ chargeRefused (r .refusal) → beside x lent ≡ chargeOf s lent
+    unfolding chargeOf chargeCauses
+    charge-fault f g = rw g (tried-stops charge-tried _ (λ k. beside (chargeRefused k) lent) _ f)
 
-      whole : chargeIn (hallOf s) lent ≡ chargeOf s lent
-      unfolding chargeIn chargeOf chargeCauses
-      whole =
-          ap (λ (n : ℕ). unless (thenRoom [] (mapBytes n) (length lent)) (hallFound (hallOf s) lent) (λ k. beside (chargeRefused k) lent)) window-count
-          ∙ room-left (causesFor chargingSheet s) (mapBytes (turnCount s)) (length lent) _ (λ k. beside (chargeRefused k) lent) (causes-numbered chargingSheet (charging-sound .numbers) s) accepted
-
-      pub charge-found : {x : ChargeAnswer} {lent′ : List ℕ} → beside x lent′ ≡ chargeIn (hallBy (r .groomers) (record { count = r .turns; gap = hallGap }) cols) lent → beside x lent′ ≡ chargeOf s lent
-      charge-found h = h ∙ ap (λ (H : Hall). chargeIn H lent) hall-is ∙ whole
+    pub charge-found : (f : r .refusal ≡ 0) (cols : List ℕ) → (r .refusal ≡ 0 → (gap : ℕ) → PosedFor gap s cols) → {x : ChargeAnswer} {lent′ : List ℕ}
+        → beside x lent′ ≡ chargeIn (hallBy (r .groomers) (record { count = r .turns; gap = hallGap }) cols) lent → beside x lent′ ≡ chargeOf s lent
+    unfolding chargeIn chargeOf chargeCauses hallOf
+    charge-found f cols w h =
+        h
+        ∙ ap (λ (H : Hall). chargeIn H lent) (hall-is f cols w)
+        ∙ ap (λ (n : ℕ). unless (thenRoom [] (mapBytes n) (length lent)) (hallFound (hallOf s) lent) (λ k. beside (chargeRefused k) lent)) (sheet-count-for chargingSheet charging-sound hallGap s (accepted f))
+        ∙ tried-goes charge-tried (hallFound (hallOf s) lent) (λ k. beside (chargeRefused k) lent) f _
 
 pub ruleset charge-cases = (charging-given, charge-fault, charge-held, charge-found)

@@ -1,8 +1,8 @@
 -- The rounds' entry by its cases, each premise in the form in which the code's calls and tests leave it. Assumes nothing.
 use Prim.Native.Nat.{ℕ, _≤_, _<_}
 use mathlib.Core.Path.{_≡_, refl, sym, ap, _∙_}
-use mathlib.Core.Bool.{Bool, false, cond, _||_}
-use mathlib.Core.List.{List, [], _∷_, _++_}
+use mathlib.Core.Bool.{Bool}
+use mathlib.Core.List.{List, _++_}
 use native.Mathlib.Omega.{arith}
 use lib.Dec.{ltb}
 use lib.ListN.{length, take, drop, replicate}
@@ -10,15 +10,11 @@ use lib.Seq.{length-take-le}
 use borrow.Author.Tests.{lt-ltb, le-ltb}
 use Rattle.lists.proofs.Bools.{or-1, or-2}
 use Rattle.refusal.specs.Number.{bufferTooSmall}
-use Rattle.refusal.specs.Cause.{Cause, _when_, firstOf}
-use Rattle.refusal.proofs.Order.{first-stops, first-goes}
-use Rattle.refusal.proofs.Outcome.{unless-first, unless-none}
+use Rattle.refusal.proofs.Outcome.{tried-stops, tried-last, tried-found}
 use Rattle.turn.specs.Turn.{shiftMinutes}
 use Rattle.sheet.specs.declared.kind.Kind.{Kind}
 use Rattle.sheet.specs.declared.answer.ReadAnswer.{ReadAnswer}
-use Rattle.sheet.specs.Read.{countsIn, turnCount, causesFor, answerFor}
-use Rattle.sheet.proofs.Readings.{causes-numbered}
-use Rattle.sheet.proofs.Whole.{whole-refusal-for}
+use Rattle.sheet.specs.Read.{turnCount, answerFor}
 use Rattle.choice_map.specs.Choice.{mapBytes, choiceIn, mapOf, Clean}
 use Rattle.choice_map.proofs.Clean.{clean-map, map-choice, map-clean}
 use Rattle.instance.specs.Columns.{columnPlaces, turnsBy}
@@ -27,9 +23,9 @@ use Rattle.instance.proofs.Rows.{count-is}
 use Rattle.charge_spec.specs.Hall.{hallGap}
 use Rattle.charge_spec.specs.Plan.{hallChoice, hallWorth, worthIn}
 use Rattle.charge_spec.proofs.Halls.{plan-length}
-use Rattle.charge_spec.specs.Charge.{chargingSheet, hallOf}
-use Rattle.charge_spec.proofs.ChargingSheets.{charging-sound, charging-given}
-use Rattle.charge.proofs.Charges.{accepted, count}
+use Rattle.charge_spec.specs.Charge.{chargingSheet}
+use Rattle.charge_spec.proofs.ChargingSheets.{charging-given}
+use Rattle.charge.proofs.Charges.{charge-tried, counts-are, hall-is}
 use Rattle.refine_spec.specs.Rounds.{RoundRule, Stage, startFrom, refined, firstChange}
 use Rattle.refine_spec.specs.Shift.{greatestWorth}
 use Rattle.price_rule.specs.declared.RuleFor.the-variants.{Hall}
@@ -42,7 +38,7 @@ use Rattle.hall_by_prices_spec.specs.Refine.{chargeRefineCauses, chargeRefineme
 use Rattle.hall_by_prices_spec.specs.Answer.{chargeRefinedBy, chargeRefineRefused}
 use Rattle.hall_look.specs.declared.HallSize.{HallSize}
 use Rattle.hall_look.specs.Look.{hallFor, HallPosed}
-use Rattle.hall_by_prices.proofs.EntryCases.{own, vehicles-are, hall-posed, hall-for}
+use Rattle.hall_by_prices.proofs.EntryCases.{hall-posed}
 
 -- ---- the rounds from the hall's plan
 
@@ -111,38 +107,36 @@ pub ruleset written-cases = (lent-bytes, lent-numbers, lent-places, rounds-writt
 -- ---- the answer
 
 module _ (s : List ℕ) (rounds : ℕ) (map prices : List ℕ) {K : Kind} {r : ReadAnswer} (k : K ≡ chargingSheet) (e : r ≡ answerFor K s) where
-  abbrev after : List Cause
-  after = bufferTooSmall when (ltb (length map) (mapBytes (turnCount s)) || ltb (length prices) shiftMinutes) ∷ []
-
-  declines : (n : ℕ) → firstOf (chargeRefineCauses s (length map) (length prices)) ≡ n → (n ≡ 0 → ⊥) → chargeRefineOf s rounds map prices ≡ notChargeRefined n map prices
-  unfolding chargeRefineOf
-  declines n f z = unless-first (chargeRefineCauses s (length map) (length prices)) _ (λ k. notChargeRefined k map prices) n f z
-
   pub refine-fault : {x : ChargeRefineAnswer} → (r .refusal ≡ 0 → ⊥) → x ≡ chargeRefineRefused (r .refusal) → chargeRefinedBy x map prices ≡ chargeRefineOf s rounds map prices
-  unfolding chargeRefineCauses
-  refine-fault f g = rw g (sym (declines (r .refusal) (first-stops (causesFor chargingSheet s) after (r .refusal) (sym (whole-refusal-for chargingSheet s (own s k e))) f) f))
+  unfolding chargeRefineOf chargeRefineCauses
+  refine-fault f g = rw g (tried-stops (charge-tried s k e) _ (λ k. notChargeRefined k map prices) _ f)
 
   module _ (f : r .refusal ≡ 0) where
-    windows-are : r .turns ≡ turnCount s
-    windows-are = count s [] k e f
+    -- the lent places one by one
+    abbrev few : Bool
+    few = ltb (length map) (mapBytes (turnCount s))
 
-    later : {b : Bool} → (ltb (length map) (mapBytes (turnCount s)) || ltb (length prices) shiftMinutes) ≡ b → firstOf (chargeRefineCauses s (length map) (length prices)) ≡ cond b bufferTooSmall 0
-    unfolding chargeRefineCauses firstOf
-    later g = first-goes (causesFor chargingSheet s) after (causes-numbered chargingSheet (charging-sound .numbers) s) (accepted s [] k e f) ∙ rw g
+    abbrev short : Bool
+    short = ltb (length prices) shiftMinutes
 
-    pub refine-short : {x : ChargeRefineAnswer} {size : ℕ} → size ≡ mapBytes (r .turns) → length map < size → x ≡ chargeRefineRefused bufferTooSmall → chargeRefinedBy x map prices ≡ chargeRefineOf s rounds map prices
-    refine-short m l g = rw g (sym (declines bufferTooSmall (later (or-1 (ltb (length map) (mapBytes (turnCount s))) (ltb (length prices) shiftMinutes) (lt-ltb (length map) (mapBytes (turnCount s)) (omega (arith, m, windows-are))))) (omega arith)))
+    module _ {size : ℕ} (m : size ≡ mapBytes (r .turns)) where
+      size-is : size ≡ mapBytes (turnCount s)
+      size-is = m ∙ ap mapBytes (counts-are s k e f .2)
+
+      pub refine-short : {x : ChargeRefineAnswer} → length map < size → x ≡ chargeRefineRefused bufferTooSmall → chargeRefinedBy x map prices ≡ chargeRefineOf s rounds map prices
+      unfolding chargeRefineOf chargeRefineCauses
+      refine-short l g = rw g (tried-last (charge-tried s k e) _ (λ k. notChargeRefined k map prices) f bufferTooSmall (omega arith) (or-1 few short (lt-ltb (length map) (mapBytes (turnCount s)) (omega (arith, size-is)))))
+
+      pub refine-done : (cols : List ℕ) {x : ChargeRefineAnswer} {map′ prices′ : List ℕ} → (r .refusal ≡ 0 → (gap : ℕ) → PosedFor gap s cols) → size ≤ length map → shiftMinutes ≤ length prices
+          → chargeRefinedBy x map′ prices′ ≡ chargeRefinement (hallRefined (hallFor (record { units = r .groomers; vehicles = r .slopes; size = record { count = r .turns; gap = hallGap } }) cols) (r .slopes) rounds) map prices
+          → chargeRefinedBy x map′ prices′ ≡ chargeRefineOf s rounds map prices
+      unfolding chargeRefineOf chargeRefineCauses
+      refine-done cols w l p z =
+          z ∙ rw (hall-is s k e f cols w, counts-are s k e f .1)
+          (tried-found (charge-tried s k e) _ (λ k. notChargeRefined k map prices) f bufferTooSmall (rw (le-ltb (length map) (mapBytes (turnCount s)) (omega (arith, size-is)), le-ltb (length prices) shiftMinutes p)))
 
     pub refine-few : {x : ChargeRefineAnswer} → length prices < shiftMinutes → x ≡ chargeRefineRefused bufferTooSmall → chargeRefinedBy x map prices ≡ chargeRefineOf s rounds map prices
-    refine-few l g = rw g (sym (declines bufferTooSmall (later (or-2 (ltb (length map) (mapBytes (turnCount s))) (ltb (length prices) shiftMinutes) (lt-ltb (length prices) shiftMinutes l))) (omega arith)))
-
-    pub refine-done : (cols : List ℕ) {x : ChargeRefineAnswer} {map′ prices′ : List ℕ} {size : ℕ} → (r .refusal ≡ 0 → (gap : ℕ) → PosedFor gap s cols) → size ≡ mapBytes (r .turns) → size ≤ length map → shiftMinutes ≤ length prices
-        → chargeRefinedBy x map′ prices′ ≡ chargeRefinement (hallRefined (hallFor (record { units = r .groomers; vehicles = r .slopes; size = record { count = r .turns; gap = hallGap } }) cols) (r .slopes) rounds) map prices
-        → chargeRefinedBy x map′ prices′ ≡ chargeRefineOf s rounds map prices
-    unfolding chargeRefineOf
-    refine-done cols w m l p z =
-        let none : (ltb (length map) (mapBytes (turnCount s)) || ltb (length prices) shiftMinutes) ≡ false =
-        rw (le-ltb (length map) (mapBytes (turnCount s)) (omega (arith, m, windows-are)), le-ltb (length prices) shiftMinutes p) in
-        z ∙ rw (unless-none (chargeRefineCauses s (length map) (length prices)) (chargeRefinement (hallRefined (hallOf s) (countsIn s .slopes) rounds) map prices) (λ k. notChargeRefined k map prices) (later none), hall-for s k e f cols w, vehicles-are s k e f)
+    unfolding chargeRefineOf chargeRefineCauses
+    refine-few l g = rw g (tried-last (charge-tried s k e) _ (λ k. notChargeRefined k map prices) f bufferTooSmall (omega arith) (or-2 few short (lt-ltb (length prices) shiftMinutes l)))
 
 pub ruleset refine-cases = (charging-given, hall-posed, refine-fault, refine-short, refine-few, refine-done)

@@ -9,16 +9,18 @@ use lib.Dec.{ltb}
 use lib.ListN.{length, getD, drop, List·getD-eq-default, List·getD-append}
 use borrow.Author.Tests.{lt-ltb, le-ltb}
 use Rattle.refusal.specs.Cause.{firstOf}
+use Rattle.refusal.proofs.Outcome.{Tried}
 use Rattle.turn.specs.declared.Turn.{Turn}
-use Rattle.turn.specs.Turn.{rowNumbers, turnIn}
+use Rattle.turn.specs.Turn.{rowNumbers, turnIn, mostDriver}
 use Rattle.model.specs.Turns.{Turns}
 use Rattle.sheet.specs.declared.answer.ReadAnswer.{ReadAnswer}
 use Rattle.sheet.specs.declared.kind.Kind.{Kind}
-use Rattle.sheet.specs.Kind.{mostTurns, Sound, shiftSheet}
-use Rattle.sheet.specs.Read.{turnCount, turnsOf, tableOf, causesFor, answerFor, answerOf}
+use Rattle.sheet.specs.Kind.{mostTurns, mostGroomers, mostSlopes, Sound, shiftSheet}
+use Rattle.sheet.specs.Read.{turnCount, turnsOf, tableOf, causesFor, sheetCauses, answerFor, answerOf}
+use Rattle.sheet.proofs.Readings.{sheet-numbered}
 use Rattle.sheet.proofs.SoundKinds.{shift-sheet-given}
 use Rattle.sheet.proofs.Tables.{turns-length, turns-at, table-length, table-row}
-use Rattle.sheet.proofs.Unrefused.{legal-header}
+use Rattle.sheet.proofs.Unrefused.{legal-header, few-groomers, few-slopes}
 use Rattle.sheet.proofs.Whole.{whole-accepted-for, whole-answer-for, whole-turns-for, whole-few-for, whole-room-for, answer-shift-sheet, whole-refusal, whole-accepted}
 use Rattle.instance.specs.declared.ways.Row.{Row}
 use Rattle.instance.specs.declared.columns.Size.{Size}
@@ -26,7 +28,7 @@ use Rattle.instance.specs.Ways.{rowFor}
 use Rattle.instance.specs.Columns.{columnPlaces, rowIn, within, turnsBy, Held}
 use Rattle.instance_spec.specs.Problem.{noTurn, problemOf, shiftGap, sheetTurns}
 use Rattle.instance.specs.Load.{EndsFit, RowsOf, PosedFor, shiftSize, Loaded}
-use Rattle.instance_spec.proofs.SheetTurns.{few-turns-for, sheet-range-for, sheet-starts-for, sheet-ends-for, sheet-worths-for, sheet-slopes-for}
+use Rattle.instance_spec.proofs.SheetTurns.{few-turns-for, sheet-range-for, sheet-starts-for, sheet-ends-for, sheet-worths-for, sheet-slopes-for, sheet-slopes, sheet-groomers, sheet-drivers}
 
 -- ---- a sheet of any kind that is not refused, in columns with its rows
 
@@ -142,8 +144,13 @@ load-shift-sheet s cols {r = r} k w =
 
 pub ruleset shift-sheet-load-cases = (shift-sheet-given, load-shift-sheet)
 
--- ---- what callers take of it, for a problem of the answer's size
+-- ---- what callers take of it
 
+-- a caller's causes come behind the sheet's
+pub loaded-tried : (s cols : List ℕ) {r : ReadAnswer} → Loaded s r cols → Tried (sheetCauses s) (r .refusal)
+loaded-tried s cols l = record { number = l .refusal; above = sheet-numbered s }
+
+-- for a problem of the answer's size
 module _ (s cols : List ℕ) {r : ReadAnswer} {p : Size} (l : Loaded s r cols) (z : r .refusal ≡ 0) (q : p ≡ shiftSize (r .turns)) where
   pub loaded-held : Held p cols
   loaded-held = rw q (l .posed z .held)
@@ -153,3 +160,16 @@ module _ (s cols : List ℕ) {r : ReadAnswer} {p : Size} (l : Loaded s r cols) (
 
   pub loaded-count : p .count ≡ turnCount s
   loaded-count = rw q (l .posed z .count)
+
+  -- its numbers are a shift's
+  pub loaded-groomers : (t : ℕ) → t < p .count → turnsBy p cols .groomer t ≤ mostGroomers
+  loaded-groomers t h = rw loaded-turns (omega (arith, sheet-groomers s (l .posed z .sound) t (omega (arith, loaded-count)), few-groomers s (l .posed z .sound)))
+
+  pub loaded-slopes : (t : ℕ) → t < p .count → (1 ≤ turnsBy p cols .slope t) × (turnsBy p cols .slope t ≤ r .slopes)
+  loaded-slopes t h = rw (loaded-turns, l .posed z .slopes) (sheet-slopes s (l .posed z .sound) t (omega (arith, loaded-count)))
+
+  pub loaded-drivers : (t : ℕ) → t < p .count → turnsBy p cols .driver t ≤ mostDriver
+  loaded-drivers t h = rw loaded-turns (sheet-drivers s (l .posed z .sound) t (omega (arith, loaded-count)))
+
+pub loaded-few-slopes : (s cols : List ℕ) {r : ReadAnswer} → Loaded s r cols → r .refusal ≡ 0 → r .slopes ≤ mostSlopes
+loaded-few-slopes s cols l z = rw (l .posed z .slopes) (few-slopes s (l .posed z .sound))

@@ -1,15 +1,14 @@
 -- The listing's answer by its cases, each premise in the form in which the code's calls and tests leave it. Assumes nothing.
 use Prim.Native.Nat.{ℕ, _+_, _<_, _≤_}
 use mathlib.Core.Path.{_≡_, refl, sym, _∙_}
-use mathlib.Core.List.{List, [], _∷_, _++_}
+use mathlib.Core.List.{List, []}
 use native.Mathlib.Omega.{arith}
-use lib.Dec.{ltb}
 use lib.ListN.{length, take}
 use Rattle.refusal.specs.Number.{bufferTooSmall}
-use Rattle.refusal.specs.Cause.{_when_, firstOf}
-use Rattle.refusal.specs.Written.{Written, writeRefused}
-use Rattle.refusal.proofs.Order.{first-goes}
-use Rattle.refusal.proofs.Written.{written-same, kept-before, kept-small, wrote-enough}
+use Rattle.refusal.specs.Cause.{firstOf}
+use Rattle.refusal.specs.Written.{Written, writeRefused, wrote, kept, writtenUnless}
+use Rattle.refusal.proofs.Outcome.{tried-stops, tried-goes}
+use Rattle.refusal.proofs.Written.{kept-small, wrote-enough}
 use Rattle.wire.specs.Number.{puts}
 use Rattle.wire.proofs.Puts.{puts-front}
 use Rattle.text.specs.Place.{lastPlace}
@@ -19,8 +18,6 @@ use Rattle.model.specs.Ceiling.{ceiling}
 use Rattle.model.specs.Choice.{choice}
 use Rattle.model.proofs.Promised.{planned-keeps}
 use Rattle.sheet.specs.declared.answer.ReadAnswer.{ReadAnswer}
-use Rattle.sheet.specs.Read.{sheetCauses}
-use Rattle.sheet.proofs.Readings.{sheet-numbered}
 use Rattle.choice_map.specs.Choice.{choiceIn, Clean}
 use Rattle.board.specs.Board.{boardTally, boardWorth, boardMap}
 use Rattle.board_open.proofs.OpenCauses.{formed-clean}
@@ -40,7 +37,7 @@ use Rattle.list_spec.specs.Answer.{textAnswer}
 use Rattle.refusal.specs.Outcome.{beside}
 use Rattle.list_spec.proofs.Rounds.{apart-starts}
 use Rattle.list_spec.proofs.Bytes.{listing-bytes}
-use Rattle.instance.proofs.Posed.{loaded-held, loaded-turns}
+use Rattle.instance.proofs.Posed.{loaded-tried, loaded-held, loaded-turns}
 use Rattle.plan.proofs.Space.{board-reads, board-opens, board-header, board-count, board-choice, front-holds, front-is, front-part}
 
 -- ---- a text into lent bytes
@@ -129,17 +126,10 @@ pub ruleset sums-cases = (board-opens, board-ready, board-header, sums-fit, sums
 
 -- ---- the entry
 
--- a sheet that is not refused: what is left to refuse is too few lent bytes
-list-text : (s lent : List ℕ) → firstOf (sheetCauses s) ≡ 0 → textAnswer (sheetListing s) lent ≡ listOf s lent
-unfolding textAnswer listOf listCauses
-list-text s lent z =
-    let last = bufferTooSmall when ltb (length lent) (length (sheetListing s)) ∷ [] in
-    written-same last (sheetListing s) lent (sheetCauses s ++ last) (sym (first-goes (sheetCauses s) last (sheet-numbered s) z))
-
 module _ (s cols lent : List ℕ) {r : ReadAnswer} (e : Loaded s r cols) where
   pub list-fault : {x : WriteAnswer} → (r .refusal ≡ 0 → ⊥) → x ≡ writeRefused (r .refusal) → beside x lent ≡ listOf s lent
-  unfolding listOf listCauses
-  list-fault f g = rw g (sym (kept-before (sheetCauses s) _ _ lent (r .refusal) (sym (e .refusal)) f))
+  unfolding listOf listCauses writtenUnless
+  list-fault f g = rw g (tried-stops (loaded-tried s cols e) _ (λ k. kept k lent) _ f)
 
   module _ (f : r .refusal ≡ 0) {p : Size} (q : p ≡ shiftSize (r .turns)) where
     listing-same : listingFor (r .groomers) (turnsBy p cols) ≡ sheetListing s
@@ -149,7 +139,9 @@ module _ (s cols lent : List ℕ) {r : ReadAnswer} (e : Loaded s r cols) where
     pub list-short : length (listingFor (r .groomers) (turnsBy p cols)) ≤ listingBytes
     list-short = rw listing-same (listing-bytes s (e .posed f .sound))
 
+    -- what is left to refuse is too few lent bytes
     pub list-done : {x : Written} → x ≡ textAnswer (listingFor (r .groomers) (turnsBy p cols)) lent → x ≡ listOf s lent
-    list-done g = (rw listing-same at g) ∙ list-text s lent (e .posed f .sound)
+    unfolding textAnswer listOf listCauses writtenUnless
+    list-done g = (rw listing-same at g) ∙ tried-goes (loaded-tried s cols e) (wrote (sheetListing s) lent) (λ k. kept k lent) f _
 
 pub ruleset list-cases = (list-fault, loaded-held, list-short, list-done)

@@ -1,8 +1,8 @@
 -- The entry's answer by its cases, each premise in the form in which the code's calls and tests leave it. Assumes nothing.
 use Prim.Native.Nat.{ℕ, _+_, _≤_, _<_}
 use mathlib.Core.Path.{_≡_, refl, sym, ap, _∙_}
-use mathlib.Core.Bool.{Bool, false, cond, _||_}
-use mathlib.Core.List.{List, [], _∷_, _++_}
+use mathlib.Core.Bool.{Bool}
+use mathlib.Core.List.{List, _++_}
 use native.Mathlib.Omega.{arith}
 use lib.Dec.{ltb}
 use lib.ListN.{length, take, drop, replicate}
@@ -10,18 +10,14 @@ use lib.Seq.{length-take-le}
 use borrow.Author.Tests.{lt-ltb, le-ltb}
 use Rattle.lists.proofs.Bools.{or-1, or-2}
 use Rattle.refusal.specs.Number.{bufferTooSmall}
-use Rattle.refusal.specs.Cause.{Cause, _when_, firstOf}
-use Rattle.refusal.proofs.Order.{first-stops, first-goes}
-use Rattle.refusal.proofs.Outcome.{unless-first, unless-none}
+use Rattle.refusal.proofs.Outcome.{tried-stops, tried-last, tried-found}
 use Rattle.wire.specs.Number.{bytesOf, puts}
 use Rattle.wire.proofs.Puts.{puts-length}
 use Rattle.model.specs.Turns.{Turns}
 use Rattle.model.specs.Choice.{chosen, fits, choice, worthOfChoice}
 use Rattle.sheet.specs.declared.answer.ReadAnswer.{ReadAnswer}
 use Rattle.sheet.specs.Kind.{mostTurns}
-use Rattle.sheet.specs.Read.{countsIn, turnCount, sheetCauses}
-use Rattle.sheet.proofs.Readings.{sheet-numbered}
-use Rattle.sheet.proofs.Unrefused.{few-slopes, few-groomers}
+use Rattle.sheet.specs.Read.{countsIn, turnCount}
 use Rattle.best_spec.specs.Table.{bestWorth, bestChoice}
 use Rattle.choice_map.specs.Choice.{mapBytes, choiceIn, mapOf, Clean}
 use Rattle.choice_map.proofs.Clean.{choice-length, clean-map}
@@ -30,11 +26,10 @@ use Rattle.instance.specs.declared.columns.Size.{Size}
 use Rattle.instance.specs.Columns.{columnPlaces, turnsBy, Held}
 use Rattle.instance_spec.specs.Problem.{sheetTurns}
 use Rattle.instance.specs.Load.{shiftSize, Loaded}
-use Rattle.instance_spec.proofs.SheetTurns.{sheet-slopes, sheet-groomers, sheet-drivers}
+use Rattle.instance_spec.proofs.SheetTurns.{sheet-groomers}
 use Rattle.instance.proofs.Rows.{count-is}
 use Rattle.selection.proofs.Unchosen.{zeros-size}
 use Rattle.plan_spec.specs.Plan.{boardFor}
-use Rattle.best_table.specs.OrderAndTable.{Ranged}
 use Rattle.limit_spec.specs.Prices.{priceSum, limitBy}
 use Rattle.limit_spec.specs.Limit.{priceCount}
 use Rattle.limit_spec.proofs.Limits.{priced-sum, priced-best}
@@ -58,7 +53,7 @@ use Rattle.price_rounds.specs.Rounds.{roundsFrom, Reaches, RoundsStart}
 use Rattle.refine.specs.PlannedBoard.{shiftRounds, PlannedIn}
 use Rattle.refine_spec.specs.Answer.{refinedBy, refineRefused}
 use Rattle.refine.proofs.BoardCases.{changed-size, board-changed}
-use Rattle.instance.proofs.Posed.{loaded-held, loaded-turns}
+use Rattle.instance.proofs.Posed.{loaded-tried, loaded-held, loaded-turns, loaded-count, loaded-groomers, loaded-slopes, loaded-drivers, loaded-few-slopes}
 
 -- ---- the rule that the functions compute, by one table over all turns, is the shift's
 
@@ -166,73 +161,51 @@ pub refine-list : (n slopes : ℕ) (prices : List ℕ) {p : Size} → p ≡ shif
 refine-list n slopes prices q l = rw q l
 
 module _ (s cols : List ℕ) (rounds : ℕ) (board prices : List ℕ) {r : ReadAnswer} (g : Loaded s r cols) where
-  abbrev after : List Cause
-  after = bufferTooSmall when (ltb (length board) (boardLength (turnCount s) (turnCount s)) || ltb (length prices) (priceCount s)) ∷ []
-
-  declines : (k : ℕ) → firstOf (refineCauses s (length board) (length prices)) ≡ k → (k ≡ 0 → ⊥) → refineOf s rounds board prices ≡ notRefined k board prices
-  unfolding refineOf
-  declines k f z = unless-first (refineCauses s (length board) (length prices)) _ (λ k. notRefined k board prices) k f z
-
   pub refine-fault : {x : RefineAnswer} → (r .refusal ≡ 0 → ⊥) → x ≡ refineRefused (r .refusal) → refinedBy x board prices ≡ refineOf s rounds board prices
-  unfolding refineCauses
-  refine-fault f h = rw h (sym (declines (r .refusal) (first-stops (sheetCauses s) after (r .refusal) (sym (g .refusal)) f) f))
+  unfolding refineOf refineCauses
+  refine-fault f h = rw h (tried-stops (loaded-tried s cols g) _ (λ k. notRefined k board prices) _ f)
 
   module _ (f : r .refusal ≡ 0) where
-    sound : firstOf (sheetCauses s) ≡ 0
-    sound = g .posed f .sound
+    -- the lent places one by one
+    abbrev few : Bool
+    few = ltb (length board) (boardLength (turnCount s) (turnCount s))
 
-    turns-are : r .turns ≡ turnCount s
-    turns-are = g .posed f .count
+    abbrev short : Bool
+    short = ltb (length prices) (priceCount s)
 
-    slopes-are : r .slopes ≡ countsIn s .slopes
-    slopes-are = g .posed f .slopes
-
-    later : {b : Bool} → (ltb (length board) (boardLength (turnCount s) (turnCount s)) || ltb (length prices) (priceCount s)) ≡ b → firstOf (refineCauses s (length board) (length prices)) ≡ cond b bufferTooSmall 0
-    unfolding refineCauses firstOf
-    later h = first-goes (sheetCauses s) after (sheet-numbered s) sound ∙ rw h
-
-    pub refine-short : {x : RefineAnswer} {size : ℕ} → x ≡ refineRefused bufferTooSmall → size ≡ boardLength (r .turns) (r .turns) → length board < size → refinedBy x board prices ≡ refineOf s rounds board prices
-    refine-short h q l = rw h (sym (declines bufferTooSmall (later (or-1 (ltb (length board) (boardLength (turnCount s) (turnCount s))) (ltb (length prices) (priceCount s)) (lt-ltb (length board) (boardLength (turnCount s) (turnCount s)) (omega (arith, q, turns-are))))) (omega arith)))
+    prices-are : r .slopes + r .turns ≡ priceCount s
+    prices-are = rw (g .posed f .slopes, g .posed f .count)
 
     pub refine-few : {x : RefineAnswer} → x ≡ refineRefused bufferTooSmall → length prices < r .slopes + r .turns → refinedBy x board prices ≡ refineOf s rounds board prices
-    refine-few h l = rw h (sym (declines bufferTooSmall (later (or-2 (ltb (length board) (boardLength (turnCount s) (turnCount s))) (ltb (length prices) (priceCount s)) (lt-ltb (length prices) (priceCount s) (omega (arith, slopes-are, turns-are))))) (omega arith)))
+    unfolding refineOf refineCauses
+    refine-few h l = rw h (tried-last (loaded-tried s cols g) _ (λ k. notRefined k board prices) f bufferTooSmall (omega arith) (or-2 few short (lt-ltb (length prices) (priceCount s) (omega (arith, prices-are)))))
 
-    module _ {p : Size} (q : p ≡ shiftSize (r .turns)) where
-      count-same : p .count ≡ r .turns
-      count-same = ap (λ (x : Size). x .count) q
+    pub refine-posed : {p : Size} → p ≡ shiftSize (r .turns) → ShiftPosed (record { size = p; slopes = r .slopes }) cols
+    refine-posed q =
+        record {
+          held = loaded-held s cols g f q;
+          ranged = record { groomers = loaded-groomers s cols g f q };
+          few-slopes = loaded-few-slopes s cols g f;
+          numbers = loaded-slopes s cols g f q;
+          drivers = loaded-drivers s cols g f q;
+        }
 
-      refine-held : Held p cols
-      refine-held = loaded-held s cols g f q
+    module _ {size : ℕ} (e : size ≡ boardLength (r .turns) (r .turns)) where
+      size-is : size ≡ boardLength (turnCount s) (turnCount s)
+      size-is = e ∙ rw (g .posed f .count)
 
-      posed : turnsBy p cols ≡ sheetTurns s
-      posed = loaded-turns s cols g f q
+      pub refine-short : {x : RefineAnswer} → x ≡ refineRefused bufferTooSmall → length board < size → refinedBy x board prices ≡ refineOf s rounds board prices
+      unfolding refineOf refineCauses
+      refine-short h l = rw h (tried-last (loaded-tried s cols g) _ (λ k. notRefined k board prices) f bufferTooSmall (omega arith) (or-1 few short (lt-ltb (length board) (boardLength (turnCount s) (turnCount s)) (omega (arith, size-is)))))
 
-      inside : (t : ℕ) → t < p .count → t < turnCount s
-      inside t h = omega (arith, count-same, turns-are)
-
-      refine-ranged : Ranged p cols
-      refine-ranged = record { groomers = λ t h. rw posed (omega (arith, sheet-groomers s sound t (inside t h), few-groomers s sound)) }
-
-      pub refine-posed : ShiftPosed (record { size = p; slopes = r .slopes }) cols
-      refine-posed =
-          record {
-            held = refine-held;
-            ranged = refine-ranged;
-            few-slopes = omega (arith, slopes-are, few-slopes s sound);
-            numbers = λ t h. let z = sheet-slopes s sound t (inside t h) in rw posed (omega (arith, slopes-are, z .0), omega (arith, slopes-are, z .1));
-            drivers = λ t h. rw posed (sheet-drivers s sound t (inside t h));
-          }
-
-      module _ (l : r .slopes + r .turns ≤ length prices) where
-        numbers : (t : ℕ) → t < turnsBy p cols .count → (1 ≤ turnsBy p cols .groomer t) × (turnsBy p cols .groomer t ≤ countsIn s .groomers)
-        numbers t h = let k : t < turnCount s = omega (arith, count-is p cols, count-same, turns-are) in rw posed (sheet-groomers s sound t k)
-
-        pub refine-done : {x : RefineAnswer} {board′ prices′ : List ℕ} {size : ℕ} → size ≡ boardLength (r .turns) (r .turns) → size ≤ length board
-            → refinedBy x board′ prices′ ≡ refinementOf (turnsBy p cols) (shiftRounds (record { size = p; slopes = r .slopes }) cols rounds (choice (turnsBy p cols))) board prices → refinedBy x board′ prices′ ≡ refineOf s rounds board prices
-        unfolding refineOf
-        refine-done h k z =
-            let none : (ltb (length board) (boardLength (turnCount s) (turnCount s)) || ltb (length prices) (priceCount s)) ≡ false =
-            rw (le-ltb (length board) (boardLength (turnCount s) (turnCount s)) (omega (arith, h, turns-are)), le-ltb (length prices) (priceCount s) (omega (arith, slopes-are, turns-are))) in
-            z ∙ rw (unless-none (refineCauses s (length board) (length prices)) (refinementOf (sheetTurns s) (shiftRefined (sheetTurns s) (countsIn s .groomers) (countsIn s .slopes) rounds) board prices) (λ k. notRefined k board prices) (later none), refined-is (record { size = p; slopes = r .slopes }) cols (countsIn s .groomers) numbers rounds, posed, slopes-are)
+      pub refine-done : {p : Size} {x : RefineAnswer} {board′ prices′ : List ℕ} → p ≡ shiftSize (r .turns) → r .slopes + r .turns ≤ length prices → size ≤ length board
+          → refinedBy x board′ prices′ ≡ refinementOf (turnsBy p cols) (shiftRounds (record { size = p; slopes = r .slopes }) cols rounds (choice (turnsBy p cols))) board prices → refinedBy x board′ prices′ ≡ refineOf s rounds board prices
+      unfolding refineOf refineCauses
+      refine-done {p} q l k z =
+          let posed : turnsBy p cols ≡ sheetTurns s = loaded-turns s cols g f q in
+          let numbers : (t : ℕ) → t < turnsBy p cols .count → (1 ≤ turnsBy p cols .groomer t) × (turnsBy p cols .groomer t ≤ countsIn s .groomers) =
+          λ t h. rw posed (sheet-groomers s (g .posed f .sound) t (omega (arith, count-is p cols, loaded-count s cols g f q))) in
+          z ∙ rw (refined-is (record { size = p; slopes = r .slopes }) cols (countsIn s .groomers) numbers rounds, posed, g .posed f .slopes)
+          (tried-found (loaded-tried s cols g) _ (λ k. notRefined k board prices) f bufferTooSmall (rw (le-ltb (length board) (boardLength (turnCount s) (turnCount s)) (omega (arith, size-is)), le-ltb (length prices) (priceCount s) (omega (arith, prices-are)))))
 
 pub ruleset answer-cases = (refine-fault, refine-short, refine-few, refine-posed, refine-list, plan-room, refine-done)

@@ -52,6 +52,43 @@ module _ {A : Type 0} (cs : List Cause) (found : A) (refused : ℕ → A) where
     pub number-iff : {Words : ℕ → ℕ → Type 0} → Tells Words cs → (k : ℕ) → (k ≡ 0 → ⊥) → (number (unless cs found refused) ≡ k) ↔ FirstAmong Words k
     number-iff t k z = (λ e. t .first k z .0 (sym number-first ∙ e), λ f. number-first ∙ t .first k z .1 f)
 
+-- ---- where some causes are tried before others
+
+-- n is the number of the first that is there, 0 if none is
+pub record Tried (cs : List Cause) (n : ℕ) : Type 0 where
+  pub number : n ≡ firstOf cs
+  pub above : numbered cs ≡ true
+
+module _ {A : Type 0} {cs : List Cause} {n : ℕ} (t : Tried cs n) (found : A) (refused : ℕ → A) where
+  -- one is there: it is given
+  pub tried-stops : (more : List Cause) → (n ≡ 0 → ⊥) → refused n ≡ unless (cs ++ more) found refused
+  tried-stops more f = sym (unless-first (cs ++ more) found refused n (first-stops cs more n (sym (t .number)) f) f)
+
+  -- none is: the others decide
+  module _ (z : n ≡ 0) where
+    pub tried-goes : (more : List Cause) → unless more found refused ≡ unless (cs ++ more) found refused
+    tried-goes more = unless-same more found refused (cs ++ more) (sym (first-goes cs more (t .above) (sym (t .number) ∙ z)))
+
+    -- where there is one other: it is given, or what was found
+    pub tried-last : (k : ℕ) {b : Bool} → (k ≡ 0 → ⊥) → b ≡ true → refused k ≡ unless (cs ++ k when b ∷ []) found refused
+    unfolding firstOf
+    tried-last k {b} f e = sym (unless-first (k when b ∷ []) found refused k (rw e) f) ∙ tried-goes (k when b ∷ [])
+
+    pub tried-found : (k : ℕ) {b : Bool} → b ≡ false → found ≡ unless (cs ++ k when b ∷ []) found refused
+    unfolding firstOf
+    tried-found k {b} e = sym (unless-none (k when b ∷ []) found refused (rw e)) ∙ tried-goes (k when b ∷ [])
+
+  -- the same where the others are two lists
+  module _ (more last : List Cause) where
+    joined : unless (cs ++ (more ++ last)) found refused ≡ unless ((cs ++ more) ++ last) found refused
+    joined = ap (λ (ds : List Cause). unless ds found refused) (sym (append-assoc cs more last))
+
+    pub tried-before : (n ≡ 0 → ⊥) → refused n ≡ unless ((cs ++ more) ++ last) found refused
+    tried-before f = tried-stops (more ++ last) f ∙ joined
+
+    pub tried-behind : n ≡ 0 → unless (more ++ last) found refused ≡ unless ((cs ++ more) ++ last) found refused
+    tried-behind z = tried-goes z (more ++ last) ∙ joined
+
 -- ---- where the last cause is that the lent places are fewer than needed
 
 module _ {A : Type 0} (cs : List Cause) (need places : ℕ) (found : A) (refused : ℕ → A) where
@@ -61,24 +98,14 @@ module _ {A : Type 0} (cs : List Cause) (need places : ℕ) (found : A) (refused
 
   -- where none is there: too few places, and enough
   module _ (n : numbered cs ≡ true) (z : firstOf cs ≡ 0) where
-    alone : {b : Bool} → ltb places need ≡ b → firstOf (thenRoom cs need places) ≡ cond b bufferTooSmall 0
-    unfolding firstOf
-    alone e = first-goes cs (bufferTooSmall when ltb places need ∷ []) n z ∙ rw e
+    none : Tried cs 0
+    none = record { number = sym z; above = n }
 
     pub room-short : places < need → unless (thenRoom cs need places) found refused ≡ refused bufferTooSmall
-    room-short h = unless-first (thenRoom cs need places) found refused bufferTooSmall (alone (lt-ltb places need h)) (omega arith)
+    room-short h = sym (tried-last none found refused refl bufferTooSmall (omega arith) (lt-ltb places need h))
 
     pub room-enough : need ≤ places → unless (thenRoom cs need places) found refused ≡ found
-    room-enough h = unless-none (thenRoom cs need places) found refused (alone (le-ltb places need h))
-
-    -- so the places alone are left to judge, or what stands between
-    pub room-left : unless (thenRoom [] need places) found refused ≡ unless (thenRoom cs need places) found refused
-    room-left = unless-same (thenRoom [] need places) found refused (thenRoom cs need places) (sym (first-goes cs (thenRoom [] need places) n z))
-
-    pub room-behind : (ds : List Cause) → unless (thenRoom ds need places) found refused ≡ unless (thenRoom (cs ++ ds) need places) found refused
-    room-behind ds =
-        unless-same (thenRoom ds need places) found refused (thenRoom (cs ++ ds) need places)
-        (sym (ap firstOf (append-assoc cs ds (thenRoom [] need places)) ∙ first-goes cs (thenRoom ds need places) n z))
+    room-enough h = sym (tried-found none found refused refl bufferTooSmall (le-ltb places need h))
 
 -- nothing is given exactly where no cause before it is there and the lent places are enough
 pub enough-iff : (cs : List Cause) (places need : ℕ) → numbered cs ≡ true → (firstOf (thenRoom cs need places) ≡ 0) ↔ ((firstOf cs ≡ 0) × (need ≤ places))

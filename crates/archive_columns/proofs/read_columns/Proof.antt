@@ -1,3 +1,4 @@
+-- read_columns: reads all columns from a place on into the first rows of a table.
 use Rattle.archive_spec.proofs.Across.{columns-read}
 use Rattle.archive_spec.proofs.Across.{widths-sum}
 use Rattle.archive_spec.proofs.ColumnCases.{laid-cases}

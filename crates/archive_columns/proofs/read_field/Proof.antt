@@ -1,3 +1,4 @@
+-- read_field: reads a field's value at a place if the map names it, else gives the value before.
 use Rattle.archive_spec.proofs.ColumnCases.{field-in-cases}
 use borrow.Author.Needs.{needs}
 use Rattle.archive_columns.proofs.read_field.Statement.{statement}

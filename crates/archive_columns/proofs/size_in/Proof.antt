@@ -1,3 +1,4 @@
+-- size_in: how many bytes a record with this map has for a field.
 use Rattle.archive_spec.proofs.ColumnCases.{byte-size, wide-size}
 use borrow.Author.Needs.{needs}
 use Rattle.archive_columns.proofs.size_in.Statement.{statement}

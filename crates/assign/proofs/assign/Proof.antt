@@ -1,3 +1,4 @@
+-- assign: takes any bytes as a sheet, and writes the number of each turn's groomer into any lent places.
 use Rattle.assign.proofs.Answers.{assign-cases}
 use borrow.Author.Needs.{needs}
 use Rattle.assign.proofs.assign.Statement.{statement}

@@ -1,3 +1,4 @@
+-- number_by_order: writes each turn's number at its place, with lent places for the order; returns how many groomers are used.
 use Rattle.assign.proofs.Places.{cleared}
 use borrow.Author.Needs.{needs}
 use Rattle.assign.proofs.number_by_order.Statement.{statement}

@@ -1,3 +1,4 @@
+-- number_turns: writes each turn's number at its place.
 use Rattle.instance.proofs.OrderPlaces.{local-cases}
 use borrow.Author.Needs.{needs}
 use Rattle.assign.proofs.number_turns.Statement.{statement}

@@ -1,3 +1,4 @@
+-- answer: answers a problem: refuses too few lent bytes; else writes the map of the best set and gives its worth.
 use Rattle.best.proofs.AnswerCases.{problem-cases}
 use mathlib.Core.Path.{sym}
 use lib.Seq.{length-take-le}

@@ -1,3 +1,4 @@
+-- best: reads any bytes as a sheet, finds the best worth, and writes the map of the set that earns it into any lent bytes.
 use Rattle.best.proofs.AnswerCases.{best-cases}
 use borrow.Author.Needs.{needs}
 use Rattle.best.proofs.best.Statement.{statement}

@@ -1,3 +1,4 @@
+-- write_best: writes the map of the best set of a problem; returns its worth.
 use Rattle.best.proofs.AnswerCases.{best-map-cases}
 use borrow.Author.Needs.{needs}
 use Rattle.best.proofs.write_best.Statement.{statement}

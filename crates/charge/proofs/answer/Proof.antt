@@ -1,3 +1,4 @@
+-- answer: the worth of a hall's plan, and its map into any lent bytes.
 use mathlib.Core.Path.{sym}
 use lib.Seq.{length-take-le}
 use native.Mathlib.Omega.{arith}

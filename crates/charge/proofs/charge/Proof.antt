@@ -1,3 +1,4 @@
+-- charge: plans any bytes as a charging sheet: the worth of the hall's plan, and its choice map into any lent bytes.
 use Rattle.charge.proofs.Charges.{charge-cases}
 use borrow.Author.Needs.{needs}
 use Rattle.charge.proofs.charge.Statement.{statement}

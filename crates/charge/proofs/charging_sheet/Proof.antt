@@ -1,3 +1,4 @@
+-- charging_sheet: a charging sheet: its first count is the hall's units, its second the vehicles, and a window's second field is its draw.
 use mathlib.Core.Path.{refl}
 use Rattle.charge_spec.specs.Charge.{chargingSheet}
 use Rattle.charge.proofs.charging_sheet.Statement.{statement}

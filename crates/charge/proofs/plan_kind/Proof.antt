@@ -1,3 +1,4 @@
+-- plan_kind: the plan of one kind into a map that has none chosen; returns its worth.
 use Rattle.charge.proofs.Charges.{kind-cases}
 use borrow.Author.Needs.{needs}
 use Rattle.charge.proofs.plan_kind.Statement.{statement}

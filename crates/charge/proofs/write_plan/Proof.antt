@@ -1,3 +1,4 @@
+-- write_plan: plans both kinds, each into a map of its own, and copies one of them out: the wide windows' only if it earns more than the other.
 use Rattle.charge.proofs.Charges.{greater-cases, wide-room, small-room}
 use Rattle.selection.proofs.Unchosen.{zeros-cases}
 use borrow.Author.Needs.{needs}

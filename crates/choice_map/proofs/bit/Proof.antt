@@ -1,3 +1,4 @@
+-- bit meets its contract.
 use Rattle.choice_map.specs.Choice.{bitOf}
 use mathlib.Core.Path.{refl}
 use borrow.Author.Needs.{needs}

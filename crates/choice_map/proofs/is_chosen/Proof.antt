@@ -1,3 +1,4 @@
+-- is_chosen: whether turn t is chosen.
 use Rattle.choice_map.proofs.Maps.{map-cases}
 use borrow.Author.Needs.{needs}
 use Rattle.choice_map.proofs.is_chosen.Statement.{statement}

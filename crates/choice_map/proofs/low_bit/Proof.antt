@@ -1,3 +1,4 @@
+-- low_bit: the lowest bit that stands in a byte, from bit k on; 8 if there is none.
 use Prim.Native.Nat.{_*_, _/_, _%_, _^_, _<_}
 use lib.Count.{trailing-le}
 use Rattle.choice_map.proofs.Bytes.{low-byte}

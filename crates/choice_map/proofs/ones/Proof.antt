@@ -1,3 +1,4 @@
+-- ones meets its contract.
 use Rattle.choice_map.proofs.Bytes.{ones-byte, ones-most}
 use Rattle.choice_map.proofs.ones.Statement.{statement}
 use Rattle.choice_map.proofs.ones.Tie as tie

@@ -1,3 +1,4 @@
+-- set_bit: sets bit t: in a choice map, turn t is chosen too.
 use Rattle.choice_map.proofs.Maps.{map-cases}
 use borrow.Author.Needs.{needs}
 use Rattle.choice_map.proofs.set_bit.Statement.{statement}

@@ -1,3 +1,4 @@
+-- plan_and_check: plans a sheet into lent bytes and checks the board that was written.
 use Rattle.claim.proofs.Confirming.{confirm-refused, confirm-room, confirm-done}
 use lib.Seq.{length-take-le}
 use mathlib.Core.Path.{sym}

@@ -1,3 +1,4 @@
+-- fetch: fetches so many bytes of standard input to the front; false where they are not there, or do not fit.
 use native.Mathlib.Omega.{arith}
 use lib.Seq.{length-take-le}
 use mathlib.Core.Path.{sym}

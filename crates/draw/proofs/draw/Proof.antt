@@ -1,3 +1,4 @@
+-- draw: draws turns from any seed with any counts, and writes their sheet into any lent bytes.
 use Rattle.draw.proofs.Drawings.{seed-in-word, groomer-count-fits, slope-count-fits, turn-count-fits, draw-cases}
 use borrow.Author.Needs.{needs}
 use Rattle.draw.proofs.draw.Statement.{statement}

@@ -1,3 +1,4 @@
+-- drawn_length: a turn's length.
 use Rattle.draw_spec.proofs.Draws.{length-first, length-second, length-third, length-fourth}
 use native.Mathlib.Omega.{arith}
 use Rattle.draw.proofs.drawn_length.Statement.{statement}

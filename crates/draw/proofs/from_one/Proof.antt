@@ -1,3 +1,4 @@
+-- from_one: a number from 1 to a count.
 use native.Mathlib.Omega.{arith}
 use native.Mathlib.Nat.{mod-lt}
 use borrow.Author.Needs.{needs}

@@ -1,3 +1,4 @@
+-- seed_fault: the first thing wrong with the seed or the counts, or 0.
 use Rattle.draw.proofs.Drawings.{seed-cases}
 use borrow.Author.Needs.{needs}
 use Rattle.draw.proofs.seed_fault.Statement.{statement}

@@ -1,3 +1,4 @@
+-- turn_after: the turn of the five draws after x.
 use Rattle.draw.proofs.Drawings.{five-cases}
 use borrow.Author.Needs.{needs}
 use Rattle.draw.proofs.turn_after.Statement.{statement}

@@ -1,3 +1,4 @@
+-- turn_drawn: the turn of five draws.
 use Rattle.draw.proofs.Drawings.{turn-of-draws}
 use borrow.Author.Needs.{needs}
 use Rattle.draw.proofs.turn_drawn.Statement.{statement}

@@ -1,3 +1,4 @@
+-- write_drawn: what the writer makes of n drawn turns, which need not be judged.
 use Rattle.draw.proofs.Drawings.{drawn-put}
 use borrow.Author.Needs.{needs}
 use Rattle.draw.proofs.write_drawn.Statement.{statement}

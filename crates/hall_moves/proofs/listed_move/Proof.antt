@@ -1,3 +1,4 @@
+-- listed_move: the move for a draw: from the list if it is there, else worked out.
 use Rattle.hall_moves.proofs.MoveCases.{listed-cases}
 use borrow.Author.Needs.{needs}
 use Rattle.hall_moves.proofs.listed_move.Statement.{statement}

@@ -1,3 +1,4 @@
+-- move_by: the move of the price of a minute at which so much is drawn.
 use Rattle.hall_moves.proofs.MoveCases.{move-by-cases}
 use borrow.Author.Needs.{needs}
 use Rattle.hall_moves.proofs.move_by.Statement.{statement}

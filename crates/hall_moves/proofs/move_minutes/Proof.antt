@@ -1,3 +1,4 @@
+-- move_minutes: moves the prices of all minutes by what the relaxed set draws then.
 use Rattle.hall_moves.proofs.MoveCases.{minutes-cases}
 use borrow.Author.Needs.{needs}
 use Rattle.hall_moves.proofs.move_minutes.Statement.{statement}

@@ -1,3 +1,4 @@
+-- limit: the limit of any bytes as a sheet and any numbers as a price list.
 use Rattle.limit.proofs.AnswerCases.{limit-cases}
 use borrow.Author.Needs.{needs}
 use Rattle.limit.proofs.limit.Statement.{statement}

@@ -1,3 +1,4 @@
+-- limit_with: the limit of a problem, with places for the orders.
 use Rattle.shift_look.proofs.DriverlessCases.{none-named}
 use borrow.Author.Needs.{needs}
 use Rattle.limit.proofs.limit_with.Statement.{statement}

@@ -1,3 +1,4 @@
+-- list: plans any bytes as a sheet, and writes the drivers' listing into any lent bytes.
 use Rattle.list.proofs.AnswerCases.{list-cases}
 use borrow.Author.Needs.{needs}
 use Rattle.list.proofs.list.Statement.{statement}

@@ -1,3 +1,4 @@
+-- list_board: the listing of the planner's board.
 use Rattle.list.proofs.AnswerCases.{sums-cases}
 use borrow.Author.Needs.{needs}
 use Rattle.list.proofs.list_board.Statement.{statement}

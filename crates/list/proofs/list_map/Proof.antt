@@ -1,3 +1,4 @@
+-- list_map: the listing of a choice map.
 use Rattle.list.proofs.AnswerCases.{text-cases}
 use borrow.Author.Needs.{needs}
 use Rattle.list.proofs.list_map.Statement.{statement}

@@ -1,3 +1,4 @@
+-- list_problem: the listing of a problem: its board is planned into a place of its own, with room for what planning puts down.
 use Rattle.plan.proofs.Space.{space-cases}
 use borrow.Author.Needs.{needs}
 use Rattle.list.proofs.list_problem.Statement.{statement}

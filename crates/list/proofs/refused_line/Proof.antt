@@ -1,3 +1,4 @@
+-- refused_line: the line in place of a listing where a sheet is refused; returns its bytes, of which those that find a place are written.
 use Rattle.list_spec.proofs.Sizes.{refused-short, refused-most}
 use borrow.Author.Needs.{needs}
 use Rattle.list.proofs.refused_line.Statement.{statement}

@@ -1,3 +1,4 @@
+-- keep_better: the choice made from a list takes the place of the best so far only if it is worth more; returns the worth of the one that stays.
 use Rattle.selection.proofs.Unchosen.{zeros-cases}
 use Rattle.price_rounds.proofs.RoundCases.{better-cases}
 use borrow.Author.Needs.{needs}

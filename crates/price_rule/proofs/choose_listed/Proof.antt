@@ -1,3 +1,4 @@
+-- choose_listed: goes through a list from its last number to its first and chooses each turn or window that fits; a shift's turns are tested by the runs of its orders.
 use Rattle.price_rule.proofs.RuleCases.{chosen-cases}
 use borrow.Author.Needs.{needs}
 use Rattle.price_rule.proofs.choose_listed.Statement.{statement}

@@ -1,3 +1,4 @@
+-- first_change: the change of the first round.
 use Rattle.price_rule.proofs.RuleCases.{change-cases}
 use borrow.Author.Needs.{needs}
 use Rattle.price_rule.proofs.first_change.Statement.{statement}

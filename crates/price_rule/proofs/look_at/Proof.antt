@@ -1,3 +1,4 @@
+-- look_at: the limit at some prices, and their relaxed set into a map that has none chosen.
 use Rattle.price_rule.proofs.RuleCases.{look-cases}
 use borrow.Author.Needs.{needs}
 use Rattle.price_rule.proofs.look_at.Statement.{statement}

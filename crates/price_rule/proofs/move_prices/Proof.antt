@@ -1,3 +1,4 @@
+-- move_prices: moves the prices by a relaxed set, which is there as a map and, by worth, at the end of a list.
 use Rattle.price_rule.proofs.RuleCases.{move-cases}
 use borrow.Author.Needs.{needs}
 use Rattle.price_rule.proofs.move_prices.Statement.{statement}

@@ -1,3 +1,4 @@
+-- put_orders: what does not depend on prices: the orders of a shift's turns, and into the room the runs of these orders, by which a choice is made.
 use Rattle.price_rule.proofs.RuleCases.{table-cases}
 use borrow.Author.Needs.{needs}
 use Rattle.price_rule.proofs.put_orders.Statement.{statement}

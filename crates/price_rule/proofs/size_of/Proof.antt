@@ -1,3 +1,4 @@
+-- size_of: how many turns or windows there are, and the gap between them.
 use Rattle.price_rule.proofs.RuleCases.{size-cases}
 use borrow.Author.Needs.{needs}
 use Rattle.price_rule.proofs.size_of.Statement.{statement}

@@ -1,3 +1,4 @@
+-- refine: makes at most so many rounds for any bytes as a sheet, and writes the best board and the prices of the lowest limit into any lent places.
 use Rattle.plan.proofs.Answers.{plan-room}
 use Rattle.refine.proofs.AnswerCases.{answer-cases}
 use borrow.Author.Needs.{needs}

@@ -1,3 +1,4 @@
+-- refine_with: plans a board and makes it better by rounds, where the lent places suffice.
 use Rattle.selection.proofs.Unchosen.{zeros-cases}
 use Rattle.refine.proofs.AnswerCases.{rounds-start, map-kept, write-room, refine-written, written-cases}
 use borrow.Author.Needs.{needs}

@@ -1,3 +1,4 @@
+-- share_of: twice the draw times the amount, divided by the units, rounded up.
 use Rattle.shares.proofs.Shares.{share-cases}
 use borrow.Author.Needs.{needs}
 use Rattle.shares.proofs.share_of.Statement.{statement}

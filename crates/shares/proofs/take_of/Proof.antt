@@ -1,3 +1,4 @@
+-- take_of: what a step on a window of row x takes from one of row y.
 use Rattle.shares.proofs.Shares.{take-cases}
 use borrow.Author.Needs.{needs}
 use Rattle.shares.proofs.take_of.Statement.{statement}

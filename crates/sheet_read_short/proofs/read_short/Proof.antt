@@ -1,3 +1,4 @@
+-- read_short: reads any bytes as a sheet for the short reader into any lent table.
 use Rattle.sheet.proofs.Limits.{short-read-cases}
 use borrow.Author.Needs.{needs}
 use Rattle.sheet_read_short.proofs.read_short.Statement.{statement}

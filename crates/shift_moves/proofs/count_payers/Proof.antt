@@ -1,3 +1,4 @@
+-- count_payers: the payers of each turn.
 use borrow.Author.Needs.{needs}
 use Rattle.shift_moves.proofs.PayerCases.{payer-cases}
 use Rattle.shift_moves.proofs.count_payers.Statement.{statement}

@@ -1,3 +1,4 @@
+-- lower_price: lowers the price at place i, to 0 at the lowest.
 use Rattle.shift_moves.proofs.MoveCases.{price-put-cases}
 use borrow.Author.Needs.{needs}
 use Rattle.shift_moves.proofs.lower_price.Statement.{statement}

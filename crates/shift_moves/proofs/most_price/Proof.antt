@@ -1,3 +1,4 @@
+-- most_price: the highest price after a round.
 use borrow.Author.Needs.{needs}
 use Rattle.shift_moves.proofs.MoveCases.{most-cases}
 use Rattle.shift_moves.proofs.most_price.Statement.{statement}

@@ -1,3 +1,4 @@
+-- move_price: moves the price at place i.
 use Rattle.shift_moves.proofs.MoveCases.{price-put-cases}
 use borrow.Author.Needs.{needs}
 use Rattle.shift_moves.proofs.move_price.Statement.{statement}

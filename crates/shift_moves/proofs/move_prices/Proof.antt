@@ -1,3 +1,4 @@
+-- move_prices: moves every price by how many turns of the relaxed set pay it.
 use Rattle.shift_moves.proofs.MoveCases.{prices-cases}
 use Rattle.shift_moves.proofs.DriversOrder.{order-once, order-runs}
 use borrow.Author.Needs.{needs}

@@ -1,3 +1,4 @@
+-- move_slopes meets its contract.
 use Rattle.shift_moves.proofs.MoveCases.{slope-cases}
 use borrow.Author.Needs.{needs}
 use Rattle.shift_moves.proofs.move_slopes.Statement.{statement}

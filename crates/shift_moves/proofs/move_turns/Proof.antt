@@ -1,3 +1,4 @@
+-- move_turns meets its contract.
 use Rattle.shift_moves.proofs.MoveCases.{turn-cases}
 use borrow.Author.Needs.{needs}
 use Rattle.shift_moves.proofs.move_turns.Statement.{statement}

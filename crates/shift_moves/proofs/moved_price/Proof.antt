@@ -1,3 +1,4 @@
+-- moved_price: a price that so many pay, after a round.
 use Rattle.shift_moves.proofs.MoveCases.{moved-cases}
 use borrow.Author.Needs.{needs}
 use Rattle.shift_moves.proofs.moved_price.Statement.{statement}

@@ -1,3 +1,4 @@
+-- turn_change: the change of a turn's price.
 use Rattle.shift_moves.proofs.MoveCases.{change-cases}
 use borrow.Author.Needs.{needs}
 use Rattle.shift_moves.proofs.turn_change.Statement.{statement}

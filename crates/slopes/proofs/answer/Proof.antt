@@ -1,3 +1,4 @@
+-- answer: puts what is to be printed for a sheet to the front of the text; returns its bytes.
 use Rattle.slopes.proofs.Answered.{answer-cases}
 use borrow.Author.Needs.{needs}
 use Rattle.slopes.proofs.answer.Statement.{statement}

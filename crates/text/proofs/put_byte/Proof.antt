@@ -1,3 +1,4 @@
+-- put_byte meets its contract.
 use Rattle.text.proofs.Puts.{text-cases}
 use borrow.Author.Needs.{needs}
 use Rattle.text.proofs.put_byte.Statement.{statement}

@@ -1,3 +1,4 @@
+-- put_number: a number in decimal.
 use Rattle.text.proofs.Digits.{number-cases}
 use borrow.Author.Needs.{needs}
 use Rattle.text.proofs.put_number.Statement.{statement}

@@ -1,3 +1,4 @@
+-- outside_range: whether x, however wide, is outside 1 to top.
 use borrow.Author.Tests.{eq-eqb, ne-eqb}
 use Rattle.turn.specs.Turn.{outsideRange}
 use Rattle.turn.proofs.outside_range.Statement.{statement}

@@ -1,3 +1,4 @@
+-- past_shift: whether a turn has no length or ends after the shift.
 use borrow.Author.Needs.{needs}
 use borrow.Author.Tests.{eq-eqb, ne-eqb}
 use Rattle.turn.specs.Turn.{pastShift}

@@ -1,3 +1,4 @@
+-- turn_fault: the first thing wrong with a turn's values, or 0.
 use Rattle.turn.proofs.Faults.{fault-cases}
 use borrow.Author.Needs.{needs}
 use Rattle.turn.proofs.turn_fault.Statement.{statement}

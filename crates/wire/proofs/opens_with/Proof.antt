@@ -1,3 +1,4 @@
+-- opens_with: whether the first three bytes are the mark's.
 use borrow.Author.Needs.{needs}
 use borrow.Author.Tests.{eq-eqb, ne-eqb}
 use Rattle.wire.specs.Mark.{opensWith}

@@ -1,3 +1,4 @@
+-- put_byte: a number's low byte at a place.
 use Rattle.wire.proofs.Puts.{put-cases}
 use borrow.Author.Needs.{needs}
 use Rattle.wire.proofs.put_byte.Statement.{statement}

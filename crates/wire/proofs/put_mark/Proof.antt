@@ -1,3 +1,4 @@
+-- put_mark: the mark at the front of lent bytes.
 use native.Mathlib.Omega.{arith}
 use lib.ListN.{length-set}
 use borrow.Author.Needs.{needs}

@@ -1,3 +1,4 @@
+-- put_quad: a number as four bytes from a place on.
 use Rattle.wire.proofs.Puts.{put-cases}
 use borrow.Author.Needs.{needs}
 use Rattle.wire.proofs.put_quad.Statement.{statement}

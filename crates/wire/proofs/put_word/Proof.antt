@@ -1,3 +1,4 @@
+-- put_word: a number as two bytes from a place on.
 use native.Mathlib.Omega.{arith}
 use lib.ListN.{length-set}
 use Rattle.wire.proofs.Puts.{put-cases}

@@ -1,3 +1,4 @@
+-- keep: keeps any bytes as a sheet by column in any lent bytes.
 use mathlib.Core.Path.{sym}
 use Rattle.sheet.proofs.Whole.{whole-room-for, whole-rows-for, whole-few}
 use Rattle.archive.proofs.KeepCases.{keep-fault, keep-small, keep-header, keep-whole, keep-bytes, keep-done}

@@ -1,3 +1,4 @@
+-- keep_turns: writes the kept form of a sheet from the sheet itself and the turns of a table.
 use Rattle.archive.proofs.KeepCases.{part-room, kept-fits, kept-rows, filled-is, filled-length, turns-kept}
 use borrow.Author.Needs.{needs}
 use Rattle.archive.proofs.keeping.keep_turns.Statement.{statement}

@@ -1,3 +1,4 @@
+-- put_kept: writes the kept form of a sheet from its maps and the turns of a table.
 use Rattle.archive.proofs.KeepCases.{kept-put}
 use borrow.Author.Needs.{needs}
 use Rattle.archive.proofs.keeping.put_kept.Statement.{statement}

@@ -1,3 +1,4 @@
+-- archive: a shift's sheet with the mark of a kept form.
 use Rattle.archive.proofs.RestoreCases.{archive-made}
 use borrow.Author.Needs.{needs}
 use Rattle.archive.proofs.restoring.archive.Statement.{statement}

@@ -1,3 +1,4 @@
+-- form_fault: the first thing wrong with a kept form between its header and its values, or 0.
 use Rattle.archive.proofs.RestoreCases.{form-few, form-map, form-short, form-long, form-none}
 use borrow.Author.Needs.{needs}
 use Rattle.archive.proofs.restoring.form_fault.Statement.{statement}

@@ -1,3 +1,4 @@
+-- judge_kept: the first thing wrong with any bytes as a kept form, or 0; the turns then stand in the table.
 use Rattle.archive.proofs.RestoreCases.{kept-count, kept-few, kept-limits, kept-header, kept-header-stops, kept-rest}
 use borrow.Author.Needs.{needs}
 use Rattle.archive.proofs.restoring.judge_kept.Statement.{statement}

@@ -1,3 +1,4 @@
+-- maps_of: the maps of a kept form, as that part of the caller's bytes.
 use Rattle.archive.proofs.RestoreCases.{maps-part-cases}
 use borrow.Author.Needs.{needs}
 use Rattle.archive.proofs.restoring.maps_of.Statement.{statement}

@@ -1,3 +1,4 @@
+-- put_sheet: the sheet of a kept form whose turns stand in a table.
 use Rattle.archive.proofs.RestoreCases.{sheet-size, sheet-put}
 use borrow.Author.Needs.{needs}
 use Rattle.archive.proofs.restoring.put_sheet.Statement.{statement}

@@ -1,3 +1,4 @@
+-- restore: restores the sheet of any bytes as a kept form in any lent bytes.
 use Rattle.archive.proofs.RestoreCases.{restore-fault, restore-small, restore-header, restore-few, restore-whole, restore-end, restore-bytes, restore-done}
 use borrow.Author.Needs.{needs}
 use Rattle.archive.proofs.restoring.restore.Statement.{statement}

@@ -1,3 +1,4 @@
+-- number_turn: gives turn t its number; returns the groomers that have a turn then.
 use Rattle.assign.proofs.Serving.{numbering-cases}
 use borrow.Author.Needs.{needs}
 use Rattle.assign.proofs.assigning.number_turn.Statement.{statement}

@@ -1,3 +1,4 @@
+-- place_for: the first groomer that is free at a start, as first_free gives it; but where the earliest minute says that all are busy, none is looked at.
 use Rattle.assign.proofs.Serving.{free-cases}
 use borrow.Author.Needs.{needs}
 use Rattle.assign.proofs.assigning.place_for.Statement.{statement}

@@ -1,3 +1,4 @@
+-- is_single: whether no slope has two turns and no turn names a driver.
 use Rattle.best.proofs.SingleCases.{flags-cases}
 use borrow.Author.Needs.{needs}
 use Rattle.best.proofs.single.is_single.Statement.{statement}

@@ -1,3 +1,4 @@
+-- put_counts: the mark, the turns and the steps.
 use Rattle.board.proofs.Fronts.{count-put}
 use borrow.Author.Needs.{needs}
 use Rattle.board.proofs.writing.put_counts.Statement.{statement}

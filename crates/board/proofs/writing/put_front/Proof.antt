@@ -1,3 +1,4 @@
+-- put_front: writes what stands before m steps that are written already: the header, with their sum, and the map.
 use Rattle.board.proofs.Fronts.{front-put}
 use borrow.Author.Needs.{needs}
 use Rattle.board.proofs.writing.put_front.Statement.{statement}

@@ -1,3 +1,4 @@
+-- put_header meets its contract.
 use Rattle.board.proofs.Fronts.{head-put}
 use borrow.Author.Needs.{needs}
 use Rattle.board.proofs.writing.put_header.Statement.{statement}

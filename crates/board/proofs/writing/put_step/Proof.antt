@@ -1,3 +1,4 @@
+-- put_step: writes step i.
 use Rattle.board.proofs.StepBytes.{step-put}
 use borrow.Author.Needs.{needs}
 use Rattle.board.proofs.writing.put_step.Statement.{statement}

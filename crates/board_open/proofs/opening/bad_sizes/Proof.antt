@@ -1,3 +1,4 @@
+-- bad_sizes meets its contract.
 use Rattle.board_open.proofs.Openings.{sizes-cases}
 use borrow.Author.Needs.{needs}
 use Rattle.board_open.proofs.opening.bad_sizes.Statement.{statement}

@@ -1,3 +1,4 @@
+-- chooses: whether any bytes choose turn t as a board; they choose none that they do not have.
 use Rattle.board_open.proofs.Chosen.{chosen-cases}
 use borrow.Author.Needs.{needs}
 use Rattle.board_open.proofs.opening.chooses.Statement.{statement}

@@ -1,3 +1,4 @@
+-- count: how many turns any bytes choose as a board.
 use Rattle.board_open.proofs.Chosen.{chosen-cases}
 use borrow.Author.Needs.{needs}
 use Rattle.board_open.proofs.opening.count.Statement.{statement}

@@ -1,3 +1,4 @@
+-- is_malformed meets its contract.
 use Rattle.board_open.proofs.Openings.{open-cases}
 use borrow.Author.Needs.{needs}
 use Rattle.board_open.proofs.opening.is_malformed.Statement.{statement}

@@ -1,3 +1,4 @@
+-- map: the choice map of a board that opens, as that part of the caller's bytes.
 use Rattle.board_open.proofs.Openings.{map-part-cases}
 use borrow.Author.Needs.{needs}
 use Rattle.board_open.proofs.opening.map.Statement.{statement}

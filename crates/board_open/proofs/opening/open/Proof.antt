@@ -1,3 +1,4 @@
+-- open: 12 where the bytes are no board, else 0.
 use Rattle.board_open.proofs.Openings.{open-cases}
 use borrow.Author.Needs.{needs}
 use Rattle.board_open.proofs.opening.open.Statement.{statement}

@@ -1,3 +1,4 @@
+-- steps: the part of the board's bytes that holds its steps, empty where it does not open.
 use mathlib.Core.Path.{refl}
 use Rattle.board_open.proofs.Openings.{part-cases}
 use Rattle.board_open.proofs.Parts.{place-cases}

@@ -1,3 +1,4 @@
+-- steps_at: the part of the board that `steps` returns.
 use Rattle.board_open.proofs.Parts.{part-named, steps-none, part-at, part-cases}
 use borrow.Author.Needs.{needs}
 use Rattle.board_open.proofs.part.steps_at.Statement.{statement}

@@ -1,3 +1,4 @@
+-- add_if_allowed: chooses window j if the set stays allowed.
 use Rattle.charge.proofs.Allowed.{allowed-cases}
 use borrow.Author.Needs.{needs}
 use Rattle.charge.proofs.choosing.add_if_allowed.Statement.{statement}

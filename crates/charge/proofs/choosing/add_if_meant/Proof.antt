@@ -1,3 +1,4 @@
+-- add_if_meant: chooses window j if the set stays allowed with it; unless any is meant, only one of the kind.
 use Rattle.charge.proofs.Allowed.{meant-cases}
 use borrow.Author.Needs.{needs}
 use Rattle.charge.proofs.choosing.add_if_meant.Statement.{statement}

@@ -1,3 +1,4 @@
+-- choose_each: chooses windows of the kind, or any, from the list's last number to its first, into a map that has none chosen.
 use borrow.Author.Needs.{needs}
 use Rattle.charge.proofs.Frees.{parts-cases, parts-chosen}
 use Rattle.charge.proofs.choosing.choose_each.Statement.{statement}

@@ -1,3 +1,4 @@
+-- choose_free: the same as choose_beside on a list no longer than all windows.
 use borrow.Author.Needs.{needs}
 use Rattle.charge.proofs.Frees.{kept-cases, kept-chosen}
 use Rattle.charge.proofs.choosing.choose_free.Statement.{statement}

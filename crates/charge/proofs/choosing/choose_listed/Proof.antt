@@ -1,3 +1,4 @@
+-- choose_listed: all windows of a list of numbers, whatever their kind.
 use Rattle.charge.proofs.Allowed.{any-chosen}
 use borrow.Author.Needs.{needs}
 use Rattle.charge.proofs.choosing.choose_listed.Statement.{statement}

@@ -1,3 +1,4 @@
+-- choose_windows: going back over m steps, then filling, into a map that has none chosen.
 use Rattle.charge.proofs.Allowed.{both-cases}
 use borrow.Author.Needs.{needs}
 use Rattle.charge.proofs.choosing.choose_windows.Statement.{statement}

@@ -1,3 +1,4 @@
+-- is_allowed: whether a window can be beside the chosen ones: its vehicle is not among them, and the supply lasts.
 use Rattle.charge.proofs.Supplies.{lasts-cases}
 use borrow.Author.Needs.{needs}
 use Rattle.charge.proofs.supply.is_allowed.Statement.{statement}

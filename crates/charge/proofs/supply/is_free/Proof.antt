@@ -1,3 +1,4 @@
+-- is_free: whether a window's vehicle is not among those of the chosen ones.
 use Rattle.charge.proofs.Supplies.{lasts-cases}
 use borrow.Author.Needs.{needs}
 use Rattle.charge.proofs.supply.is_free.Statement.{statement}

@@ -1,3 +1,4 @@
+-- lasts: whether the supply has the window's draw left at each of its minutes.
 use Rattle.charge.proofs.Supplies.{lasts-cases}
 use borrow.Author.Needs.{needs}
 use Rattle.charge.proofs.supply.lasts.Statement.{statement}

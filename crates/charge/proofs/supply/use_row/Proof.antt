@@ -1,3 +1,4 @@
+-- use_row: puts down that a window is chosen: its draw at its minutes, and its vehicle.
 use Rattle.charge.proofs.Supplies.{draw-cases}
 use borrow.Author.Needs.{needs}
 use Rattle.charge.proofs.supply.use_row.Statement.{statement}

@@ -1,3 +1,4 @@
+-- board_fault: the first cause to refuse a board for a problem, and the ceiling of its steps.
 use Rattle.board_open.proofs.Openings.{opened-cases}
 use Rattle.check_board.proofs.Judgements.{board-cases}
 use borrow.Author.Needs.{needs}

@@ -1,3 +1,4 @@
+-- check: checks any bytes as a board against any bytes as a sheet.
 use Rattle.check_board.proofs.Checks.{passed-header, check-cases}
 use borrow.Author.Needs.{needs}
 use Rattle.check_board.proofs.judge.check.Statement.{statement}

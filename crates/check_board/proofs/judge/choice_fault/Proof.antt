@@ -1,3 +1,4 @@
+-- choice_fault: the first cause that the choice gives, 0 if none.
 use Rattle.check_board.proofs.Judgements.{choice-cases}
 use borrow.Author.Needs.{needs}
 use Rattle.check_board.proofs.judge.choice_fault.Statement.{statement}

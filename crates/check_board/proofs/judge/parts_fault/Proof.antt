@@ -1,3 +1,4 @@
+-- parts_fault: the first cause that the parts of a board give, its map and its steps, and the ceiling of the steps.
 use Rattle.check_board.proofs.Judgements.{parts-cases}
 use borrow.Author.Needs.{needs}
 use Rattle.check_board.proofs.judge.parts_fault.Statement.{statement}

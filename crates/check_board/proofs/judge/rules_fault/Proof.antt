@@ -1,3 +1,4 @@
+-- rules_fault: the first cause that the choice or the steps give, and the ceiling of the steps.
 use mathlib.Core.Path.{sym}
 use native.Mathlib.Omega.{arith}
 use lib.Seq.{length-take-le}

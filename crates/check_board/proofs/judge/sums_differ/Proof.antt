@@ -1,3 +1,4 @@
+-- sums_differ: whether the sums that a board names are not those of its steps and its choice, or its worth is below its tally.
 use borrow.Author.Needs.{needs}
 use Rattle.check_board.proofs.Judgements.{wrong-cases}
 use Rattle.check_board.proofs.judge.sums_differ.Statement.{statement}

@@ -1,3 +1,4 @@
+-- sums_fault: the cause that the sums of a board give, 0 if none.
 use Rattle.check_board.proofs.Judgements.{sums-cases}
 use borrow.Author.Needs.{needs}
 use Rattle.check_board.proofs.judge.sums_fault.Statement.{statement}

@@ -1,3 +1,4 @@
+-- is_no_earlier: whether turn t is not an open turn of j's groomer or driver with an earlier end.
 use Rattle.check_board.proofs.Order.{earlier-is}
 use borrow.Author.Needs.{needs}
 use Rattle.check_board.proofs.orders.is_no_earlier.Statement.{statement}

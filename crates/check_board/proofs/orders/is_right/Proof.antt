@@ -1,3 +1,4 @@
+-- is_right: whether a step is right where it stands.
 use Rattle.check_board.proofs.Order.{right-cases}
 use borrow.Author.Needs.{needs}
 use Rattle.check_board.proofs.orders.is_right.Statement.{statement}

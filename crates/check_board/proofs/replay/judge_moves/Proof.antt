@@ -1,3 +1,4 @@
+-- judge_moves: the first cause to refuse m steps, and their ceiling, by place.
 use Rattle.check_board.proofs.Replays.{fault-cases}
 use borrow.Author.Needs.{needs}
 use Rattle.check_board.proofs.replay.judge_moves.Statement.{statement}

@@ -1,3 +1,4 @@
+-- move_at: step i of the written ones, its turn by place.
 use borrow.Author.Needs.{needs}
 use Rattle.check_board.proofs.Replays.{place-of-turn}
 use Rattle.check_board.proofs.replay.move_at.Statement.{statement}

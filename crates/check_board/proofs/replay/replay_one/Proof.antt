@@ -1,3 +1,4 @@
+-- replay_one: a step on the turn at place j, if it is right where it stands; else nothing is changed, and it counts for nothing.
 use borrow.Author.Needs.{needs}
 use Rattle.check_board.proofs.Replays.{one-cases}
 use Rattle.check_board.proofs.replay.replay_one.Statement.{statement}

@@ -1,3 +1,4 @@
+-- steps_fault: the first cause to refuse m steps, and their ceiling.
 use borrow.Author.Needs.{needs}
 use Rattle.check_board.proofs.Replays.{judged-by-number}
 use Rattle.instance.proofs.Placed.{order-numbered}

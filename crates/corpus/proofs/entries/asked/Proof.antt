@@ -1,3 +1,4 @@
+-- asked: one of the numbers of four bytes that an entry is asked with, 0 where they are not there.
 use Rattle.corpus.proofs.LineCases.{asked-cases}
 use borrow.Author.Needs.{needs}
 use Rattle.corpus.proofs.entries.asked.Statement.{statement}

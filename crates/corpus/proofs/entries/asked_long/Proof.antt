@@ -1,3 +1,4 @@
+-- asked_long: the number of eight bytes.
 use Rattle.corpus.proofs.LineCases.{asked-cases}
 use borrow.Author.Needs.{needs}
 use Rattle.corpus.proofs.entries.asked_long.Statement.{statement}

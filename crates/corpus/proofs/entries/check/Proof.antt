@@ -1,3 +1,4 @@
+-- check meets its contract.
 use Rattle.corpus.proofs.LineCases.{line-cases}
 use borrow.Author.Needs.{needs}
 use Rattle.corpus.proofs.entries.check.Statement.{statement}

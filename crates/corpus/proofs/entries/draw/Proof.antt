@@ -1,3 +1,4 @@
+-- draw meets its contract.
 use Rattle.corpus.proofs.LineCases.{asked-lines}
 use borrow.Author.Needs.{needs}
 use Rattle.corpus.proofs.entries.draw.Statement.{statement}

@@ -1,3 +1,4 @@
+-- improve: a better set than the planned one, within the visits that the input gives.
 use Rattle.corpus.proofs.LineCases.{asked-lines}
 use borrow.Author.Needs.{needs}
 use Rattle.corpus.proofs.entries.improve.Statement.{statement}

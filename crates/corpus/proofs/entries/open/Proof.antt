@@ -1,3 +1,4 @@
+-- open: the refusals of opening and of counting, and how many turns are chosen; which ones goes into the lent numbers.
 use Rattle.corpus.proofs.LineCases.{line-cases}
 use borrow.Author.Needs.{needs}
 use Rattle.corpus.proofs.entries.open.Statement.{statement}

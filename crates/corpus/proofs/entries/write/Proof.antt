@@ -1,3 +1,4 @@
+-- write: writes the numbers that stand in the input into the lent bytes, by way of a table.
 use mathlib.Core.Path.{sym}
 use native.Mathlib.Omega.{arith}
 use lib.Seq.{length-take-le}

@@ -1,3 +1,4 @@
+-- charge_limit: the limit of any bytes as a charging sheet and any numbers as a price list.
 use Rattle.hall_by_prices.proofs.EntryCases.{limit-cases}
 use borrow.Author.Needs.{needs}
 use Rattle.hall_by_prices.proofs.limit.charge_limit.Statement.{statement}

@@ -1,3 +1,4 @@
+-- charge_refine: makes at most so many rounds for any bytes as a charging sheet, and writes the best set and the prices of the lowest limit into any lent places.
 use Rattle.hall_by_prices.proofs.RefineCases.{refine-cases}
 use borrow.Author.Needs.{needs}
 use Rattle.hall_by_prices.proofs.refine.charge_refine.Statement.{statement}

@@ -1,3 +1,4 @@
+-- plan_rounds: plans the hall into a map, and makes the rounds from that choice.
 use Rattle.hall_by_prices.proofs.RefineCases.{plan-cases}
 use borrow.Author.Needs.{needs}
 use Rattle.hall_by_prices.proofs.refine.plan_rounds.Statement.{statement}

@@ -1,3 +1,4 @@
+-- refine_hall: the rounds into lent places that suffice.
 use mathlib.Core.Path.{sym}
 use lib.Seq.{length-take-le}
 use native.Mathlib.Omega.{arith}

@@ -1,3 +1,4 @@
+-- keep_best: takes window t for vehicle v if it counts for more than the one there.
 use Rattle.hall_look.proofs.LookCases.{keep-cases}
 use borrow.Author.Needs.{needs}
 use Rattle.hall_look.proofs.limit.keep_best.Statement.{statement}

@@ -1,3 +1,4 @@
+-- limit_with: the limit, and the vehicles' best windows, where none is there before.
 use Rattle.hall_look.proofs.LookCases.{look-cases}
 use borrow.Author.Needs.{needs}
 use Rattle.hall_look.proofs.limit.limit_with.Statement.{statement}

@@ -1,3 +1,4 @@
+-- supply_cost: what all units cost at all minutes.
 use Rattle.hall_look.proofs.LookCases.{supply-cases}
 use borrow.Author.Needs.{needs}
 use Rattle.hall_look.proofs.limit.supply_cost.Statement.{statement}

@@ -1,3 +1,4 @@
+-- put_before: sets the bit of window number - 1, and none where the number is 0.
 use Rattle.hall_look.proofs.RelaxedCases.{before-cases}
 use borrow.Author.Needs.{needs}
 use Rattle.hall_look.proofs.relaxed.put_before.Statement.{statement}

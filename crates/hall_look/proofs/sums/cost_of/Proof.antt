@@ -1,3 +1,4 @@
+-- cost_of: what a window's minutes cost together.
 use Rattle.hall_look.proofs.SumCases.{cost-cases}
 use borrow.Author.Needs.{needs}
 use Rattle.hall_look.proofs.sums.cost_of.Statement.{statement}

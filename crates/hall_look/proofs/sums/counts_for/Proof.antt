@@ -1,3 +1,4 @@
+-- counts_for: what a window counts for.
 use Rattle.hall_look.proofs.SumCases.{counts-cases}
 use borrow.Author.Needs.{needs}
 use Rattle.hall_look.proofs.sums.counts_for.Statement.{statement}

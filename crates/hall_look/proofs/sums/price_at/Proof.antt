@@ -1,3 +1,4 @@
+-- price_at: the price of minute m.
 use Rattle.hall_look.proofs.SumCases.{sums-cases}
 use borrow.Author.Needs.{needs}
 use Rattle.hall_look.proofs.sums.price_at.Statement.{statement}

@@ -1,3 +1,4 @@
+-- is_of_kind: whether a window with this draw is of the kind that is meant.
 use Rattle.hall_steps.proofs.OneKind.{row-cases}
 use borrow.Author.Needs.{needs}
 use Rattle.hall_steps.proofs.one_kind.is_of_kind.Statement.{statement}

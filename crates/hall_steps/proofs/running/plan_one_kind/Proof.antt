@@ -1,3 +1,4 @@
+-- plan_one_kind: writes the steps of the kind that is meant; returns how many.
 use Rattle.hall_steps.proofs.Planned.{one-kind-steps}
 use borrow.Author.Needs.{needs}
 use Rattle.hall_steps.proofs.running.plan_one_kind.Statement.{statement}

@@ -1,3 +1,4 @@
+-- rule_of: the rule by which a step takes from windows of the kind.
 use Rattle.hall_steps.proofs.Planned.{rule-cases}
 use Rattle.hall_steps.proofs.running.rule_of.Statement.{statement}
 use Rattle.hall_steps.proofs.running.rule_of.Tie as tie

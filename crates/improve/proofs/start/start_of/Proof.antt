@@ -1,3 +1,4 @@
+-- start_of: the board is planned into a place of its own, with room for what planning puts down.
 use Rattle.improve.proofs.StartCases.{place-cases}
 use borrow.Author.Needs.{needs}
 use Rattle.improve.proofs.start.start_of.Statement.{statement}

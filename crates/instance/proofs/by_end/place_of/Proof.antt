@@ -1,3 +1,4 @@
+-- place_of: the place of a turn, or the number of turns if the turn has none.
 use borrow.Author.Needs.{needs}
 use Rattle.instance.proofs.Orders.{place-cases}
 use Rattle.instance.proofs.by_end.place_of.Statement.{statement}

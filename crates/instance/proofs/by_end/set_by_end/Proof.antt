@@ -1,3 +1,4 @@
+-- set_by_end: all turns in order of end, those of one end by number; nothing is said of what the spare numbers hold afterwards.
 use borrow.Author.Needs.{needs}
 use Rattle.instance.proofs.Orders.{by-end-cases}
 use Rattle.instance.proofs.by_end.set_by_end.Statement.{statement}

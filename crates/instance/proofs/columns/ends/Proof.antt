@@ -1,3 +1,4 @@
+-- ends: all turns' ends.
 use Rattle.instance.proofs.Rows.{column-cases}
 use borrow.Author.Needs.{needs}
 use Rattle.instance.proofs.columns.ends.Statement.{statement}

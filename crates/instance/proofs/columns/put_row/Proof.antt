@@ -1,3 +1,4 @@
+-- put_row: puts a row at place i.
 use Rattle.instance.proofs.Rows.{row-cases}
 use borrow.Author.Needs.{needs}
 use Rattle.instance.proofs.columns.put_row.Statement.{statement}

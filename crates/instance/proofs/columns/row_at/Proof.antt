@@ -1,3 +1,4 @@
+-- row_at: the row at place i.
 use Rattle.instance.proofs.Rows.{row-cases}
 use borrow.Author.Needs.{needs}
 use Rattle.instance.proofs.columns.row_at.Statement.{statement}

@@ -1,3 +1,4 @@
+-- starts: all turns' starts, as that part of the columns.
 use Rattle.instance.proofs.Rows.{column-cases}
 use borrow.Author.Needs.{needs}
 use Rattle.instance.proofs.columns.starts.Statement.{statement}

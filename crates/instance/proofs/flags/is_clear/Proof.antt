@@ -1,3 +1,4 @@
+-- is_clear: whether a slope's flag is clear.
 use Rattle.instance.proofs.Flagging.{clear-is}
 use borrow.Author.Needs.{needs}
 use Rattle.instance.proofs.flags.is_clear.Statement.{statement}

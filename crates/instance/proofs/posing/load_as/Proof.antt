@@ -1,3 +1,4 @@
+-- load_as: reads any bytes as a sheet of a kind into columns, the reader's answer beside them.
 use Rattle.instance.proofs.Posed.{load-cases, load-few, load-room, load-fits, load-posed}
 use borrow.Author.Needs.{needs}
 use Rattle.instance.proofs.posing.load_as.Statement.{statement}

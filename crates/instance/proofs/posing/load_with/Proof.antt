@@ -1,3 +1,4 @@
+-- load_with: reads any bytes as a shift's sheet into columns, with lent room for the table of turns.
 use Rattle.instance.proofs.Posed.{shift-sheet-load-cases}
 use borrow.Author.Needs.{needs}
 use Rattle.instance.proofs.posing.load_with.Statement.{statement}

@@ -1,3 +1,4 @@
+-- put_rows: the first n turns of a table go into the columns, one column after another.
 use borrow.Author.Needs.{needs}
 use Rattle.instance.proofs.Copying.{rows-cases}
 use Rattle.instance.proofs.posing.put_rows.Statement.{statement}

@@ -1,3 +1,4 @@
+-- with_end: a row that has a length where an end is due, put right.
 use borrow.Author.Needs.{needs}
 use Rattle.instance.proofs.Copying.{end-put}
 use Rattle.instance.proofs.posing.with_end.Statement.{statement}

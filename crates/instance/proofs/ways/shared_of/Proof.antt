@@ -1,3 +1,4 @@
+-- shared_of: what two turns share, whatever their minutes: the ways in which they could conflict.
 use borrow.Author.Needs.{needs}
 use Rattle.instance.proofs.Conflicting.{ways-cases}
 use Rattle.instance.proofs.ways.shared_of.Statement.{statement}

@@ -1,3 +1,4 @@
+-- put_heading: a groomer's heading.
 use Rattle.list.proofs.LinePieces.{heading-cases}
 use borrow.Author.Needs.{needs}
 use Rattle.list.proofs.lines.put_heading.Statement.{statement}

@@ -1,3 +1,4 @@
+-- put_labelled: a word and then a number.
 use Rattle.list.proofs.LinePieces.{labelled-cases}
 use borrow.Author.Needs.{needs}
 use Rattle.list.proofs.lines.put_labelled.Statement.{statement}

@@ -1,3 +1,4 @@
+-- put_line: the line of turn u.
 use Rattle.list.proofs.LinePieces.{line-cases}
 use borrow.Author.Needs.{needs}
 use Rattle.list.proofs.lines.put_line.Statement.{statement}

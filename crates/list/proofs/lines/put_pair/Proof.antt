@@ -1,3 +1,4 @@
+-- put_pair: two of them.
 use Rattle.list.proofs.LinePieces.{pair-cases}
 use borrow.Author.Needs.{needs}
 use Rattle.list.proofs.lines.put_pair.Statement.{statement}

@@ -1,3 +1,4 @@
+-- put_refused: the line of a refusal.
 use Rattle.list.proofs.LinePieces.{refused-cases}
 use borrow.Author.Needs.{needs}
 use Rattle.list.proofs.lines.put_refused.Statement.{statement}

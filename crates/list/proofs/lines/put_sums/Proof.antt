@@ -1,3 +1,4 @@
+-- put_sums: the last line.
 use Rattle.list.proofs.LinePieces.{sums-cases}
 use borrow.Author.Needs.{needs}
 use Rattle.list.proofs.lines.put_sums.Statement.{statement}

@@ -1,3 +1,4 @@
+-- put_two: two of them, and the end of the line.
 use Rattle.list.proofs.LinePieces.{two-cases}
 use borrow.Author.Needs.{needs}
 use Rattle.list.proofs.lines.put_two.Statement.{statement}

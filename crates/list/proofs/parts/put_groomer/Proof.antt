@@ -1,3 +1,4 @@
+-- put_groomer: puts a groomer's heading and the lines of its round.
 use Rattle.list.proofs.PartCases.{groomer-cases, round-fits}
 use borrow.Author.Needs.{needs}
 use Rattle.list.proofs.parts.put_groomer.Statement.{statement}

@@ -1,3 +1,4 @@
+-- put_listing: the whole listing; returns its bytes, of which those that find a place are written.
 use Rattle.list.proofs.PartCases.{listing-cases}
 use borrow.Author.Needs.{needs}
 use Rattle.list.proofs.parts.put_listing.Statement.{statement}

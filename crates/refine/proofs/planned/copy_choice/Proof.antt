@@ -1,3 +1,4 @@
+-- copy_choice: copies the map of a planned board; returns its worth.
 use Rattle.refine.proofs.BoardCases.{plan-cases}
 use borrow.Author.Needs.{needs}
 use Rattle.refine.proofs.planned.copy_choice.Statement.{statement}

@@ -1,3 +1,4 @@
+-- plan_board: plans a board, and copies its map.
 use Rattle.refine.proofs.BoardCases.{lent-cases}
 use borrow.Author.Needs.{needs}
 use Rattle.refine.proofs.planned.plan_board.Statement.{statement}

@@ -1,3 +1,4 @@
+-- write_choice: writes another choice and its worth into a board.
 use Rattle.refine.proofs.BoardCases.{written-choice}
 use borrow.Author.Needs.{needs}
 use Rattle.refine.proofs.planned.write_choice.Statement.{statement}

@@ -1,3 +1,4 @@
+-- next_change: the change of the next round.
 use Rattle.round_parts.proofs.ChangeCases.{change-cases}
 use borrow.Author.Needs.{needs}
 use Rattle.round_parts.proofs.change.next_change.Statement.{statement}

@@ -1,3 +1,4 @@
+-- keep_lower: the limit of some prices takes the place of the lowest so far only if it is lower, and these prices that of its list; returns the limit that stays.
 use Prim.Native.Nat.{_≤_}
 use native.Mathlib.Omega.{arith}
 use Rattle.round_parts.proofs.LowerCases.{lower-not, lower-is, list-stays, list-put}

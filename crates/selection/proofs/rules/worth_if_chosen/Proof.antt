@@ -1,3 +1,4 @@
+-- worth_if_chosen: a turn's worth if it is chosen, else 0.
 use Rattle.selection.proofs.Chosen.{one-cases}
 use borrow.Author.Needs.{needs}
 use Rattle.selection.proofs.rules.worth_if_chosen.Statement.{statement}

@@ -1,3 +1,4 @@
+-- placed_at: what stands at place k of an order.
 use Rattle.selection_by_runs.proofs.RunCases.{placed-cases}
 use borrow.Author.Needs.{needs}
 use Rattle.selection_by_runs.proofs.runs.placed_at.Statement.{statement}

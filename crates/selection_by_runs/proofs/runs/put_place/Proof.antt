@@ -1,3 +1,4 @@
+-- put_place: the columns of an order at place k.
 use Rattle.selection_by_runs.proofs.RunCases.{place-put}
 use borrow.Author.Needs.{needs}
 use Rattle.selection_by_runs.proofs.runs.put_place.Statement.{statement}

@@ -1,3 +1,4 @@
+-- put_runs: the columns of both orders.
 use Rattle.selection_by_runs.proofs.RunCases.{put-cases}
 use borrow.Author.Needs.{needs}
 use Rattle.selection_by_runs.proofs.runs.put_runs.Statement.{statement}

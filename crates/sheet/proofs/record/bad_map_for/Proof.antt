@@ -1,3 +1,4 @@
+-- bad_map_for: whether a record may not have this map.
 use borrow.Author.Needs.{needs}
 use Rattle.sheet.proofs.Records.{map-cases}
 use Rattle.sheet.proofs.record.bad_map_for.Statement.{statement}

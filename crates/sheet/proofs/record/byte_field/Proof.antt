@@ -1,3 +1,4 @@
+-- byte_field: a one-byte field where its bit stands, else the value before.
 use Rattle.sheet.proofs.Records.{field-cases}
 use borrow.Author.Needs.{needs}
 use Rattle.sheet.proofs.record.byte_field.Statement.{statement}

@@ -1,3 +1,4 @@
+-- turn_from: the turn whose fields start at a place, after the turn before it.
 use Rattle.sheet.specs.Record.{widthOf, turnFrom}
 use borrow.Author.Needs.{needs}
 use Rattle.sheet.proofs.record.turn_from.Statement.{statement}

@@ -1,3 +1,4 @@
+-- width: how many bytes the fields of a map take.
 use Rattle.sheet.specs.Record.{widthOf}
 use borrow.Author.Needs.{needs}
 use Rattle.sheet.proofs.record.width.Statement.{statement}

@@ -1,3 +1,4 @@
+-- word_field: a two-byte field where its bit stands, else the value before, likewise.
 use Rattle.sheet.proofs.Records.{field-cases}
 use borrow.Author.Needs.{needs}
 use Rattle.sheet.proofs.record.word_field.Statement.{statement}

@@ -1,3 +1,4 @@
+-- read_counts: the counts in the header of a sheet whose mark is right.
 use Rattle.sheet.proofs.Headers.{counts-cases}
 use borrow.Author.Needs.{needs}
 use Rattle.sheet_read.proofs.header.read_counts.Statement.{statement}

@@ -1,3 +1,4 @@
+-- shift_sheet: a shift's sheet.
 use mathlib.Core.Path.{refl}
 use Rattle.sheet.specs.Kind.{shiftSheet}
 use Rattle.sheet_read.proofs.kind.shift_sheet.Statement.{statement}

@@ -1,3 +1,4 @@
+-- first_cursor: the cursor before the first record.
 use Rattle.sheet.specs.Record.{firstCursor}
 use mathlib.Core.Path.{refl}
 use Rattle.sheet_read.proofs.reading.first_cursor.Statement.{statement}

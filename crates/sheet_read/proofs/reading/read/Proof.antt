@@ -1,3 +1,4 @@
+-- read: reads any bytes as a shift's sheet into any lent table.
 use Rattle.sheet.proofs.Whole.{shift-sheet-cases}
 use borrow.Author.Needs.{needs}
 use Rattle.sheet_read.proofs.reading.read.Statement.{statement}

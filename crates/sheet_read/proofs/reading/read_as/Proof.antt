@@ -1,3 +1,4 @@
+-- read_as: reads any bytes as a sheet of a kind into any lent table.
 use mathlib.Core.Path.{sym}
 use Rattle.sheet.proofs.Whole.{whole-room-for, whole-rows-for, read-done, read-cases}
 use borrow.Author.Needs.{needs}

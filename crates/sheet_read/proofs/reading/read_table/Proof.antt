@@ -1,3 +1,4 @@
+-- read_table: reads any bytes as a shift's sheet, as read_table_of does a sheet of any kind.
 use Rattle.sheet.proofs.Whole.{shift-sheet-cases}
 use borrow.Author.Needs.{needs}
 use Rattle.sheet_read.proofs.reading.read_table.Statement.{statement}

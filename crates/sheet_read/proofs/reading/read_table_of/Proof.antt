@@ -1,3 +1,4 @@
+-- read_table_of: reads any bytes as a sheet of a kind into a table with places for every sheet.
 use Rattle.sheet.proofs.Readings.{answer-cases}
 use borrow.Author.Needs.{needs}
 use Rattle.sheet_read.proofs.reading.read_table_of.Statement.{statement}

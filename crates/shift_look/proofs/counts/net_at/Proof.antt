@@ -1,3 +1,4 @@
+-- net_at: what is left of turn t's worth.
 use Rattle.shift_look.proofs.CountCases.{left-is}
 use borrow.Author.Needs.{needs}
 use Rattle.shift_look.proofs.counts.net_at.Statement.{statement}

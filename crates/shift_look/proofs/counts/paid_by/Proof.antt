@@ -1,3 +1,4 @@
+-- paid_by: all that turn t pays.
 use Rattle.shift_look.proofs.CountCases.{run-sum-cases, paid-cases}
 use borrow.Author.Needs.{needs}
 use Rattle.shift_look.proofs.counts.paid_by.Statement.{statement}

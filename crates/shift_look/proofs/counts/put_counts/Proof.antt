@@ -1,3 +1,4 @@
+-- put_counts: what all turns count for; returns the limit's part that is prices.
 use Rattle.shift_look.proofs.DriverlessCases.{none-named, driverless-prices}
 use borrow.Author.Needs.{needs}
 use Rattle.shift_look.proofs.counts.put_counts.Statement.{statement}

@@ -1,3 +1,4 @@
+-- put_counts_with_drivers: what all turns count for, where some may name a driver; returns the limit's part that is prices.
 use Rattle.shift_look.proofs.CountCases.{left-counts}
 use Rattle.shift_look.proofs.SumCases.{both-cases}
 use borrow.Author.Needs.{needs}

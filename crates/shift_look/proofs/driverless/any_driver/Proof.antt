@@ -1,3 +1,4 @@
+-- any_driver: whether a turn names a driver.
 use Rattle.shift_look.proofs.DriverlessCases.{any-cases}
 use borrow.Author.Needs.{needs}
 use Rattle.shift_look.proofs.driverless.any_driver.Statement.{statement}

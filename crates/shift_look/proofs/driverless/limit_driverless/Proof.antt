@@ -1,3 +1,4 @@
+-- limit_driverless: the limit at these prices, with places for the groomers' order.
 use Rattle.shift_look.proofs.DriverlessCases.{driverless-cases}
 use borrow.Author.Needs.{needs}
 use Rattle.shift_look.proofs.driverless.limit_driverless.Statement.{statement}

@@ -1,3 +1,4 @@
+-- slope_count: what turn t counts for.
 use Rattle.shift_look.proofs.DriverlessCases.{slope-count-cases}
 use borrow.Author.Needs.{needs}
 use Rattle.shift_look.proofs.driverless.slope_count.Statement.{statement}

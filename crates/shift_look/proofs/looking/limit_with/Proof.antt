@@ -1,3 +1,4 @@
+-- limit_with: the table over the counts; returns the limit.
 use Rattle.shift_look.proofs.LookCases.{look-cases}
 use borrow.Author.Needs.{needs}
 use Rattle.shift_look.proofs.looking.limit_with.Statement.{statement}

@@ -1,3 +1,4 @@
+-- look_at: the limit at these prices; the best sets of all groomers go into a map that has none chosen.
 use Rattle.shift_look.proofs.LookCases.{look-cases}
 use borrow.Author.Needs.{needs}
 use Rattle.shift_look.proofs.looking.look_at.Statement.{statement}

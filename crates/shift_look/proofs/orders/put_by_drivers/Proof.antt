@@ -1,3 +1,4 @@
+-- put_by_drivers: copies the columns, with each turn's driver where its groomer stands.
 use Rattle.shift_look.proofs.RunCases.{drivers-turns, drivers-places}
 use borrow.Author.Needs.{needs}
 use Rattle.shift_look.proofs.orders.put_by_drivers.Statement.{statement}

@@ -1,3 +1,4 @@
+-- put_orders: puts both orders, with what stands beside them.
 use Rattle.shift_look.proofs.RunCases.{room-held, room-numbered, orders-held}
 use borrow.Author.Needs.{needs}
 use Rattle.shift_look.proofs.orders.put_orders.Statement.{statement}

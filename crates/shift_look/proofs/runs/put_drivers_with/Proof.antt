@@ -1,3 +1,4 @@
+-- put_drivers_with: puts the turns in the drivers' order, in a place for it, and then with their runs into the orders.
 use Rattle.best_table.proofs.BlockedCases.{order-first}
 use borrow.Author.Needs.{needs}
 use Rattle.shift_look.proofs.runs.put_drivers_with.Statement.{statement}

@@ -1,3 +1,4 @@
+-- run_start: the first place whose turn has the groomer and end of the one at i; from is that place for i - 1.
 use Rattle.shift_look.proofs.RunCases.{start-cases}
 use Rattle.best_table.proofs.OrderCases.{row-cases}
 use borrow.Author.Needs.{needs}

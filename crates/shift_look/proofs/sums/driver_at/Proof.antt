@@ -1,3 +1,4 @@
+-- driver_at: the driver of the turn at place j of the drivers' order.
 use Rattle.shift_look.proofs.SumCases.{driver-cases}
 use borrow.Author.Needs.{needs}
 use Rattle.shift_look.proofs.sums.driver_at.Statement.{statement}

@@ -1,3 +1,4 @@
+-- next: the next turn and where the record after it starts, or the first cause to refuse this record.
 use Rattle.sheet.proofs.Records.{next-cases}
 use borrow.Author.Needs.{needs}
 use Rattle.sheet.proofs.record.Cursor.next.Statement.{statement}
