@@ -190,21 +190,45 @@ impl Selection {
     /// Adds the window if the vehicle has none and the supply is enough. A
     /// window already chosen is not added again, since its vehicle has one.
     pub fn add(&mut self, window: &Turn) -> bool {
-        if self.vehicles >> window.slope & 1 != 0 {
-            return false;
-        }
-        let draw = window.groomer as u8;
-        let minutes = usize::from(window.start)..window.end() as usize;
-        let drawn = &mut self.drawn[minutes];
-        let fits = drawn.iter().copied().max().unwrap_or(0) + draw <= self.units;
+        let fits = self.fits(window);
         if fits {
-            drawn.iter_mut().for_each(|units| *units += draw);
-            self.vehicles |= 1 << window.slope;
-            self.worth += u32::from(window.worth);
+            self.put(window);
         }
         fits
     }
+
+    pub fn fits(&self, window: &Turn) -> bool {
+        let drawn = &self.drawn[minutes(window)];
+        let most = || drawn.iter().copied().max().unwrap_or(0);
+        self.vehicles >> window.slope & 1 == 0 && most() + window.groomer as u8 <= self.units
+    }
+
+    /// Adds a window that fits.
+    pub fn put(&mut self, window: &Turn) {
+        let drawn = &mut self.drawn[minutes(window)];
+        drawn
+            .iter_mut()
+            .for_each(|units| *units += window.groomer as u8);
+        self.vehicles |= 1 << window.slope;
+        self.worth += u32::from(window.worth);
+    }
+
+    /// Takes a chosen window out.
+    pub fn take_out(&mut self, window: &Turn) {
+        let drawn = &mut self.drawn[minutes(window)];
+        drawn
+            .iter_mut()
+            .for_each(|units| *units -= window.groomer as u8);
+        self.vehicles &= !(1 << window.slope);
+        self.worth -= u32::from(window.worth);
+    }
+
     pub fn worth(&self) -> u32 {
         self.worth
     }
+}
+
+/// The minutes that a window holds.
+fn minutes(window: &Turn) -> std::ops::Range<usize> {
+    usize::from(window.start)..window.end() as usize
 }
