@@ -64,7 +64,7 @@ impl Kind {
         sheet
     }
 
-    fn name(&self) -> String {
+    pub fn name(&self) -> String {
         let ([groomers, slopes, turns], worth) = (self.counts, self.worth);
         let drivers = self.drivers;
         format!("{groomers} groomers, {slopes} slopes, {turns} turns, {drivers} drivers, worths to {worth}")

@@ -199,8 +199,11 @@ impl Selection {
 
     pub fn fits(&self, window: &Turn) -> bool {
         let drawn = &self.drawn[minutes(window)];
-        let most = || drawn.iter().copied().max().unwrap_or(0);
-        self.vehicles >> window.slope & 1 == 0 && most() + window.groomer as u8 <= self.units
+        let spare = self.units - window.groomer as u8;
+        // Most that do not fit fail on their first or last minute.
+        self.vehicles >> window.slope & 1 == 0
+            && drawn[0].max(drawn[drawn.len() - 1]) <= spare
+            && most(drawn) <= spare
     }
 
     /// Adds a window that fits.
@@ -226,6 +229,20 @@ impl Selection {
     pub fn worth(&self) -> u32 {
         self.worth
     }
+}
+
+/// The greatest of these, by sixteens: the last sixteen may overlap others.
+fn most(drawn: &[u8]) -> u8 {
+    let Some(last) = drawn.last_chunk::<16>() else {
+        return drawn.iter().copied().max().unwrap_or(0);
+    };
+    let mut most = *last;
+    for sixteen in drawn.chunks_exact(16) {
+        for (most, &units) in most.iter_mut().zip(sixteen) {
+            *most = units.max(*most);
+        }
+    }
+    most.into_iter().max().unwrap_or(0)
 }
 
 /// The minutes that a window holds.

@@ -18,6 +18,7 @@ mod limit;
 mod mending;
 mod partition;
 mod play;
+mod quality;
 mod refine;
 mod short;
 mod solving;

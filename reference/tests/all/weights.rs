@@ -75,8 +75,8 @@ fn a_hall_by_hand() {
     // A minute that nobody wants: 10 units at 1/16 of 31,999 make 19,999.
     assert_eq!(limit(500, 31_999), 30);
     assert_eq!(limit(500, 32_000), 40);
-    // The first window pays 20,000 with 8 units at 2500; so both count for the
-    // same, and 25,000 of 65,000 remain of the cost.
+    // The first window pays 8 * 40,000 / 16 = 20,000, so that both count for
+    // 40,000. All units cost 25,000, and 65,000 have 20,000 in them three times.
     assert_eq!(limit(5, 40_000), 30);
 }
 
