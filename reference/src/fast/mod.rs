@@ -27,6 +27,8 @@ mod rule;
 mod sheet;
 mod solving;
 mod turns;
+mod weighed_hall;
+mod weighed_shift;
 pub mod weights;
 mod write;
 

@@ -7,9 +7,11 @@ use super::limit::limit_at;
 use super::plan::plan_turns;
 use super::refine::Prices;
 use super::refusal;
-use super::rule::{rounds, Found, Rule, Shift, WeighedHall};
+use super::rule::{rounds, Found, Rule};
 use super::sheet::{no_turns, parse};
 use super::turns::Turn;
+use super::weighed_hall::WeighedHall;
+use super::weighed_shift::WeighedShift;
 use super::{ChargeRefined, Refined};
 use crate::limits::{MINUTES, MOST_WORTH};
 
@@ -133,7 +135,7 @@ pub fn on_sheet(
     sheet: &[u8],
     board: &mut [u8],
     prices: &mut [u16],
-    find: impl FnOnce(&mut Shift, u32) -> Found<Prices>,
+    find: impl FnOnce(&mut WeighedShift, u32) -> Found<Prices>,
 ) -> Result<(usize, Found<Prices>), u8> {
     let mut turns = no_turns();
     let header = parse(sheet, &mut turns)?;
@@ -146,7 +148,7 @@ pub fn on_sheet(
     }
     let (bytes, _) = plan_turns::<false>(turns, board);
     let planned = view(&board[..bytes]).expect("the planner writes well-formed boards");
-    let mut shift = Shift::new(turns, slopes);
+    let mut shift = WeighedShift::new(turns, slopes);
     let found = find(&mut shift, planned.worth);
     if let Some(best) = &found.best {
         put_choice(board, found.worth, |map| shift.ranks().put_map(best, map));

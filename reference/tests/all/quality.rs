@@ -2,8 +2,8 @@
 //! the best board, on typed and drawn sheets and halls.
 
 use slopeboard_reference::expected::KINDS;
-use slopeboard_reference::fast;
 use slopeboard_reference::typed::{HALLS, SHEETS};
+use slopeboard_reference::{expected, fast};
 use std::time::Instant;
 
 /// What rounds alone come to: worth and limit.
@@ -15,6 +15,22 @@ type Solves = fn(&[u8], u32) -> (u32, u32, bool);
 
 const ROUNDS: u32 = 100;
 const LOOKS: [u32; 3] = [1000, 10_000, 100_000];
+
+#[test]
+fn board_and_limit_meet_as_expected() {
+    expected::meet_as_expected_with_mending(|sheet, rounds| {
+        let found = fast::mending::refine(sheet, rounds, &mut [0; 1665], &mut [0; 520]).unwrap();
+        (found.worth, found.limit)
+    });
+}
+
+#[test]
+fn drawn_sheets_are_proved() {
+    expected::proved_as_expected(|sheet, rounds, looks| {
+        let found = fast::solve(sheet, rounds, looks, &mut [0; 1665], &mut [0; 520]);
+        found.unwrap().whole
+    });
+}
 
 #[test]
 #[ignore = "takes a minute or more"]
