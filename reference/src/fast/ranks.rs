@@ -126,15 +126,15 @@ pub fn lowest(word: usize, a: &Set, b: &Set) -> Option<usize> {
     (both != 0).then(|| 64 * word + both.trailing_zeros() as usize)
 }
 
-/// By rank, the ranks with fewer than so many minutes between, its own among
-/// them; with none, those that share a minute.
+/// By rank, the ranks with fewer minutes than these between, its own among them;
+/// for 0 those that share a minute.
 pub fn close(turns: &[Turn], ranks: &Ranks, minutes: u32) -> [Set; MOST_TURNS] {
     const MINUTES: usize = LAST_END as usize + 1;
     // By minute, how many turns start, or end, before it.
     let starts = first_places::<MINUTES>(turns, |turn| turn.start);
     let ends = first_places::<MINUTES>(turns, |turn| turn.end() as u16);
-    // By number of turns: the first so many by start, and the first so many by
-    // end. At first each turn is only in the set behind its own place.
+    // By number of turns: the first ones by start, and the first ones by end. At
+    // first each turn is only in the set after its own place.
     let mut started = [[0; WORDS]; MOST_TURNS + 1];
     let mut ended = [[0; WORDS]; MOST_TURNS + 1];
     let (mut next_start, mut next_end) = (starts, ends);
@@ -156,10 +156,10 @@ pub fn close(turns: &[Turn], ranks: &Ranks, minutes: u32) -> [Set; MOST_TURNS] {
     let mut close = [[0; WORDS]; MOST_TURNS];
     for (rank, set) in close[..turns.len()].iter_mut().enumerate() {
         let turn = &turns[ranks.number(rank)];
-        let behind = (turn.end() + minutes).min(LAST_END) as usize;
-        let ahead = (u32::from(turn.start) + 1).saturating_sub(minutes) as usize;
-        let started = &started[usize::from(starts[behind])];
-        let ended = &ended[usize::from(ends[ahead])];
+        let after = (turn.end() + minutes).min(LAST_END) as usize;
+        let before = (u32::from(turn.start) + 1).saturating_sub(minutes) as usize;
+        let started = &started[usize::from(starts[after])];
+        let ended = &ended[usize::from(ends[before])];
         for word in 0..WORDS {
             set[word] = started[word] & !ended[word];
         }

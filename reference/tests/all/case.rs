@@ -195,7 +195,7 @@ impl Case {
     /// What both versions give, with what is promised of it: the board passes
     /// and has the planned steps; the set is allowed, worth as much as is said
     /// and no less than the plan. The places are lent longer than they need be,
-    /// and nothing behind is touched.
+    /// and nothing after that is touched.
     pub fn ask(&self, ask: Ask) -> Outcome {
         let outcome = self.asked(|out, prices| answer!(naive, self, ask, out, prices));
         let fast = self.asked(|out, prices| answer!(fast, self, ask, out, prices));

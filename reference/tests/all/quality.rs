@@ -9,7 +9,7 @@ use std::time::Instant;
 /// What rounds alone come to: worth and limit.
 type Refines = fn(&[u8]) -> (u32, u32);
 
-/// What rounds and so many looks come to: worth, looks made, whether all was
+/// What rounds and some looks come to: worth, looks made, whether all was
 /// searched.
 type Solves = fn(&[u8], u32) -> (u32, u32, bool);
 
@@ -94,7 +94,7 @@ fn halls_are_solved() {
 
 /// Prints, by the best worth that the most looks find: board and limit without
 /// weights and on how many sheets they meet, the limit with weights, the board
-/// with mending and how many meet, how many are proved by so many looks, the
+/// with mending and how many meet, how many are proved by each number of looks, the
 /// mean looks and the seconds of that with the most, and the time of one look.
 fn print_row(name: &str, sheets: &[Vec<u8>], refines: [Refines; 3], solves: Solves) {
     let solved = LOOKS.map(|looks| {

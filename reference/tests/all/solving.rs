@@ -3,7 +3,7 @@
 
 use crate::case::{Ask, Case, Outcome, PRICE_KEPT};
 use slopeboard_reference::gen::{Rng, Shift};
-use slopeboard_reference::{fast, halls, naive, shapes, typed};
+use slopeboard_reference::{fast, halls, handmade, naive, shapes, typed};
 
 /// Any two of three turns are in conflict, by slope, by groomer and by driver,
 /// so that no prices lead to a limit below half of all.
@@ -107,6 +107,9 @@ fn all_sizes_agree() {
         let hall = halls::hall(&mut rng, round % halls::SHAPES, turns / 2);
         let outcome = Case::hall(&hall).ask(Ask::Solved(rounds, looks.min(60)));
         whole += u32::from(outcome.whole);
+    }
+    for shift in handmade::shifts() {
+        Case::shift(&shift).ask(Ask::Solved(1, 30));
     }
     assert!(whole > 30, "{whole}");
 }
