@@ -12,11 +12,12 @@ pub struct Kind {
     pub worth: u32,
     /// The least that worth by limit may be after 100 rounds, on each sheet.
     floor: f64,
-    /// On how many of the sheets from seeds 101 to 120 board and limit meet.
-    meet: usize,
+    /// On how many of the sheets from seeds 101 to 120 board and limit meet:
+    /// without weights and mending, and with them.
+    meet: [usize; 2],
 }
 
-const fn kind(counts: [u32; 3], drivers: u32, worth: u32, floor: f64, meet: usize) -> Kind {
+const fn kind(counts: [u32; 3], drivers: u32, worth: u32, floor: f64, meet: [usize; 2]) -> Kind {
     Kind {
         counts,
         drivers,
@@ -29,13 +30,13 @@ const fn kind(counts: [u32; 3], drivers: u32, worth: u32, floor: f64, meet: usiz
 /// With 12 drivers about one sheet in fifty is below 0.96, however the drivers
 /// are drawn: that of seed 13 is at 0.946.
 pub const KINDS: [Kind; 7] = [
-    kind([16, 120, 400], 0, 60_000, 0.96, 20),
-    kind([4, 40, 200], 0, 60_000, 0.96, 13),
-    kind([8, 60, 400], 0, 60_000, 0.96, 13),
-    kind([16, 120, 400], 40, 60_000, 0.96, 3),
-    kind([16, 120, 400], 12, 60_000, 0.94, 0),
-    kind([8, 60, 400], 0, 150, 0.96, 9),
-    kind([2, 20, 64], 0, 60_000, 0.96, 13),
+    kind([16, 120, 400], 0, 60_000, 0.96, [20, 20]),
+    kind([4, 40, 200], 0, 60_000, 0.96, [13, 13]),
+    kind([8, 60, 400], 0, 60_000, 0.96, [13, 13]),
+    kind([16, 120, 400], 40, 60_000, 0.96, [3, 3]),
+    kind([16, 120, 400], 12, 60_000, 0.94, [0, 0]),
+    kind([8, 60, 400], 0, 150, 0.96, [9, 15]),
+    kind([2, 20, 64], 0, 60_000, 0.96, [13, 13]),
 ];
 
 impl Kind {
@@ -64,7 +65,7 @@ impl Kind {
         sheet
     }
 
-    fn name(&self) -> String {
+    pub fn name(&self) -> String {
         let ([groomers, slopes, turns], worth) = (self.counts, self.worth);
         let drivers = self.drivers;
         format!("{groomers} groomers, {slopes} slopes, {turns} turns, {drivers} drivers, worths to {worth}")
@@ -129,17 +130,33 @@ pub fn come_close(refine: impl Fn(&[u8], u32) -> (u32, u32)) {
 }
 
 /// Takes twenty sheets of each kind, seeds 101 to 120, and fails if board and limit
-/// meet on more or fewer of them than expected after 100 rounds. Which draws give
-/// the drivers is not known there, so that those kinds are only printed.
+/// meet on more or fewer of them than expected after 100 rounds without weights and
+/// mending. Which draws give the drivers is not known there, so that those kinds are
+/// only printed.
 pub fn meet_as_expected(refine: impl Fn(&[u8], u32) -> (u32, u32)) {
-    for kind in &KINDS {
-        let sheets: Vec<Vec<u8>> = (101..=120).map(|seed| kind.drawn(seed)).collect();
-        let met = Ratios::of(&sheets, 100, &refine).met();
-        println!(
-            "{}: they meet on {met} of 20, expected {}",
-            kind.name(),
-            kind.meet
-        );
-        assert!(kind.drivers != 0 || met == kind.meet, "{}", kind.name());
+    KINDS.iter().for_each(|kind| kind.meets(0, &refine));
+}
+
+/// The same with weights and mending.
+pub fn meet_as_expected_with_mending(refine: impl Fn(&[u8], u32) -> (u32, u32)) {
+    KINDS.iter().for_each(|kind| kind.meets(1, &refine));
+}
+
+/// Fails if the search does not prove the best board on all of these sheets that
+/// name no driver, with 100 rounds and 1,000 looks.
+pub fn proved_as_expected(is_proved: impl Fn(&[u8], u32, u32) -> bool) {
+    for kind in KINDS.iter().filter(|kind| kind.drivers == 0) {
+        let proved = |seed: &u64| is_proved(&kind.drawn(*seed), 100, 1000);
+        assert_eq!((101..=120).filter(proved).count(), 20, "{}", kind.name());
+    }
+}
+
+impl Kind {
+    fn meets(&self, way: usize, refine: &impl Fn(&[u8], u32) -> (u32, u32)) {
+        let sheets: Vec<Vec<u8>> = (101..=120).map(|seed| self.drawn(seed)).collect();
+        let met = Ratios::of(&sheets, 100, refine).met();
+        let (name, expected) = (self.name(), self.meet[way]);
+        println!("{name}: they meet on {met} of 20, expected {expected}");
+        assert!(self.drivers != 0 || met == expected, "{name}");
     }
 }

@@ -18,4 +18,5 @@ pub mod limits;
 pub mod naive;
 pub mod prices;
 pub mod shapes;
+pub mod typed;
 pub mod worked;

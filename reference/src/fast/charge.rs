@@ -190,21 +190,62 @@ impl Selection {
     /// Adds the window if the vehicle has none and the supply is enough. A
     /// window already chosen is not added again, since its vehicle has one.
     pub fn add(&mut self, window: &Turn) -> bool {
-        if self.vehicles >> window.slope & 1 != 0 {
-            return false;
-        }
-        let draw = window.groomer as u8;
-        let minutes = usize::from(window.start)..window.end() as usize;
-        let drawn = &mut self.drawn[minutes];
-        let fits = drawn.iter().copied().max().unwrap_or(0) + draw <= self.units;
+        let fits = self.fits(window);
         if fits {
-            drawn.iter_mut().for_each(|units| *units += draw);
-            self.vehicles |= 1 << window.slope;
-            self.worth += u32::from(window.worth);
+            self.put(window);
         }
         fits
     }
+
+    pub fn fits(&self, window: &Turn) -> bool {
+        let drawn = &self.drawn[minutes(window)];
+        let spare = self.units - window.groomer as u8;
+        // Most that do not fit fail on their first or last minute.
+        self.vehicles >> window.slope & 1 == 0
+            && drawn[0].max(drawn[drawn.len() - 1]) <= spare
+            && most(drawn) <= spare
+    }
+
+    /// Adds a window that fits.
+    pub fn put(&mut self, window: &Turn) {
+        let drawn = &mut self.drawn[minutes(window)];
+        drawn
+            .iter_mut()
+            .for_each(|units| *units += window.groomer as u8);
+        self.vehicles |= 1 << window.slope;
+        self.worth += u32::from(window.worth);
+    }
+
+    /// Takes a chosen window out.
+    pub fn take_out(&mut self, window: &Turn) {
+        let drawn = &mut self.drawn[minutes(window)];
+        drawn
+            .iter_mut()
+            .for_each(|units| *units -= window.groomer as u8);
+        self.vehicles &= !(1 << window.slope);
+        self.worth -= u32::from(window.worth);
+    }
+
     pub fn worth(&self) -> u32 {
         self.worth
     }
+}
+
+/// The greatest of these, by sixteens: the last sixteen may overlap others.
+fn most(drawn: &[u8]) -> u8 {
+    let Some(last) = drawn.last_chunk::<16>() else {
+        return drawn.iter().copied().max().unwrap_or(0);
+    };
+    let mut most = *last;
+    for sixteen in drawn.chunks_exact(16) {
+        for (most, &units) in most.iter_mut().zip(sixteen) {
+            *most = units.max(*most);
+        }
+    }
+    most.into_iter().max().unwrap_or(0)
+}
+
+/// The minutes that a window holds.
+fn minutes(window: &Turn) -> std::ops::Range<usize> {
+    usize::from(window.start)..window.end() as usize
 }

@@ -31,6 +31,10 @@ const VEHICLES: usize = (MOST_VEHICLES as usize + 1).next_power_of_two();
 const NUMBERS: u32 = MOST_TURNS.next_power_of_two() as u32;
 
 impl Taken {
+    pub fn none() -> Taken {
+        Taken([0; VEHICLES])
+    }
+
     /// The numbers of the windows taken.
     pub fn numbers(&self) -> impl Iterator<Item = usize> + '_ {
         let some = self.0.iter().filter(|&&key| key >= NUMBERS);
@@ -52,7 +56,7 @@ pub fn look(windows: &[Turn], units: u32, prices: &[u16; MINUTES]) -> (u32, Take
         sum += u32::from(price);
         sums[minute + 1] = sum;
     }
-    let mut taken = Taken([0; VEHICLES]);
+    let mut taken = Taken::none();
     for (number, window) in (0..).zip(windows) {
         let end = usize::from(window.start + window.length) % places;
         let minutes = sums[end] - sums[usize::from(window.start) % places];

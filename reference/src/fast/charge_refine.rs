@@ -73,17 +73,17 @@ pub fn charge_refine(
 }
 
 /// What no price changes.
-struct Hall<'a> {
-    windows: &'a [Turn],
-    units: u32,
-    ranks: Ranks,
-    all: Set,
+pub struct Hall<'a> {
+    pub windows: &'a [Turn],
+    pub units: u32,
+    pub ranks: Ranks,
+    pub all: Set,
     /// By vehicle, the ranks of its windows.
-    vehicles: [Set; MOST_VEHICLES as usize + 1],
+    pub vehicles: [Set; MOST_VEHICLES as usize + 1],
 }
 
 impl Hall<'_> {
-    fn new(windows: &[Turn], units: u32) -> Hall<'_> {
+    pub fn new(windows: &[Turn], units: u32) -> Hall<'_> {
         let ranks = Ranks::new(windows);
         let mut vehicles = [[0; WORDS]; MOST_VEHICLES as usize + 1];
         for (number, window) in windows.iter().enumerate() {
@@ -126,7 +126,7 @@ impl Hall<'_> {
 
     /// Moves the prices by what the windows taken draw. From one start or end
     /// to the next all minutes move alike.
-    fn round(&self, taken: &Taken, change: u32, prices: &mut [u16; MINUTES]) {
+    pub fn round(&self, taken: &Taken, change: u32, prices: &mut [u16; MINUTES]) {
         const POINTS: usize = (MINUTES + 1).div_ceil(64);
         // By minute, how much more is drawn than in the minute before.
         let mut more = [0i32; MINUTES + 1];

@@ -23,6 +23,11 @@ pub fn limit(sheet: &[u8], prices: &[u16]) -> Result<u32, u8> {
     if prices.len() != slopes + turns.len() {
         return Err(refusal::BAD_PRICES);
     }
+    Ok(limit_at(turns, slopes, prices))
+}
+
+/// The limit of turns at prices of the right number.
+pub fn limit_at(turns: &[Turn], slopes: usize, prices: &[u16]) -> u32 {
     let (of_slopes, of_turns) = prices.split_at(slopes);
     let rounds = Rounds::new(turns);
     let mut slope_prices = [0; 256];
@@ -35,7 +40,7 @@ pub fn limit(sheet: &[u8], prices: &[u16]) -> Result<u32, u8> {
         sum += i32::from(of_turns[usize::from(number)]);
         sums[place + 1] = sum;
     }
-    Ok(rounds.look(&slope_prices, &sums, &mut Relaxed::none()))
+    rounds.look(&slope_prices, &sums, &mut Relaxed::none())
 }
 
 /// What of a sheet no price changes. Its turns stand in two orders: one groomer
@@ -169,6 +174,14 @@ impl Rounds {
     /// The stretch of the drivers' order whose prices the turn pays.
     pub fn stretch(&self, place: usize) -> (usize, usize) {
         (self.from[place].into(), self.to[place].into())
+    }
+
+    /// Puts other worths in, by turn number.
+    pub fn put_worths(&mut self, worth: impl Fn(usize) -> u16) {
+        let places = self.worths.iter_mut().zip(&self.numbers);
+        for (place, &number) in places.take(self.count) {
+            *place = worth(number.into()).into();
+        }
     }
 
     /// The limit at these prices: those of the slopes by number, and the sums

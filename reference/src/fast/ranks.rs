@@ -2,8 +2,8 @@
 //! is where it stands in this order.
 
 use super::board::mark_chosen;
-use super::turns::Turn;
-use crate::limits::MOST_TURNS;
+use super::turns::{first_places, Turn};
+use crate::limits::{LAST_END, MOST_TURNS};
 
 /// Words of a set.
 pub const WORDS: usize = MOST_TURNS.div_ceil(64);
@@ -69,11 +69,14 @@ impl Ranks {
     /// Writes the choice map of these ranks.
     pub fn put_map(&self, set: &Set, map: &mut [u8]) {
         map.fill(0);
-        let is_in = |&rank: &usize| set[rank / 64] >> (rank % 64) & 1 != 0;
-        for rank in (0..self.count).filter(is_in) {
+        for rank in each(set) {
             mark_chosen(map, self.number(rank));
         }
     }
+}
+
+pub fn has(set: &Set, rank: usize) -> bool {
+    set[rank / 64] >> (rank % 64) & 1 != 0
 }
 
 pub fn add(set: &mut Set, rank: usize) {
@@ -87,10 +90,81 @@ pub fn remove(set: &mut Set, other: &Set) {
     }
 }
 
+/// Puts all ranks of the second set into the first.
+pub fn unite(set: &mut Set, other: &Set) {
+    for (word, other) in set.iter_mut().zip(other) {
+        *word |= other;
+    }
+}
+
+/// The lowest rank of the set that is not below this one.
+pub fn first_from(set: &Set, rank: usize) -> Option<usize> {
+    let mut word = rank / 64;
+    let mut bits = set.get(word)? & (!0 << (rank % 64));
+    while bits == 0 {
+        word += 1;
+        bits = *set.get(word)?;
+    }
+    Some(64 * word + bits.trailing_zeros() as usize)
+}
+
+/// The ranks of the set, the lowest first.
+pub fn each(set: &Set) -> impl Iterator<Item = usize> + '_ {
+    set.iter().enumerate().flat_map(|(word, &bits)| {
+        let mut bits = bits;
+        std::iter::from_fn(move || {
+            let bit = bits.trailing_zeros() as usize;
+            bits &= bits.wrapping_sub(1);
+            (bit < 64).then_some(64 * word + bit)
+        })
+    })
+}
+
 /// The lowest rank in this word of both sets.
 pub fn lowest(word: usize, a: &Set, b: &Set) -> Option<usize> {
     let both = a[word] & b[word];
     (both != 0).then(|| 64 * word + both.trailing_zeros() as usize)
+}
+
+/// By rank, the ranks with fewer minutes than these between, its own among them;
+/// for 0 those that share a minute.
+pub fn close(turns: &[Turn], ranks: &Ranks, minutes: u32) -> [Set; MOST_TURNS] {
+    const MINUTES: usize = LAST_END as usize + 1;
+    // By minute, how many turns start, or end, before it.
+    let starts = first_places::<MINUTES>(turns, |turn| turn.start);
+    let ends = first_places::<MINUTES>(turns, |turn| turn.end() as u16);
+    // By number of turns: the first ones by start, and the first ones by end. At
+    // first each turn is only in the set after its own place.
+    let mut started = [[0; WORDS]; MOST_TURNS + 1];
+    let mut ended = [[0; WORDS]; MOST_TURNS + 1];
+    let (mut next_start, mut next_end) = (starts, ends);
+    for (number, turn) in turns.iter().enumerate() {
+        let rank = ranks.rank(number);
+        let place = &mut next_start[usize::from(turn.start)];
+        *place += 1;
+        add(&mut started[usize::from(*place)], rank);
+        let place = &mut next_end[turn.end() as usize];
+        *place += 1;
+        add(&mut ended[usize::from(*place)], rank);
+    }
+    for count in 0..turns.len() {
+        for word in 0..WORDS {
+            started[count + 1][word] |= started[count][word];
+            ended[count + 1][word] |= ended[count][word];
+        }
+    }
+    let mut close = [[0; WORDS]; MOST_TURNS];
+    for (rank, set) in close[..turns.len()].iter_mut().enumerate() {
+        let turn = &turns[ranks.number(rank)];
+        let after = (turn.end() + minutes).min(LAST_END) as usize;
+        let before = (u32::from(turn.start) + 1).saturating_sub(minutes) as usize;
+        let started = &started[usize::from(starts[after])];
+        let ended = &ended[usize::from(ends[before])];
+        for word in 0..WORDS {
+            set[word] = started[word] & !ended[word];
+        }
+    }
+    close
 }
 
 /// The change after a round.

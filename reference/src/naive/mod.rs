@@ -17,13 +17,17 @@ mod improve;
 pub mod keep;
 pub mod limit;
 mod listing;
+pub mod mending;
 pub mod partition;
 pub mod planning;
 pub mod play;
 pub mod refine;
+pub mod rule;
 mod sets;
 pub mod sheet;
+pub mod solving;
 pub mod turns;
+pub mod weights;
 
 pub use best::best;
 pub use board::{count, is_chosen, open, steps};
@@ -42,6 +46,7 @@ pub use play::{play, Standing};
 pub use refine::{refine, Refined};
 pub use sets::{any_driver, best_worth, one_turn_a_slope, times_the_tally};
 pub use sheet::{read, read_short, write, Counts};
+pub use solving::{charge_solve, solve, ChargeSolved, Solved};
 
 /// Copies the bytes to the front of the lent ones and gives their number; 11
 /// if there are too few lent.
