@@ -48,7 +48,7 @@ extern "C" {
 #endif
 
 /* The number of this interface. Each change that a caller can see raises it. */
-#define SLOPEBOARD_VERSION 18
+#define SLOPEBOARD_VERSION 19
 
 /* The refusals. In a charging sheet the turns are windows and the slopes are vehicles. */
 enum {
