@@ -1,4 +1,4 @@
-//! Sheets and halls as garages type them, and halls drawn as sheets are: round
+//! Sheets and halls as people type them, and halls drawn as sheets are: round
 //! worths, one for all turns of a slope, and times at the quarter hour.
 
 use crate::gen::{Rng, Row};

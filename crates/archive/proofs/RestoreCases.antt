@@ -48,7 +48,7 @@ unfolding archive
 archive-made e = rw e
 
 module _ (k : List ℕ) (n : ℕ) where
-  -- the part behind the header, as the code takes it
+  -- the part after the header, as the code takes it
   behind-header : take (length k - headerBytes) (drop headerBytes k) ≡ drop headerBytes k
   behind-header = take-all (length k - headerBytes) (drop headerBytes k) (omega (arith, length-drop headerBytes k))
 
@@ -103,7 +103,7 @@ module _ (maps : List ℕ) (i sum : ℕ) where
 
 pub ruleset width-cases = (width-more, width-near, width-done)
 
--- ---- the form behind the header
+-- ---- the form after the header
 
 module _ (k : List ℕ) (n : ℕ) (e : n ≡ turnCount k) where
   pub form-few : length k < headerBytes + n → truncated ≡ firstOf (formCauses k)
@@ -141,7 +141,7 @@ module _ (k : List ℕ) (n : ℕ) (e : n ≡ turnCount k) where
       unfolding firstOf
       form-none g l = sym (past-maps ∙ rw (le-ltb (length k) (headerBytes + n + w) g, le-ltb (headerBytes + n + w) (length k) l))
 
--- ---- the values behind it
+-- ---- the values after it
 
 end-of : (k : List ℕ) → columnsAt k + widths (keptMaps k) ≡ keptEnd k
 unfolding keptEnd

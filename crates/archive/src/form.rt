@@ -6,7 +6,7 @@ ghost use lib.ListN.{length};
 ghost use Rattle.wire.specs.Number.{bytesAt, puts};
 ghost use Rattle.sheet.specs.Read.{headerBytes};
 
-// A mark, and behind it bytes 3 to 6 of another form's header.
+// A mark, and after it bytes 3 to 6 of another form's header.
 pub fn put_front(out: &mut [u8], mark: [u8; 3], from: &[u8])
     requires { ⌜ (headerBytes ≤ length (now out)) × (headerBytes ≤ length (now from)) ⌝ }
     ensures { λ _. ⌜ now (out .exit) ≡ puts (now (out .entry)) 0 (bytesAt mark 0 3 ++ bytesAt (now (from .entry)) 3 4) ⌝ }

@@ -108,7 +108,7 @@ fn form_fault(rule: Maps, k: &[u8], n: u16) -> u8
     0
 }
 
-// The first thing wrong with a kept form behind its header, or 0; the turns then stand in the table.
+// The first thing wrong with a kept form after its header, or 0; the turns then stand in the table.
 fn judge_form(kind: Kind, k: &[u8], n: u16, limits: Counts, table: &mut [u16]) -> u8
     requires { ⌜ (kind ≡ archive) × (n ≡ turnCount (now k)) × (n ≤ mostTurns) × (limits ≡ countsIn (now k)) × (tablePlaces ≤ length (now table)) ⌝ }
     ensures { λ r. ⌜ r ≡ firstOf (formCauses (now (k .entry)) ++ turnsCauses (archive .refusals) (countsIn (now (k .entry))) (keptTurns (now (k .entry)))) ⌝ }
@@ -139,7 +139,7 @@ fn judge_kept(k: &[u8], table: &mut [u16]) -> u8
     }
 }
 
-// Puts a record at a place; returns the place behind it. At least `later` bytes follow: with two or more, each
+// Puts a record at a place; returns the place after it. At least `later` bytes follow: with two or more, each
 // field may be put without a test, since the next one goes over what is too much (put_fields_over).
 fn put_record(out: &mut [u8], at: usize, m: u8, t: Turn, later: usize) -> usize
     requires { ⌜ at + 1 + widthOf m + later ≤ length (now out) ⌝ }
@@ -152,7 +152,7 @@ fn put_record(out: &mut [u8], at: usize, m: u8, t: Turn, later: usize) -> usize
     write::put_fields_over(&mut *out, at + 1, m, t)
 }
 
-// The records of these maps and of the turns of a table, behind the header.
+// The records of these maps and of the turns of a table, after the header.
 fn put_records(maps: &[u8], table: &[u16], out: &mut [u8])
     requires { ⌜ (formSize (now maps) ≤ length (now out)) × (rowNumbers * length (now maps) ≤ length (now table)) ⌝ }
     ensures { λ _. ⌜ now (out .exit) ≡ puts (now (out .entry)) headerBytes (tableRecords (now (maps .entry)) (now (table .entry))) ⌝ }

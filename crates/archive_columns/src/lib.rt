@@ -58,7 +58,7 @@ fn size_in(field: Field, m: u8) -> usize
     }
 }
 
-// Writes a field's value at a place if the map names it; returns the place behind it.
+// Writes a field's value at a place if the map names it; returns the place after it.
 fn put_field(out: &mut [u8], at: usize, field: Field, m: u8, x: u16) -> usize
     requires { ⌜ ColumnsLaid field × (at + sizeIn field m ≤ length (now out)) ⌝ }
     ensures { λ r. ⌜ (r ≡ at + sizeIn field m) × (now (out .exit) ≡ puts (now (out .entry)) at (fieldIn field m x)) ⌝ }
@@ -84,7 +84,7 @@ fn read_field(k: &[u8], at: usize, field: Field, m: u8, old: u16) -> u16
     }
 }
 
-// Writes one column of a table's turns from a place on; returns the place behind it.
+// Writes one column of a table's turns from a place on; returns the place after it.
 fn put_column(out: &mut [u8], from: usize, field: Field, maps: &[u8], table: &[u16]) -> usize
     requires { ⌜ ColumnsLaid field × (from + columnSize field (now maps) ≤ length (now out)) × (rowNumbers * length (now maps) ≤ length (now table)) ⌝ }
     ensures { λ r. ⌜ r ≡ from + columnSize field (now (maps .entry)) ⌝ }
@@ -100,7 +100,7 @@ fn put_column(out: &mut [u8], from: usize, field: Field, maps: &[u8], table: &[u
     at
 }
 
-// Reads one column from a place on, each value into its turn's row; returns the place behind the column.
+// Reads one column from a place on, each value into its turn's row; returns the place after the column.
 fn read_column(k: &[u8], from: usize, field: Field, maps: &[u8], table: &mut [u16]) -> usize
     requires { ⌜ ColumnsLaid field × (from + columnSize field (now maps) ≤ length (now k)) × (rowNumbers * length (now maps) ≤ length (now table)) ⌝ }
     ensures { λ r. ⌜ r ≡ from + columnSize field (now (maps .entry)) ⌝ }
@@ -120,7 +120,7 @@ fn read_column(k: &[u8], from: usize, field: Field, maps: &[u8], table: &mut [u1
     at
 }
 
-// Writes all columns of a table's turns, one behind another, from a place on; returns the place behind them.
+// Writes all columns of a table's turns, one after another, from a place on; returns the place after them.
 pub fn put_columns(out: &mut [u8], from: usize, maps: &[u8], table: &[u16])
     requires { ⌜ (from + widths (now maps) ≤ length (now out)) × (rowNumbers * length (now maps) ≤ length (now table)) ⌝ }
     ensures { λ _. ⌜ now (out .exit) ≡ puts (now (out .entry)) from (tableColumns (now (maps .entry)) (now (table .entry))) ⌝ }

@@ -1,4 +1,4 @@
--- All columns one behind another: put, and read into a table's rows. Assumes nothing.
+-- All columns one after another: put, and read into a table's rows. Assumes nothing.
 use Prim.Native.Nat.{ℕ, zero, suc, _+_, _*_, _%_, _<_, _≤_}
 use mathlib.Core.Path.{_≡_, refl, _∙_, ap, ap₂}
 use mathlib.Core.List.{List, [], _∷_, _++_}

@@ -121,7 +121,7 @@ module _ (k : List ℕ) where
       let m = map-at (shiftSheet .maps) true (keptMaps k) r (a .0) in
       rw (a .1 ∙ m .1) (wrong-map r (m .0) (wrong-iff (shiftSheet .maps) r (keptMap k r) .0 (m .2)))
 
-  -- behind the number of maps
+  -- after the number of maps
   inner : List Cause
   inner = mapsCauses (archive .maps) true (keptMaps k) ++ ends
 

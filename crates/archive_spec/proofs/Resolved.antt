@@ -183,7 +183,7 @@ columns-stand {s} b ms at h =
     (s4 ∙ ap (λ (l : List ℕ). columnOf lengths ms (C .length) ++ l)
     (s5 ∙ ap (λ (l : List ℕ). columnOf worths ms (C .worth) ++ l) last)))))
 
--- at the start each column has what is read behind the one before it
+-- at the start each column has what is read after the one before it
 pub going-first : (ms s : List ℕ) (at : ℕ) (p : Turn) → p .slope ≡ 0 → p .groomer ≡ 0 → p .start ≡ 0 → p .length ≡ 0 → p .worth ≡ 0 → p .driver ≡ 0 → Going (columnsIn ms s at) 0 ms s p
 unfolding columnsIn
 going-first ms s at p e1 e2 e3 e4 e5 e6 =

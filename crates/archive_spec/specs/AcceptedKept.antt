@@ -28,7 +28,7 @@ pub data Together (limits : Counts) : Bool → Turn → List ℕ → List Turn �
       → GoodMap (shiftSheet .maps) first m → Carried m p t → InRange limits t → Together limits false t ms ts
       → Together limits first p (m ∷ ms) (t ∷ ts)
 
--- these bytes are a kept form with these counts, maps and turns: the mark, a legal header, the maps and the columns, and nothing behind them
+-- these bytes are a kept form with these counts, maps and turns: the mark, a legal header, the maps and the columns, and nothing after them
 pub record KeptFor (k : List ℕ) (counts : Counts) (ms : List ℕ) (ts : List Turn) : Type 0 where
   pub legal : Legal shiftSheet counts (length ts)
   pub together : Together counts true (firstCursor .prev) ms ts

@@ -31,7 +31,7 @@ unfoldable pub mapsCauses : Maps → Bool → List ℕ → List Cause
 mapsCauses maps first [] = []
 mapsCauses maps first (m ∷ ms) = badMap when badMapFor maps first m ∷ mapsCauses maps false ms
 
--- behind the header: too few maps, a bad map, then columns that are too short or too long
+-- after the header: too few maps, a bad map, then columns that are too short or too long
 unfoldable pub formCauses : List ℕ → List Cause
 formCauses k =
     truncated when ltb (length k) (columnsAt k)

@@ -78,7 +78,7 @@ unfoldable pub widths : List ℕ → ℕ
 widths [] = 0
 widths (m ∷ ms) = widthOf m + widths ms
 
--- one behind another, from slopes to drivers
+-- one after another, from slopes to drivers
 unfoldable pub columnsOf : List ℕ → List Turn → List ℕ
 columnsOf ms ts =
     columnOf slopes ms (valuesOf slopes ts)
@@ -97,7 +97,7 @@ pub record Columns : Type 0 where
   pub worth : List ℕ
   pub driver : List ℕ
 
--- read from a place on, each column behind the one before; before the first record every value is 0
+-- read from a place on, each column after the one before; before the first record every value is 0
 unfoldable pub columnsIn : List ℕ → List ℕ → ℕ → Columns
 columnsIn ms s at =
     let p1 = at + columnSize slopes ms in

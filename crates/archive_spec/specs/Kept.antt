@@ -1,4 +1,4 @@
--- The two forms of a sheet: record by record, and kept by column. Both have the same header behind the mark, the same maps and the same turns (request R-12). Assumes nothing.
+-- The two forms of a sheet: record by record, and kept by column. Both have the same header after the mark, the same maps and the same turns (request R-12). Assumes nothing.
 use Prim.Native.Nat.{ℕ, zero, suc, _+_}
 use mathlib.Core.List.{List, [], _∷_, _++_}
 use lib.ListN.{length, getD, take, drop}
@@ -61,7 +61,7 @@ keptOf s = keptWith s (sheetMaps s) (turnsOf s)
 unfoldable pub archive : Kind
 archive = record { mark = keptMark; most = shiftSheet .most; maps = shiftSheet .maps; refusals = shiftSheet .refusals }
 
--- its maps, which stand behind the header
+-- its maps, which stand after the header
 unfoldable pub keptMaps : List ℕ → List ℕ
 keptMaps k = take (turnCount k) (drop headerBytes k)
 

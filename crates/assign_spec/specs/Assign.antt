@@ -40,5 +40,5 @@ FirstAssignCause s places k = FirstAmong (AssignCause s places) k
 pub record AssignPromised (s lent : List ℕ) : Type 0 where
   -- the first places have a number for each turn, the answer has how many groomers they use, and `AssignPromises` holds of both
   pub numbered : AssignPromises (sheetTurns s) (take (turnCount s) (assignOf s lent .lent)) (assignOf s lent .answer .groomers)
-  -- the places behind them are as they were
+  -- the places after them are as they were
   pub behind : drop (turnCount s) (assignOf s lent .lent) ≡ drop (turnCount s) lent

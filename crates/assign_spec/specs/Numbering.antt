@@ -18,7 +18,7 @@ numberIn numbers t = getD numbers t 0
 unfoldable pub freeFor : Turns → List ℕ → ℕ → ℕ → Bool
 freeFor T numbers t k = every (λ u. not (eqb (numberIn numbers u) k && overlap T u t)) (T .count)
 
--- the least number from k on that passes a test, looked for among so many; the one behind them if none passes
+-- the least number from k on that passes a test, looked for among so many; the one after them if none passes
 unfoldable pub firstFrom : (ℕ → Bool) → ℕ → ℕ → ℕ
 firstFrom p k zero = k
 firstFrom p k (suc more) = let rest = firstFrom p (suc k) more in cond (p k) k rest

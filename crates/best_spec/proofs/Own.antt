@@ -82,7 +82,7 @@ module _ (T : Turns) where
   abbrev upTo : ℕ → List ℕ → List ℕ
   upTo g ts = keep (λ t. leb (T .groomer t) g) ts
 
-  -- those of the next groomer stand behind them
+  -- those of the next groomer stand after them
   next-groomer : (g : ℕ) {ts : List ℕ} → Ordered T ts → upTo (suc g) ts ≡ upTo g ts ++ keep (isOwn (suc g)) ts
   unfolding keep
   next-groomer g empty = refl

@@ -69,5 +69,5 @@ pub record BestPromised (s lent : List ℕ) : Type 0 where
   pub planned-worth : boardWorth (plannedBoard s) ≡ bestOf s lent .answer .worth
   -- those bytes are that board's choice map, bit for bit
   pub planned-map : answeredMap s lent ≡ boardMap (plannedBoard s)
-  -- the bytes behind the map stay as they were
+  -- the bytes after the map stay as they were
   pub behind : drop (mapBytes (turnCount s)) (bestOf s lent .lent) ≡ drop (mapBytes (turnCount s)) lent

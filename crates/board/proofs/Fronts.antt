@@ -15,7 +15,7 @@ pub head-length : (n m t w : ℕ) → length (headBytes n m t w) ≡ boardHeader
 unfolding countBytes headBytes
 head-length n m t w = refl
 
--- each part put behind the one before
+-- each part put after the one before
 pub count-put : (l : List ℕ) (n m : ℕ) {l₁ l₂ l₃ : List ℕ} → l₁ ≡ puts l 0 boardMark → l₂ ≡ puts l₁ turnsPlace (bytesOf 2 n) → l₃ ≡ puts l₂ stepCountPlace (bytesOf 2 m) → l₃ ≡ puts l 0 (countBytes n m)
 unfolding countBytes
 count-put l n m a b c = c ∙ rw (b, a)
@@ -24,7 +24,7 @@ pub head-put : (l : List ℕ) (n m t w : ℕ) {l₁ l₂ l₃ : List ℕ} → l�
 unfolding countBytes headBytes
 head-put l n m t w a b c = c ∙ rw (b, a)
 
--- the header, and the map behind it
+-- the header, and the map after it
 pub front-put : (l map : List ℕ) (n m w : ℕ) {place t : ℕ} {l₁ l₂ : List ℕ} → l₂ ≡ puts l₁ boardHeader map → l₁ ≡ puts l 0 (headBytes n m t w)
     → t ≡ tally (stepsIn m (take (length l - place) (drop place l))) → place ≡ stepsPlace n → l₂ ≡ puts l 0 (headBytes n m (tally (stepsIn m (drop (stepsPlace n) l))) w ++ map)
 front-put l map n m w {place} {t} b a q p =

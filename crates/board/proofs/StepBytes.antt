@@ -39,7 +39,7 @@ bytesAt-drop : (d : ℕ) (l : List ℕ) (at k : ℕ) → bytesAt (drop d l) at k
 bytesAt-drop d l at zero = refl
 bytesAt-drop d l at (suc k) = let e : d + at + 1 ≡ d + (at + 1) = omega arith in ap₂ _∷_ (getD-drop d l at 0) (rw e (bytesAt-drop d l (at + 1) k))
 
--- a step of what is left behind the first
+-- a step of what is left after the first
 step-behind : (l : List ℕ) (i : ℕ) → stepAt l (suc i) ≡ stepAt (drop stepSize l) i
 step-behind l i =
     let a : stepSize * suc i ≡ stepSize + stepSize * i = omega arith in

@@ -9,7 +9,7 @@ use Rattle.lists.specs.Lists.{tab}
 use Rattle.model.specs.Steps.{Step}
 use Rattle.choice_map.specs.Choice.{mapBytes, choiceIn, mapOf}
 
--- the header: behind the three bytes of the mark the number of turns, two bytes
+-- the header: after the three bytes of the mark the number of turns, two bytes
 abbrev pub turnsPlace : ℕ
 turnsPlace = 3
 
@@ -49,7 +49,7 @@ boardTally b = valueAt b tallyPlace 4
 abbrev pub boardWorth : List ℕ → ℕ
 boardWorth b = valueAt b worthPlace 4
 
--- where the steps start: behind the header and the choice map
+-- where the steps start: after the header and the choice map
 abbrev pub stepsPlace : ℕ → ℕ
 stepsPlace n = boardHeader + mapBytes n
 

@@ -1,11 +1,11 @@
-// The board's layout: the header's numbers and where they stand, and the sizes behind it.
+// The board's layout: the header's numbers and where they stand, and the sizes after it.
 ghost use mathlib.Core.Path.{_≡_};
 ghost use Prim.Native.Nat.{_≤_};
 ghost use lib.ListN.{length};
 ghost use Rattle.board.specs.Board.{boardHeader, boardTurns, boardSteps, boardTally, boardWorth, stepsPlace, boardLength};
 use choice_map::map_bytes;
 
-// Behind the mark, each number behind the one before.
+// After the mark, each number after the one before.
 pub const TURNS_PLACE: usize = 3;
 
 pub const STEP_COUNT_PLACE: usize = TURNS_PLACE + 2;

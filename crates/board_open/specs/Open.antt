@@ -12,7 +12,7 @@ use Rattle.wire.specs.Mark.{boardMark, opensWith}
 use Rattle.choice_map.specs.Choice.{mapBytes, chosenIn, clearPast}
 use Rattle.board.specs.Board.{boardHeader, stepSize, boardTurns, boardSteps, stepsPlace, boardLength, boardMap}
 
--- more steps than turns, a length that is not the one these two numbers give, or a map bit set behind that of the last turn
+-- more steps than turns, a length that is not the one these two numbers give, or a map bit set after that of the last turn
 unfoldable pub badSizes : List ℕ → Bool
 badSizes b =
     ltb (boardTurns b) (boardSteps b)

@@ -171,7 +171,7 @@ module _ (s : List ℕ) {K : Kind} {r : ReadAnswer} (k : K ≡ chargingSheet) (e
   own : r ≡ answerFor chargingSheet s
   own = e ∙ ap (λ (J : Kind). answerFor J s) k
 
-  -- an entry's causes come behind the sheet's
+  -- an entry's causes come after the sheet's
   pub charge-tried : Tried (causesFor chargingSheet s) (r .refusal)
   charge-tried = record { number = whole-refusal-for chargingSheet s own; above = causes-numbered chargingSheet (charging-sound .numbers) s }
 

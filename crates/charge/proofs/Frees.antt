@@ -103,7 +103,7 @@ module _ (list : List ℕ) (k : ℕ) (l : k ≤ length list) where
     unfolding NumbersOf
     rest-numbers i h = let m : k + i < length list = omega (arith, length-drop k list, ap (λ (x : List ℕ). length x) rest-is) in rw (rest-is, getD-drop k list i 0) (w (k + i) m)
 
-  -- choosing from the part behind, then from the one before
+  -- choosing from the part after, then from the one before
   pub parts-chosen : (test : List Bool → ℕ → Bool) (n : ℕ) {S U W : List Bool} → S ≡ replicate n false → U ≡ chooseEach test (take (length list - k) (drop k list)) S → W ≡ chooseEach test (take k list) U → W ≡ chooseEach test list (replicate n false)
   parts-chosen test n e f g =
       g

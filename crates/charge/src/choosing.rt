@@ -144,7 +144,7 @@ fn choose_free(
 }
 
 // Chooses windows of the kind, or any, from the list's last number to its first, into a map that has none chosen.
-// First come the numbers behind as many as there are windows: after these most vehicles have a window, and the
+// First come the numbers after as many as there are windows: after these most vehicles have a window, and the
 // windows of these vehicles are left out of the others.
 fn choose_each(a: OneKind, any: bool, cols: &[u16; PLACES], list: &[u16], map: &mut [u8])
     requires { ⌜ HallHeld (a .units) (a .size) (now cols) × NumbersOf (a .size .count) (now list) × Clean (a .size .count) (now map) ⌝ }

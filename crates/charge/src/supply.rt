@@ -1,4 +1,4 @@
-// What the chosen windows use: the units drawn at each minute of the shift, and behind them a place for each
+// What the chosen windows use: the units drawn at each minute of the shift, and after them a place for each
 // vehicle, not 0 where it is among them.
 ghost use mathlib.Core.Path.{_≡_};
 ghost use Prim.Native.Nat.{_+_, _-_, _≤_};

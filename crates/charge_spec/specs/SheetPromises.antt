@@ -33,14 +33,14 @@ pub record ChargePromised (s lent : List ℕ) : Type 0 where
   pub earns : worthIn (hallOf s) (answeredChoice s lent) ≡ chargeOf s lent .answer .worth
   -- the first bytes are their map: no other bit is set there
   pub map : answeredMap s lent ≡ mapOf (answeredChoice s lent)
-  -- the bytes behind the map stay as they were
+  -- the bytes after the map stay as they were
   pub behind : drop (mapBytes (turnCount s)) (chargeOf s lent .lent) ≡ drop (mapBytes (turnCount s)) lent
   -- every allowed set is worth at most five times its worth, and the units for each step of the small windows
   pub bound : (R : List ℕ) → Allowed (hallOf s) R → worthOfWindows (hallOf s) R ≤ 5 * chargeOf s lent .answer .worth + hallOf s .units * length (smallSteps (hallOf s))
   -- neither kind's plan is worth more
   pub covers-wide : worthIn (hallOf s) (wideChoice (hallOf s)) ≤ chargeOf s lent .answer .worth
   pub covers-small : worthIn (hallOf s) (smallChoice (hallOf s)) ≤ chargeOf s lent .answer .worth
-  -- and it is one of the two: the wide windows' just where that one earns more, the small windows' on a tie too
+  -- and it is one of the two: the wide windows' exactly where that one earns more, the small windows' on a tie too
   pub wide-plan : worthIn (hallOf s) (smallChoice (hallOf s)) < worthIn (hallOf s) (wideChoice (hallOf s)) → answeredChoice s lent ≡ wideChoice (hallOf s)
   pub small-plan : worthIn (hallOf s) (wideChoice (hallOf s)) ≤ worthIn (hallOf s) (smallChoice (hallOf s)) → answeredChoice s lent ≡ smallChoice (hallOf s)
   -- it is full: no further window of that kind could be chosen

@@ -1,12 +1,12 @@
 -- The check's answer by its cases, each premise in the form in which the code's calls and tests leave it. Assumes nothing.
 use Prim.Native.Nat.{ℕ, _≤_}
-use mathlib.Core.Path.{_≡_, refl, sym, _∙_}
-use mathlib.Core.List.{List, _∷_}
-use mathlib.Core.Bool.{Bool, true, false}
+use mathlib.Core.Path.{_≡_, sym, _∙_}
+use mathlib.Core.List.{List}
 use native.Mathlib.Omega.{arith}
 use lib.ListN.{length}
 use Rattle.refusal.specs.Number.{malformedBoard}
 use Rattle.refusal.specs.Cause.{Cause, _when_, firstOf}
+use Rattle.refusal.proofs.Order.{clear-cons}
 use Rattle.model.specs.Turns.{Turns}
 use Rattle.lists.proofs.Bools.{or-false-1}
 use Rattle.sheet.specs.declared.answer.ReadAnswer.{ReadAnswer}
@@ -28,14 +28,9 @@ use Rattle.refusal.proofs.Outcome.{unless-first, unless-none, tried-stops, trie
 use Rattle.instance.proofs.Posed.{loaded-tried, loaded-held, loaded-turns}
 
 -- a board that gives no cause opens
-head-none : (x : Bool) (cs : List Cause) → firstOf (malformedBoard when x ∷ cs) ≡ 0 → x ≡ false
-unfolding firstOf
-head-none true cs e = absurd (omega arith)
-head-none false cs e = refl
-
 pub passed-header : (T : Turns) (b : List ℕ) (limit : ℕ) {a : Judgement} → a ≡ judged (firstOf (boardCauses T b)) limit → a .fault ≡ 0 → boardHeader ≤ length b
 unfolding boardCauses
-passed-header T b limit e z = formed-header b (or-false-1 (malformed b) _ (head-none _ _ (sym (judged-number (firstOf (boardCauses T b)) limit e) ∙ z)))
+passed-header T b limit e z = formed-header b (or-false-1 (malformed b) _ (clear-cons (malformedBoard when _) _ (λ y. omega arith) (sym (judged-number (firstOf (boardCauses T b)) limit e) ∙ z) .0))
 
 -- ---- the entry
 

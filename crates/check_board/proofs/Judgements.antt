@@ -9,7 +9,7 @@ use lib.ListN.{length}
 use borrow.Author.Tests.{eq-eqb, ne-eqb, le-leb, lt-leb, ltb-true, ltb-false}
 use Rattle.refusal.specs.Number.{malformedBoard, chosenConflict, notMaximal, wrongSums}
 use Rattle.refusal.specs.Cause.{firstOf}
-use Rattle.refusal.proofs.Order.{numbered, first-stops, first-goes}
+use Rattle.refusal.proofs.Order.{first-stops, first-goes}
 use Rattle.model.specs.Turns.{Turns}
 use Rattle.model.specs.Steps.{Step, tally}
 use Rattle.model.specs.Choice.{chosen}
@@ -86,23 +86,14 @@ pub ruleset sums-cases = (sums-wrong, sums-fine)
 
 -- ---- one cause after another
 
-module _ (T : Turns) (S : List Bool) (xs : List Step) where
-  choice-numbered : numbered (choiceCauses T S) ≡ true
-  unfolding choiceCauses
-  choice-numbered = refl
+module _ (T : Turns) (S : List Bool) (xs : List Step) (limit : ℕ) {f : ℕ} (e : f ≡ firstOf (choiceCauses T S)) {a : Judgement} where
+  pub rules-choice : (f ≡ 0 → ⊥) → a ≡ faultAt f → a ≡ judged (firstOf (ruleCauses T S xs)) limit
+  unfolding ruleCauses
+  rules-choice z g = fault-judged limit (sym (first-stops (choiceCauses T S) (stepCauses T xs) f (sym e) z)) z g
 
-  rule-numbered : numbered (ruleCauses T S xs) ≡ true
-  unfolding ruleCauses choiceCauses stepCauses
-  rule-numbered = refl
-
-  module _ (limit : ℕ) {f : ℕ} (e : f ≡ firstOf (choiceCauses T S)) {a : Judgement} where
-    pub rules-choice : (f ≡ 0 → ⊥) → a ≡ faultAt f → a ≡ judged (firstOf (ruleCauses T S xs)) limit
-    unfolding ruleCauses
-    rules-choice z g = fault-judged limit (sym (first-stops (choiceCauses T S) (stepCauses T xs) f (sym e) z)) z g
-
-    pub rules-steps : f ≡ 0 → a ≡ judged (firstOf (stepCauses T xs)) limit → a ≡ judged (firstOf (ruleCauses T S xs)) limit
-    unfolding ruleCauses
-    rules-steps z g = judged-same (firstOf (stepCauses T xs)) limit g (sym (first-goes (choiceCauses T S) (stepCauses T xs) choice-numbered (sym e ∙ z)))
+  pub rules-steps : f ≡ 0 → a ≡ judged (firstOf (stepCauses T xs)) limit → a ≡ judged (firstOf (ruleCauses T S xs)) limit
+  unfolding ruleCauses choiceCauses
+  rules-steps z g = judged-same (firstOf (stepCauses T xs)) limit g (sym (first-goes (choiceCauses T S) (stepCauses T xs) refl (sym e ∙ z)))
 
 pub ruleset rules-cases = (rules-choice, rules-steps)
 
@@ -121,7 +112,8 @@ module _ (T : Turns) (S : List Bool) (bytes b : List ℕ) (m : ℕ) (p : m ≡ b
 
   module _ (z : a .fault ≡ 0) {g : ℕ} (h : g ≡ firstOf (sumCauses T S (stepsIn m bytes) (boardTally b) (boardWorth b))) where
     by-sums : g ≡ firstOf (partCauses T S xs (boardTally b) (boardWorth b))
-    by-sums = rw p at h ∙ sym (first-goes (ruleCauses T S xs) (sumCauses T S xs (boardTally b) (boardWorth b)) (rule-numbered T S xs) (sym number ∙ z))
+    unfolding ruleCauses choiceCauses stepCauses
+    by-sums = rw p at h ∙ sym (first-goes (ruleCauses T S xs) (sumCauses T S xs (boardTally b) (boardWorth b)) refl (sym number ∙ z))
 
     pub parts-sums : {x : Judgement} → (g ≡ 0 → ⊥) → x ≡ faultAt g → x ≡ judged (firstOf (partCauses T S xs (boardTally b) (boardWorth b))) (ceiling T xs)
     parts-sums y k = fault-judged (ceiling T xs) by-sums y k

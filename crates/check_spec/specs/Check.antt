@@ -31,7 +31,7 @@ unfoldable pub afterRight : Turns → List ℤ → List Step → List ℤ
 afterRight T s [] = s
 afterRight T s (x ∷ xs) = cond (right T s x) (afterRight T (afterStep T s x) xs) s
 
--- what may be wrong with steps: one is not right, or a turn is open once those before it have taken their amounts
+-- what may be wrong with steps: one is not right; or a turn is open once the steps before the first that is not right, or all if all are, have taken their amounts
 unfoldable pub stepCauses : Turns → List Step → List Cause
 stepCauses T xs = wrongStep when not (allRight T (initial T) xs) ∷ turnLeftOpen when not (noneOpen T (afterRight T (initial T) xs)) ∷ []
 
@@ -108,7 +108,7 @@ pub data BoardCause (T : Turns) (b : List ℕ) : ℕ → ℕ → Type 0 where
   -- 17
   sums-differ : (boardTally b ≢ tally (writtenSteps b)) ⊎ (boardWorth b ≢ chosen (T .count) (boardChoice b) (T .worth)) ⊎ (boardWorth b < boardTally b) → BoardCause T b wrongSums 5
 
--- a cause to refuse s or b: the sheet's come first; the board's places count from behind the sheet's last
+-- a cause to refuse s or b: the sheet's come first; the board's places count from after the sheet's last
 abbrev pub CheckCause : List ℕ → List ℕ → ℕ → ℕ → Type 0
 CheckCause s b = Then (SheetCause s) (placeOf (turnCount s) 1) (BoardCause (sheetTurns s) b)
 

@@ -73,7 +73,7 @@ module _ (map : List ℕ) where
     unfolding onesFrom nextChosen
     ones-some h = omega (arith, among-some (8 * length map - t) t h, among-from map (8 * length map - t) t .0)
 
-    -- behind it there is one less
+    -- after it there is one less
     pub ones-less : nextChosen map t < 8 * length map → onesFrom map t ≡ suc (onesFrom map (nextChosen map t + 1))
     unfolding onesFrom nextChosen
     ones-less h =

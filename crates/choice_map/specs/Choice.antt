@@ -60,12 +60,12 @@ pub record Clean (n : ℕ) (map : List ℕ) : Type 0 where
   pub bytes : Bytes map
   pub clear : clearPast n map ≡ true
 
--- the lowest bit of a byte that stands, from bit k on, among d bits; else the bit behind them
+-- the lowest bit of a byte that stands, from bit k on, among d bits; else the bit after them
 unfoldable pub lowAmong : ℕ → ℕ → ℕ → ℕ
 lowAmong zero x k = k
 lowAmong (suc d) x k = cond (bitOf x k) k (lowAmong d x (k + 1))
 
--- the next chosen turn from t on, among d turns; else the turn behind them
+-- the next chosen turn from t on, among d turns; else the turn after them
 unfoldable pub nextAmong : ℕ → List ℕ → ℕ → ℕ
 nextAmong zero map t = t
 nextAmong (suc d) map t = cond (chosenIn map t) t (nextAmong d map (t + 1))

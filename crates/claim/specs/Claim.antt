@@ -55,7 +55,7 @@ pub record Claim (s b : List ℕ) : Type 0 where
   pub ours : Accepted s → Passes s (plannedBoard s)
   -- the planner refuses nothing exactly if s is accepted and the lent bytes hold a board with as many steps as turns
   pub plans : (lent : List ℕ) → (planOf s lent .answer .refusal ≡ 0) ↔ (Accepted s × (boardLength (turnCount s) (turnCount s) ≤ length lent))
-  -- then, whatever bytes it is lent, it returns as many bytes as its board has; the lent bytes begin with this board, and behind it hold what they held
+  -- then, whatever bytes it is lent, it returns as many bytes as its board has; the lent bytes begin with this board, and after it hold what they held
   pub writes : (lent : List ℕ) → planOf s lent .answer .refusal ≡ 0 → planOf s lent ≡ wrote (plannedBoard s) lent
   -- the published algorithm returns a choice and makes steps, and whatever these are, the planner's board is theirs
   pub method-returns : Accepted s → (S : List Bool) × (xs : List Step) × Selects (sheetTurns s) S xs

@@ -28,9 +28,9 @@ textFor s b = listingOf (countsIn s .groomers) (sheetTurns s) (boardChoice b) (s
 pub record ListPromised (s b lent : List ℕ) : Type 0 where
   -- the board passes
   pub passes : Passes s b
-  -- the answer is the number of bytes of their text; the lent bytes begin with this text, and behind it hold what they held
+  -- the answer is the number of bytes of their text; the lent bytes begin with this text, and after it hold what they held
   pub writes : listOf s lent ≡ wrote (textFor s b) lent
-  -- below a groomer's heading stand just its chosen turns, each once, by start
+  -- below a groomer's heading stand exactly its chosen turns, each once, by start
   pub rounds : (h : ℕ) → Round (sheetTurns s) (boardChoice b) h (roundOf (sheetTurns s) (boardChoice b) h)
   -- there are as many turn lines as ones in the board's map
   pub turn-lines : sumOver (λ k. length (roundOf (sheetTurns s) (boardChoice b) (k + 1))) (below (countsIn s .groomers)) ≡ onesIn (boardMap b)

@@ -102,7 +102,7 @@ fn byte(x: u8) {
     io::print_hex(STDOUT_FILENO, x as u64, 2);
 }
 
-// Numbers behind a bar.
+// Numbers after a bar.
 fn print_numbers(numbers: &[u16]) {
     text(b" |");
     let mut i = 0;
@@ -112,7 +112,7 @@ fn print_numbers(numbers: &[u16]) {
     }
 }
 
-// Bytes behind a bar.
+// Bytes after a bar.
 fn print_bytes(bytes: &[u8]) {
     text(b" |");
     let mut i = 0;

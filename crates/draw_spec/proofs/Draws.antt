@@ -163,7 +163,7 @@ length-at p = go (ltb p 40) (ltb p 70) (ltb p 90) refl refl refl
     go false false true e f g = whole-hour {p = p} (ltb-false p 70 f) (omega (arith, ltb-true p 90 g))
     go false false false e f g = longest {p = p} (ltb-false p 90 g)
 
--- the turn of the five draws behind draw number 5 k
+-- the turn of the five draws after draw number 5 k
 fields-after : (counts : Counts) (seed k : ℕ) → FieldsDrawn counts seed k (turnAfter counts (drawNumber (5 * k) seed))
 unfolding turnAfter turnDrawn
 fields-after counts seed k =

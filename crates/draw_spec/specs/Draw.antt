@@ -69,7 +69,7 @@ turnDraws = 5
 unfoldable pub turnAfter : Counts → ℕ → Turn
 turnAfter counts x = turnDrawn counts (drawNumber 1 x) (drawNumber 2 x) (drawNumber 3 x) (drawNumber 4 x) (drawNumber 5 x)
 
--- n turns one after another, each from the draws behind those of the one before
+-- n turns one after another, each from the draws after those of the one before
 unfoldable pub drawnTurns : ℕ → Counts → ℕ → List Turn
 drawnTurns zero counts x = []
 drawnTurns (suc n) counts x = turnAfter counts x ∷ drawnTurns n counts (drawNumber turnDraws x)

@@ -17,7 +17,7 @@ pub data SeedCause (seed : ℕ) (counts : Counts) (turns : ℕ) : ℕ → ℕ �
   slope-count : Outside (counts .slopes) mostSlopes → SeedCause seed counts turns badCounts 2
   turn-count : mostTurns < turns → SeedCause seed counts turns tooManyTurns 3
 
--- and behind them all that so many lent bytes are too few for the sheet
+-- and after them all that so many lent bytes are too few for the sheet
 abbrev pub DrawCause : ℕ → Counts → ℕ → ℕ → ℕ → ℕ → Type 0
 DrawCause seed counts turns = ThenRoom (SeedCause seed counts turns) 4 (length (drawnSheet seed counts turns))
 

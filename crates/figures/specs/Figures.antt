@@ -90,7 +90,7 @@ pub record Figures : Type 0 where
   -- numbers of two and of four bytes have their high byte first
   pub two-bytes : (s : List ℕ) (at : ℕ) → valueAt s at 2 ≡ 256 * getD s at 0 + getD s (at + 1) 0
   pub four-bytes : (s : List ℕ) (at : ℕ) → valueAt s at 4 ≡ 65536 * valueAt s at 2 + valueAt s (at + 2) 2
-  -- a header of 7 bytes: behind the mark a byte of groomers, a byte of slopes, two bytes of turns
+  -- a header of 7 bytes: after the mark a byte of groomers, a byte of slopes, two bytes of turns
   pub header : headerBytes ≡ 7
   pub header-counts : (s : List ℕ) → countsIn s ≡ record { groomers = valueAt s 3 1; slopes = valueAt s 4 1 }
   pub header-turns : (s : List ℕ) → turnCount s ≡ valueAt s 5 2
@@ -137,7 +137,7 @@ pub record Figures : Type 0 where
       ≡ record { mark = 0x47 ∷ 0x52 ∷ 0x45 ∷ []; most = record { groomers = 48; slopes = 60; turns = 400 }; maps = record { first = 0x1F; full = 0x1F }; refusals = record { counts = 3; turns = 4; slope = 6; groomer = 25 } }
   -- ---- the board
 
-  -- a header of 15 bytes: behind the mark turns and steps, two bytes each, then tally and worth, four bytes each
+  -- a header of 15 bytes: after the mark turns and steps, two bytes each, then tally and worth, four bytes each
   pub board-header : boardHeader ≡ 15
   pub board-turns : turnsPlace ≡ 3
   pub board-steps : stepCountPlace ≡ 5

@@ -98,7 +98,7 @@ shownIn s lent = choiceIn (turnCount s) (mapIn s lent)
 
 -- ---- reading and writing
 
--- 01, the sheet; R-8 of the short reader's. The reader accepts exactly a sheet with six places for each turn in the table; then answer and table have its counts and turns, and behind them the table is as it was
+-- 01, the sheet; R-8 of the short reader's. The reader accepts exactly a sheet with six places for each turn in the table; then answer and table have its counts and turns, and after them the table is as it was
 pub record Reads (K : Kind) (s lent : List ℕ) (x : Reading) : Type 0 where
   pub accepts : (x .answer .refusal ≡ 0) ↔ ((a : AcceptedFor K s) × (6 * length (a .turns) ≤ length lent))
   pub answers : x .answer .refusal ≡ 0 → (a : AcceptedFor K s) → x .answer ≡ record { refusal = 0; groomers = a .counts .groomers; slopes = a .counts .slopes; turns = length (a .turns) }

@@ -1,1 +1,1 @@
-// The numbers that the format's description fixes, on one page: equations and their proof; no code.
+// The numbers that the papers fix, and all promises in full; no code.

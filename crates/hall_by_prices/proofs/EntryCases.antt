@@ -1,12 +1,12 @@
 -- The entries' answers by their cases, each premise in the form in which the code's calls and tests leave it. Assumes nothing.
 use Prim.Native.Nat.{ℕ}
-use mathlib.Core.Path.{_≡_, ap, _∙_}
+use mathlib.Core.Path.{_≡_, sym, ap, _∙_}
 use mathlib.Core.List.{List}
 use native.Mathlib.Omega.{arith}
 use lib.ListN.{length}
-use borrow.Author.Tests.{eq-eqb, ne-eqb}
+use borrow.Author.Tests.{ne-eqb}
 use Rattle.refusal.specs.Number.{badPrices}
-use Rattle.refusal.proofs.Outcome.{tried-stops, tried-last, tried-found}
+use Rattle.refusal.proofs.Outcome.{tried-stops, tried-last}
 use Rattle.turn.specs.Turn.{shiftMinutes}
 use Rattle.sheet.specs.declared.kind.Kind.{Kind}
 use Rattle.sheet.specs.declared.answer.ReadAnswer.{ReadAnswer}
@@ -20,6 +20,7 @@ use Rattle.limit_spec.specs.declared.LimitAnswer.{LimitAnswer}
 use Rattle.limit_spec.specs.Limit.{limitIs, limitRefused}
 use Rattle.hall_by_prices_spec.specs.Prices.{hallLimit}
 use Rattle.hall_by_prices_spec.specs.Limit.{chargeLimitCauses, sheetHallLimit, chargeLimitOf}
+use Rattle.hall_by_prices_spec.proofs.LimitCauses.{charge-limit-is}
 use Rattle.hall_look.specs.Look.{hallFor, HallPosed}
 
 -- ---- a sheet that is not refused
@@ -42,8 +43,8 @@ module _ (s prices : List ℕ) {K : Kind} {r : ReadAnswer} (k : K ≡ chargingSh
 
     pub limit-found : (cols : List ℕ) {x : ℕ} → (r .refusal ≡ 0 → (gap : ℕ) → PosedFor gap s cols) → length prices ≡ shiftMinutes →
         x ≡ hallLimit (hallFor (record { units = r .groomers; vehicles = r .slopes; size = record { count = r .turns; gap = hallGap } }) cols) (r .slopes) prices → limitIs x ≡ chargeLimitOf s prices
-    unfolding chargeLimitOf chargeLimitCauses sheetHallLimit
+    unfolding sheetHallLimit
     limit-found cols w l h =
-        ap limitIs (h ∙ rw (hall-is s k e f cols w, counts-are s k e f .1)) ∙ tried-found (charge-tried s k e) _ limitRefused f badPrices (rw (eq-eqb (length prices) shiftMinutes l))
+        ap limitIs (h ∙ rw (hall-is s k e f cols w, counts-are s k e f .1)) ∙ sym (charge-limit-is s prices (accepted s k e f) l)
 
 pub ruleset limit-cases = (charging-given, hall-posed, limit-fault, limit-other, limit-found)

@@ -1,16 +1,12 @@
 -- The rounds' entry by its cases, each premise in the form in which the code's calls and tests leave it. Assumes nothing.
 use Prim.Native.Nat.{ℕ, _≤_, _<_}
 use mathlib.Core.Path.{_≡_, refl, sym, ap, _∙_}
-use mathlib.Core.Bool.{Bool}
 use mathlib.Core.List.{List, _++_}
 use native.Mathlib.Omega.{arith}
-use lib.Dec.{ltb}
 use lib.ListN.{length, take, drop, replicate}
 use lib.Seq.{length-take-le}
-use borrow.Author.Tests.{lt-ltb, le-ltb}
-use Rattle.lists.proofs.Bools.{or-1, or-2}
 use Rattle.refusal.specs.Number.{bufferTooSmall}
-use Rattle.refusal.proofs.Outcome.{tried-stops, tried-last, tried-found}
+use Rattle.refusal.proofs.Outcome.{tried-stops, tried-last}
 use Rattle.turn.specs.Turn.{shiftMinutes}
 use Rattle.sheet.specs.declared.kind.Kind.{Kind}
 use Rattle.sheet.specs.declared.answer.ReadAnswer.{ReadAnswer}
@@ -25,7 +21,7 @@ use Rattle.charge_spec.specs.Plan.{hallChoice, hallWorth, worthIn}
 use Rattle.charge_spec.proofs.Halls.{plan-length}
 use Rattle.charge_spec.specs.Charge.{chargingSheet}
 use Rattle.charge_spec.proofs.ChargingSheets.{charging-given}
-use Rattle.charge.proofs.Charges.{charge-tried, counts-are, hall-is}
+use Rattle.charge.proofs.Charges.{charge-tried, accepted, counts-are, hall-is}
 use Rattle.refine_spec.specs.Rounds.{RoundRule, Stage, startFrom, refined, firstChange}
 use Rattle.refine_spec.specs.Shift.{greatestWorth}
 use Rattle.price_rule.specs.declared.RuleFor.the-variants.{Hall}
@@ -34,7 +30,8 @@ use Rattle.price_rounds.specs.declared.Reached.{Reached}
 use Rattle.price_rounds.specs.Rounds.{roundsFrom, Reaches, RoundsStart}
 use Rattle.hall_by_prices_spec.specs.declared.ChargeRefineAnswer.{ChargeRefineAnswer}
 use Rattle.hall_by_prices_spec.specs.Hall.{hallRule, hallStart, hallRefined}
-use Rattle.hall_by_prices_spec.specs.Refine.{chargeRefineCauses, chargeRefinement, notChargeRefined, chargeRefineOf}
+use Rattle.hall_by_prices_spec.specs.Refine.{few-bytes, few-prices, chargeRefineCauses, chargeRefinement, notChargeRefined, chargeRefineOf}
+use Rattle.hall_by_prices_spec.proofs.RefineCauses.{places-iff, clear-iff, charge-refine-answers}
 use Rattle.hall_by_prices_spec.specs.Answer.{chargeRefinedBy, chargeRefineRefused}
 use Rattle.hall_look.specs.declared.HallSize.{HallSize}
 use Rattle.hall_look.specs.Look.{hallFor, HallPosed}
@@ -112,31 +109,22 @@ module _ (s : List ℕ) (rounds : ℕ) (map prices : List ℕ) {K : Kind} {r : R
   refine-fault f g = rw g (tried-stops (charge-tried s k e) _ (λ k. notChargeRefined k map prices) _ f)
 
   module _ (f : r .refusal ≡ 0) where
-    -- the lent places one by one
-    abbrev few : Bool
-    few = ltb (length map) (mapBytes (turnCount s))
-
-    abbrev short : Bool
-    short = ltb (length prices) shiftMinutes
-
     module _ {size : ℕ} (m : size ≡ mapBytes (r .turns)) where
       size-is : size ≡ mapBytes (turnCount s)
       size-is = m ∙ ap mapBytes (counts-are s k e f .2)
 
       pub refine-short : {x : ChargeRefineAnswer} → length map < size → x ≡ chargeRefineRefused bufferTooSmall → chargeRefinedBy x map prices ≡ chargeRefineOf s rounds map prices
       unfolding chargeRefineOf chargeRefineCauses
-      refine-short l g = rw g (tried-last (charge-tried s k e) _ (λ k. notChargeRefined k map prices) f bufferTooSmall (omega arith) (or-1 few short (lt-ltb (length map) (mapBytes (turnCount s)) (omega (arith, size-is)))))
+      refine-short l g = rw g (tried-last (charge-tried s k e) _ (λ k. notChargeRefined k map prices) f bufferTooSmall (omega arith) (places-iff s (length map) (length prices) .1 (few-bytes (omega (arith, size-is)))))
 
       pub refine-done : (cols : List ℕ) {x : ChargeRefineAnswer} {map′ prices′ : List ℕ} → (r .refusal ≡ 0 → (gap : ℕ) → PosedFor gap s cols) → size ≤ length map → shiftMinutes ≤ length prices
           → chargeRefinedBy x map′ prices′ ≡ chargeRefinement (hallRefined (hallFor (record { units = r .groomers; vehicles = r .slopes; size = record { count = r .turns; gap = hallGap } }) cols) (r .slopes) rounds) map prices
           → chargeRefinedBy x map′ prices′ ≡ chargeRefineOf s rounds map prices
-      unfolding chargeRefineOf chargeRefineCauses
       refine-done cols w l p z =
-          z ∙ rw (hall-is s k e f cols w, counts-are s k e f .1)
-          (tried-found (charge-tried s k e) _ (λ k. notChargeRefined k map prices) f bufferTooSmall (rw (le-ltb (length map) (mapBytes (turnCount s)) (omega (arith, size-is)), le-ltb (length prices) shiftMinutes p)))
+          z ∙ rw (hall-is s k e f cols w, counts-are s k e f .1) (sym (charge-refine-answers s rounds map prices (clear-iff s (length map) (length prices) .1 (accepted s k e f, omega (arith, size-is), p))))
 
     pub refine-few : {x : ChargeRefineAnswer} → length prices < shiftMinutes → x ≡ chargeRefineRefused bufferTooSmall → chargeRefinedBy x map prices ≡ chargeRefineOf s rounds map prices
     unfolding chargeRefineOf chargeRefineCauses
-    refine-few l g = rw g (tried-last (charge-tried s k e) _ (λ k. notChargeRefined k map prices) f bufferTooSmall (omega arith) (or-2 few short (lt-ltb (length prices) shiftMinutes l)))
+    refine-few l g = rw g (tried-last (charge-tried s k e) _ (λ k. notChargeRefined k map prices) f bufferTooSmall (omega arith) (places-iff s (length map) (length prices) .1 (few-prices l)))
 
 pub ruleset refine-cases = (charging-given, hall-posed, refine-fault, refine-short, refine-few, refine-done)

@@ -26,14 +26,14 @@ use Rattle.hall_by_prices_spec.specs.Refine.{ChargeRefinement, chargeRef
 
 module _ (s : List ℕ) (bytes numbers : ℕ) where
   -- too few lent bytes for the map, or too few lent numbers for the price list
-  abbrev short : Bool
+  abbrev pub short : Bool
   short = ltb bytes (mapBytes (turnCount s)) || ltb numbers shiftMinutes
 
   either : HallPlacesFail s bytes numbers → (bytes < mapBytes (turnCount s)) ⊎ (numbers < shiftMinutes)
   either (few-bytes h) = inl h
   either (few-prices h) = inr h
 
-  places-iff : (short ≡ true) ↔ HallPlacesFail s bytes numbers
+  pub places-iff : (short ≡ true) ↔ HallPlacesFail s bytes numbers
   places-iff = let w = few-iff bytes (mapBytes (turnCount s)) numbers shiftMinutes in (λ e. ⊎-elim few-bytes few-prices (w .0 e), λ f. w .1 (either f))
 
   -- no cause is there just if the sheet is not refused, and there are lent bytes and lent numbers enough

@@ -31,7 +31,7 @@ use Rattle.hall_by_prices_spec.proofs.Promised.{window-count, vehicle-n
 use Rattle.hall_by_prices_spec.proofs.RefineCauses.{clear-iff, charge-refine-number, charge-refine-answers}
 use Rattle.hall_by_prices_spec.proofs.HallRounds.{rounds-lists, rounds-limit, rounds-worth, rounds-choice, rounds-no-less, rounds-within, rounds-worth-within}
 
--- what is lent behind the front stays
+-- what is lent after the front stays
 front-rest : (text lent : List ℕ) (n : ℕ) → length text ≡ n → drop n (atFront text lent) ≡ drop n lent
 front-rest text lent n e = drop-at text (drop (length text) lent) n e ∙ ap (λ (k : ℕ). drop k lent) e
 

@@ -84,6 +84,6 @@ pub record ChargeRefinePromised (s : List ℕ) (rounds : ℕ) (map prices : List
   pub ended : (chargeRefineOf s rounds map prices .rounds ≡ rounds) ⊎ (chargeRefineOf s rounds map prices .limit ≡ chargeRefineOf s rounds map prices .worth)
   pub not-before : (k : ℕ) (map′ prices′ : List ℕ) → k < chargeRefineOf s rounds map prices .rounds → chargeRefineOf s k map′ prices′ .refusal ≡ 0 →
       chargeRefineOf s k map′ prices′ .limit ≢ chargeRefineOf s k map′ prices′ .worth
-  -- what is lent behind the map and behind the list is as before
+  -- what is lent after the map and after the list is as before
   pub map-rest : drop (mapBytes (turnCount s)) (chargeRefineOf s rounds map prices .map) ≡ drop (mapBytes (turnCount s)) map
   pub prices-rest : drop shiftMinutes (chargeRefineOf s rounds map prices .prices) ≡ drop shiftMinutes prices

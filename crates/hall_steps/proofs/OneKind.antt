@@ -67,7 +67,7 @@ module _ (a : OneKind) (cols own : List ℕ) where
     unfolding KindRows
     own-row t l = o t (omega arith) ∙ ap (kindRow a) (row-is p cols t l)
 
-    -- a number of each window; 0 behind the last
+    -- a number of each window; 0 after the last
     own-number : (f : Row → ℕ) (g : ℕ → ℕ) → ((t : ℕ) → t < p .count → f (kindRow a (turnRow (H .windows) t)) ≡ g t) → ((t : ℕ) → p .count ≤ t → 0 ≡ g t) → (t : ℕ) → within (p .count) (λ u. f (rowIn own u)) t ≡ g t
     unfolding within
     own-number f g e z t = go (decLt t (p .count))
@@ -76,7 +76,7 @@ module _ (a : OneKind) (cols own : List ℕ) where
         go (yes l) = rw (lt-ltb t (p .count) l, own-row t l) (e t l)
         go (no l) = rw (le-ltb t (p .count) (omega arith)) (z t (omega arith))
 
-    -- behind the last window everything reads as 0
+    -- after the last window everything reads as 0
     behind : (f : Row → ℕ) (t : ℕ) → p .count ≤ t → 0 ≡ within (p .count) (λ u. f (rowIn cols u)) t
     unfolding within
     behind f t l = rw (le-ltb t (p .count) l)

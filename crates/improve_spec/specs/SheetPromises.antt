@@ -43,7 +43,7 @@ pub record ImprovedSheet (s : List ℕ) (limit : ℕ) (lent : List ℕ) : Type 0
   -- a limit no greater than the whole search needs is used up; with a greater one the visits are what the whole search needs
   pub all-used : limit ≤ wholeVisits (sheetTurns s) → improveOf s limit lent .answer .visits ≡ limit
   pub all-made : wholeVisits (sheetTurns s) ≤ limit → improveOf s limit lent .answer .visits ≡ wholeVisits (sheetTurns s)
-  -- the search ran whole just if the limit allows them all
+  -- the search ran whole exactly if the limit allows them all
   pub ran-whole : (improveOf s limit lent .answer .whole ≡ true) ↔ (wholeVisits (sheetTurns s) ≤ limit)
   -- then no feasible set earns more than the worth
   pub greatest : improveOf s limit lent .answer .whole ≡ true → (R : List ℕ) → Feasible (sheetTurns s) R → worthOf (sheetTurns s) R ≤ improveOf s limit lent .answer .worth
@@ -58,7 +58,7 @@ pub record ImprovedSheet (s : List ℕ) (limit : ℕ) (lent : List ℕ) : Type 0
   pub earns : chosen (sheetTurns s .count) (answeredChoice s limit lent) (sheetTurns s .worth) ≡ improveOf s limit lent .answer .worth
   -- the first bytes are their map: no other bit is set there
   pub map : answeredMap s limit lent ≡ mapOf (answeredChoice s limit lent)
-  -- the bytes behind the map stay as they were
+  -- the bytes after the map stay as they were
   pub behind : drop (mapBytes (turnCount s)) (improveOf s limit lent .lent) ≡ drop (mapBytes (turnCount s)) lent
   -- the planned board is worth no more
   pub no-less : boardWorth (plannedBoard s) ≤ improveOf s limit lent .answer .worth

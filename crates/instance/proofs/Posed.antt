@@ -42,7 +42,7 @@ module _ (K : Kind) (sound : Sound K) (gap : ℕ) (s : List ℕ) (z : firstOf (c
   abbrev size : Size
   size = record { count = turnCount s; gap = gap }
 
-  -- a number of each turn, from the columns and from the list; 0 behind the last
+  -- a number of each turn, from the columns and from the list; 0 after the last
   same : (f : Row → ℕ) (g : Turn → ℕ) → g noTurn ≡ 0 → ((t : Turn) → f (rowFor t) ≡ g t) → (t : ℕ) → within (turnCount s) (λ i. f (rowIn cols i)) t ≡ g (turn t)
   unfolding within
   same f g n e t = go (decLt t (turnCount s))
@@ -146,7 +146,7 @@ pub ruleset shift-sheet-load-cases = (shift-sheet-given, load-shift-sheet)
 
 -- ---- what callers take of it
 
--- a caller's causes come behind the sheet's
+-- a caller's causes come after the sheet's
 pub loaded-tried : (s cols : List ℕ) {r : ReadAnswer} → Loaded s r cols → Tried (sheetCauses s) (r .refusal)
 loaded-tried s cols l = record { number = l .refusal; above = sheet-numbered s }
 

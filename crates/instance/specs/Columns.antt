@@ -1,4 +1,4 @@
--- Turns in columns of numbers, one column behind another: slopes, groomers, starts, ends, worths, drivers (no rule of its own). For inner functions only. Assumes nothing.
+-- Turns in columns of numbers, one column after another: slopes, groomers, starts, ends, worths, drivers (no rule of its own). For inner functions only. Assumes nothing.
 use mathlib.Core.Path.{_≡_}
 use mathlib.Core.Bool.{cond}
 use mathlib.Core.List.{List}
@@ -40,7 +40,7 @@ unfoldable pub withRow : List ℕ → ℕ → Row → List ℕ
 withRow cols i r =
     set (set (set (set (set (set cols i (r .slope)) (mostTurns + i) (r .groomer)) (2 * mostTurns + i) (r .start)) (3 * mostTurns + i) (r .end)) (4 * mostTurns + i) (r .worth)) (5 * mostTurns + i) (r .driver)
 
--- what is read of the first n places; 0 behind them
+-- what is read of the first n places; 0 after them
 unfoldable pub within : ℕ → (ℕ → ℕ) → ℕ → ℕ
 within n f t = cond (ltb t n) (f t) 0
 

@@ -15,7 +15,7 @@ clearAt flags m = eqb (getD flags m 0) 0
 
 -- ---- as statements
 
--- a slope's flag is clear just where, of the turns below x that are meant, none is on it
+-- a slope's flag is clear exactly where, of the turns below x that are meant, none is on it
 pub record Flagged (T : Turns) (meant : ℕ → Bool) (x : ℕ) (flags : List ℕ) : Type 0 where
   pub places : length flags ≡ slopePlaces
   pub clear : (m : ℕ) → m < slopePlaces → clearAt flags m ≡ every (λ u. not (meant u && eqb m (T .slope u))) x

@@ -19,7 +19,7 @@ byEnd T = orderBy (T .end) (T .count)
 abbrev pub turnAt : List ℕ → ℕ → ℕ
 turnAt order i = getD order i 0
 
--- the place of a turn, by a list of places; what is no turn is behind the last one
+-- the place of a turn, by a list of places; what is no turn is after the last one
 unfoldable pub placeAt : List ℕ → ℕ → ℕ
 placeAt places t = cond (ltb t (length places)) (getD places t 0) (length places)
 

@@ -24,7 +24,7 @@ pub struct Ways {
     pub driver: bool,
 }
 
-// Whether two stretches of minutes overlap, each with the gap behind it. It has no branch: where every turn
+// Whether two stretches of minutes overlap, each with the gap after it. It has no branch: where every turn
 // is tested, one at each turn would be mispredicted too often.
 pub fn overlap(gap: u16, start: u16, end: u16, from: u16, until: u16) -> bool
     ensures { λ r. ⌜ r ≡ overlapping gap start end from until ⌝ }

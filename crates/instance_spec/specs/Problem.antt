@@ -7,7 +7,7 @@ use Rattle.model.specs.Turns.{Turns, OneDriver}
 use Rattle.turn.specs.declared.Turn.{Turn}
 use Rattle.sheet.specs.Read.{turnsOf}
 
--- behind the last turn everything reads as 0
+-- after the last turn everything reads as 0
 abbrev pub noTurn : Turn
 noTurn = record { slope = 0; groomer = 0; start = 0; length = 0; worth = 0; driver = 0 }
 

@@ -19,7 +19,7 @@ mostPrice = 65535
 unfoldable pub slopePrice : List ℕ → ℕ → ℕ
 slopePrice prices s = getD prices (s - 1) 0
 
--- the price of turn u, behind those of so many slopes
+-- the price of turn u, after those of so many slopes
 unfoldable pub turnPrice : ℕ → List ℕ → ℕ → ℕ
 turnPrice slopes prices u = getD prices (slopes + u) 0
 

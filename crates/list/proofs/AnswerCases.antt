@@ -26,7 +26,7 @@ use Rattle.instance.specs.Columns.{turnsBy, Held}
 use Rattle.instance.specs.Load.{shiftSize, Loaded}
 use Rattle.instance.proofs.Rows.{lengths-are}
 use Rattle.plan_spec.specs.Plan.{boardFor}
-use Rattle.plan_spec.proofs.Boards.{planned-bytes, ReadsBack}
+use Rattle.plan_spec.proofs.Boards.{planned-bytes}
 use Rattle.list_spec.specs.declared.Sums.{Sums}
 use Rattle.list_spec.specs.Text.{listingOf}
 use Rattle.list.specs.Ready.{Ready}
@@ -72,55 +72,37 @@ module _ (text space : List ℕ) (short : length text ≤ listingBytes) (room : 
 
 pub ruleset text-cases = (text-small, bytes-in-place, copy-holds, copy-part, copy-fits, copied-done)
 
--- ---- the planner's board
+-- ---- the planner's board and its sums
 
-module _ (size : Size) (cols b : List ℕ) (e : b ≡ boardFor (turnsBy size cols)) (held : Held size cols) where
+module _ (size : Size) (cols b : List ℕ) (e : b ≡ boardFor (turnsBy size cols)) (held : Held size cols) {map : List ℕ} (q : map ≡ boardMap b) where
   abbrev T : Turns
   T = turnsBy size cols
 
   lengths : PositiveLengths T
   lengths = lengths-are size cols held
 
-  module _ {map : List ℕ} (q : map ≡ boardMap b) where
-    choice-is : choiceIn (size .count) map ≡ choice T
-    choice-is = board-choice size cols b held e q
+  choice-is : choiceIn (size .count) map ≡ choice T
+  choice-is = board-choice size cols b held e q
 
-    map-clean : Clean (size .count) map
-    map-clean = rw q (rw (board-count size cols b held e) at (formed-clean b (board-opens size cols b held e) (rw e (planned-bytes T))))
+  map-clean : Clean (size .count) map
+  map-clean = rw q (rw (board-count size cols b held e) at (formed-clean b (board-opens size cols b held e) (rw e (planned-bytes T))))
 
-    pub board-ready : Ready size cols map
-    board-ready = record { held = held; clean = map-clean; apart = rw choice-is (apart-starts T (choice T) (planned-keeps T lengths .apart) lengths) }
+  pub board-ready : Ready size cols map
+  board-ready = record { held = held; clean = map-clean; apart = rw choice-is (apart-starts T (choice T) (planned-keeps T lengths .apart) lengths) }
 
-    module _ (groomers : ℕ) {sums : Sums} (w : sums ≡ sumsFor T) where
-      listing-is : listingOf groomers T (choiceIn (size .count) map) sums ≡ listingFor groomers T
-      unfolding listingFor
-      listing-is = rw (choice-is, w)
-
-      listing-fits : length (listingFor groomers T) ≤ listingBytes → length (listingOf groomers T (choiceIn (size .count) map) sums) ≤ listingBytes
-      listing-fits g = rw listing-is g
-
-      listing-answer : {x : Written} (lent : List ℕ) → x ≡ textAnswer (listingOf groomers T (choiceIn (size .count) map) sums) lent → x ≡ textAnswer (listingFor groomers T) lent
-      listing-answer lent g = rw listing-is at g
-
--- ---- its sums
-
-module _ (size : Size) (cols b : List ℕ) (e : b ≡ boardFor (turnsBy size cols)) (held : Held size cols) where
-  abbrev planned : ReadsBack (turnsBy size cols) b
-  planned = board-reads size cols b held e
-
-  module _ (groomers : ℕ) {map : List ℕ} {worth tallied limit : ℕ} (q : map ≡ boardMap b) (w : worth ≡ boardWorth b) (t : tallied ≡ boardTally b) (l : limit ≡ ceiling (turnsBy size cols) (steps (turnsBy size cols))) where
+  module _ (groomers : ℕ) {worth tallied limit : ℕ} (w : worth ≡ boardWorth b) (t : tallied ≡ boardTally b) (l : limit ≡ ceiling (turnsBy size cols) (steps (turnsBy size cols))) where
     abbrev sums : Sums
     sums = record { worth = worth; tally = tallied; ceiling = limit }
 
-    sums-are : sums ≡ sumsFor (turnsBy size cols)
-    unfolding sumsFor
-    sums-are = rw (w, t, l, planned .worth, planned .tallied)
+    listing-is : listingOf groomers T (choiceIn (size .count) map) sums ≡ listingFor groomers T
+    unfolding listingFor sumsFor
+    listing-is = let planned = board-reads size cols b held e in rw (choice-is, w, t, l, planned .worth, planned .tallied)
 
     pub sums-fit : length (listingFor groomers (turnsBy size cols)) ≤ listingBytes → length (listingOf groomers (turnsBy size cols) (choiceIn (size .count) map) sums) ≤ listingBytes
-    sums-fit g = listing-fits size cols b e held q groomers sums-are g
+    sums-fit g = rw listing-is g
 
     pub sums-answer : {x : Written} (lent : List ℕ) → x ≡ textAnswer (listingOf groomers (turnsBy size cols) (choiceIn (size .count) map) sums) lent → x ≡ textAnswer (listingFor groomers (turnsBy size cols)) lent
-    sums-answer lent g = listing-answer size cols b e held q groomers sums-are lent g
+    sums-answer lent g = rw listing-is at g
 
 pub ruleset sums-cases = (board-opens, board-ready, board-header, sums-fit, sums-answer)
 

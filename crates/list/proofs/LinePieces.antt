@@ -57,7 +57,7 @@ module _ (word : List ℕ) (x : ℕ) (word′ : List ℕ) (y at : ℕ) where
     pub pair-put : (l : List ℕ) {l₁ l₂ : List ℕ} → l₁ ≡ puts l at (labelled word x) → l₂ ≡ puts l₁ next (labelled word′ y) → l₂ ≡ puts l at pair
     pair-put l p q = both-put (labelled word x) (labelled word′ y) at e l p q
 
-  -- the end of the line behind both
+  -- the end of the line after both
   pair-then-end : twoLabelled word x word′ y ≡ pair ++ lineFeed
   unfolding twoLabelled
   pair-then-end = sym (append-assoc (labelled word x) (labelled word′ y) lineFeed)

@@ -1,4 +1,4 @@
--- Pieces of text put one behind another. Assumes nothing.
+-- Pieces of text put one after another. Assumes nothing.
 use Prim.Native.Nat.{ℕ, _+_, _≤_}
 use mathlib.Core.Path.{_≡_, _∙_, ap}
 use mathlib.Core.List.{List, _++_}
@@ -13,7 +13,7 @@ module _ (a b : List ℕ) (at : ℕ) where
   first-fits h = omega (arith, length-append a b)
 
   module _ {next : ℕ} (e : next ≡ at + length a) where
-    -- the second then has room behind it
+    -- the second then has room after it
     pub second-fits : {most : ℕ} → at + length (a ++ b) ≤ most → next + length b ≤ most
     second-fits h = omega (arith, length-append a b)
 

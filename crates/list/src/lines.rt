@@ -1,5 +1,5 @@
-// The lines of the listing, each put behind the one before it. Each function returns the place
-// behind what it put.
+// The lines of the listing, each put after the one before it. Each function returns the place
+// after what it put.
 ghost use mathlib.Core.Path.{_≡_};
 ghost use mathlib.Core.List.{_++_};
 ghost use Prim.Native.Nat.{_+_, _≤_, _<_};

@@ -32,7 +32,7 @@ apart-starts T S apart lengths u v l m p q g s =
     apart u v l m e p q
     (same-groomer g (T .start u) (record { begun = omega arith; not-over = omega (arith, lengths u l) }) (record { begun = omega arith; not-over = omega (arith, lengths v m) })))
 
--- ---- which turns stand in two lists, one behind the other
+-- ---- which turns stand in two lists, one after the other
 
 in-either : (u : ℕ) (us vs : List ℕ) → In u (us ++ vs) → In u us ⊎ In u vs
 in-either u [] vs i = inr i

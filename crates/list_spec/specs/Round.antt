@@ -35,7 +35,7 @@ pub data Rising (T : Turns) : List ℕ → Type 0 where
   none : Rising T []
   more : {u : ℕ} {us : List ℕ} → All (λ v. T .start u < T .start v) us → Rising T us → Rising T (u ∷ us)
 
--- a list is groomer h's round: just its chosen turns, and by start, so that none stands twice
+-- a list is groomer h's round: exactly its chosen turns, and by start, so that none stands twice
 pub record Round (T : Turns) (S : List Bool) (h : ℕ) (us : List ℕ) : Type 0 where
   pub turns : (u : ℕ) → In u us ↔ ((u < T .count) × (has S u ≡ true) × (T .groomer u ≡ h))
   pub by-start : Rising T us

@@ -62,7 +62,7 @@ pub all-in : {P : ℕ → Type 0} {t : ℕ} {ts : List ℕ} → All P ts → In 
 all-in (more h hs) here = h
 all-in (more h hs) (later i) = all-in hs i
 
--- ---- which numbers stand in two lists, one behind the other
+-- ---- which numbers stand in two lists, one after the other
 
 pub in-first : {t : ℕ} {ts : List ℕ} (us : List ℕ) → In t ts → In t (ts ++ us)
 in-first us here = here

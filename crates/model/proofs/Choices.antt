@@ -50,13 +50,13 @@ module _ (fits : List Bool → ℕ → Bool) where
   unfolding choose
   choose-not S j e = rw e
 
-  -- a list behind another one comes before it
+  -- a list after another one comes before it
   pub each-both : (is js : List ℕ) (S : List Bool) → chooseEach fits (is ++ js) S ≡ chooseEach fits is (chooseEach fits js S)
   unfolding chooseEach
   each-both [] js S = refl
   each-both (i ∷ is) js S = ap (λ (U : List Bool). choose fits U i) (each-both is js S)
 
-  -- going back, then filling, is one list: i - 1, .., 0, and behind them the steps' turns
+  -- going back, then filling, is one list: i - 1, .., 0, and after them the steps' turns
   pub each-fill-back : (i n : ℕ) (js : List ℕ) → chooseEach fits (below i ++ js) (replicate n false) ≡ fill fits i (back fits n js)
   unfolding fill back
   each-fill-back i n js = each-both (below i) js (replicate n false)

@@ -16,7 +16,7 @@ pub record Turns : Type 0 where
   pub worth : ℕ → ℕ
   pub driver : ℕ → ℕ
 
--- two stretches of minutes overlap: each starts before the other's end plus the gap. With a gap of 0, stretches of a minute or more overlap just if they share a minute; to touch is not enough
+-- two stretches of minutes overlap: each starts before the other's end plus the gap. With a gap of 0, stretches of a minute or more overlap exactly if they share a minute; to touch is not enough
 unfoldable pub overlapping : ℕ → ℕ → ℕ → ℕ → ℕ → Bool
 overlapping gap start end from until = ltb start (until + gap) && ltb from (end + gap)
 

@@ -39,7 +39,7 @@ stintBy r t delay free =
     let begin = max (r .start) free in
     record { turn = t; begin = begin; end = cut (begin + (r .end - r .start) + delay) }
 
--- the table with a stint behind groomer g's last one
+-- the table with a stint after groomer g's last one
 abbrev pub withNext : List ℕ → List ℕ → ℕ → Stint → List ℕ
 withNext table progress g s = withStint table g (getD progress (countPlace g) 0) s
 
@@ -78,7 +78,7 @@ pub record Playable (T : Turns) (S : List Bool) : Type 0 where
   -- however many turns are gone through by start, those that a groomer takes fit into the rows of its day
   pub rows : (g i : ℕ) → length (takenOf T S (suc g) (take i (orderByStart T))) < dayRows
 
--- room for a turn more: free minutes within the shift, and a row behind each groomer's last one
+-- room for a turn more: free minutes within the shift, and a row after each groomer's last one
 pub record RoomForTurn (progress : List ℕ) : Type 0 where
   pub progress-size : length progress ≡ progressPlaces
   pub free : (g : ℕ) → g < mostGroomers → getD progress g 0 ≤ shiftMinutes

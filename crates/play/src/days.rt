@@ -100,7 +100,7 @@ pub fn stint_in(table: &[u16], g: usize, j: usize) -> Stint
     }
 }
 
-// Puts a stint behind groomer g's last one.
+// Puts a stint after groomer g's last one.
 fn put_next(table: &mut [u16], progress: &[u16], g: usize, s: Stint)
     requires { ⌜ (length (now table) ≡ dayTablePlaces) × RoomForTurn (now progress) × (g < mostGroomers) ⌝ }
     ensures { λ _. ⌜ now (table .exit) ≡ withNext (now (table .entry)) (now (progress .entry)) g s ⌝ }

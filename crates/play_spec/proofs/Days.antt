@@ -225,7 +225,7 @@ stands-at (Laid.more {s = s} {ss = ss} a b h) m n = go (decLt m (s .begin)) (dec
     go (no x) (no y) (yes z) ih = absurd (n 0 (omega arith) .1 (omega arith, z))
     go (no x) (no y) (no z) ih = doing-after s ss m b (omega arith) ∙ ih
 
--- a minute is in a stint, behind one, or neither
+-- a minute is in a stint, after one, or neither
 abbrev Place : List Stint → ℕ → Type 0
 Place ss m = ((i : ℕ) × (i < length ss) × InStint (stintAt ss i) m) ⊎ ((i : ℕ) × (i < length ss) × OverFrom (stintAt ss i) m) ⊎ Neither ss m
 

@@ -47,7 +47,7 @@ module _ (T : Turns) (S : List Bool) (delay : ℕ → ℕ) (table : List ℕ) (w
 
   -- ---- all minutes of the list
 
-  -- before minute m: each of n groomers starts from what its day says, and all behind them is as it was
+  -- before minute m: each of n groomers starts from what its day says, and all after them is as it was
   record Begun (n : ℕ) (ys : List Standing) (m : ℕ) (l : List Standing) : Type 0 where
     long : length l ≡ length ys
     starts : (g : ℕ) → g < n → begunOf (getD l g freshOf) m ≡ standingAfter (its g) m

@@ -120,9 +120,9 @@ OverFrom k m = (k .end ≤ m) × (m < k .end + overMinutes)
 
 -- in minute m of a day, d is what is done
 pub record DoingIs (day : List Stint) (m : ℕ) (d : Doing) : Type 0 where
-  -- a turn is worked just in the minutes of its stint
+  -- a turn is worked exactly in the minutes of its stint
   pub works-iff : (u : ℕ) → (d ≡ works u) ↔ ((i : ℕ) × (i < length day) × (stintAt day i .turn ≡ u) × InStint (stintAt day i) m)
-  -- the groomer drives over just in the minutes that follow one
+  -- the groomer drives over exactly in the minutes that follow one
   pub drives-iff : (d ≡ drives) ↔ ((i : ℕ) × (i < length day) × OverFrom (stintAt day i) m)
   -- and stands in all other minutes
   pub stands-iff : (d ≡ stands) ↔ ((i : ℕ) → i < length day → (InStint (stintAt day i) m → ⊥) × (OverFrom (stintAt day i) m → ⊥))

@@ -64,11 +64,11 @@ pub data DelaysFail (s delays : List ℕ) : Type 0 where
   other-count : length delays ≢ turnCount s → DelaysFail s delays
   long-delay : (u : ℕ) → u < length delays → mostDelay < delayIn delays u → DelaysFail s delays
 
--- a cause to refuse what is lent: the delays, and behind them that there is not a place for each groomer
+-- a cause to refuse what is lent: the delays, and after them that there is not a place for each groomer
 abbrev pub LentPlayCause : List ℕ → List ℕ → ℕ → ℕ → ℕ → Type 0
 LentPlayCause s delays = ThenRoom (Only badDelays (DelaysFail s delays)) 1 (countsIn s .groomers)
 
--- a cause to refuse is there, at its place in the order: behind a sheet's places the board's six stand at 1 to 6, so these begin at 7
+-- a cause to refuse is there, at its place in the order: after a sheet's places the board's six stand at 1 to 6, so these begin at 7
 abbrev pub PlayCause : List ℕ → List ℕ → List ℕ → ℕ → ℕ → ℕ → Type 0
 PlayCause s b delays places = Then (CheckCause s b) (placeOf (turnCount s) 7) (LentPlayCause s delays places)
 

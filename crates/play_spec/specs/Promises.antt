@@ -26,7 +26,7 @@ pub record MovedByMinutes (s b delays : List ℕ) (lent : List Standing) (table 
   pub one-minute : (m : ℕ) → minutesFrom (suc m) 0 (countsIn s .groomers) lent table ≡ minuteOf (countsIn s .groomers) 0 (minutesFrom m 0 (countsIn s .groomers) lent table) table m
   -- when minute m is over it holds at each groomer's place the standing of the minutes up to m
   pub standings : (m : ℕ) → m < shiftMinutes → (g : ℕ) → g < countsIn s .groomers → StandingIs (dayAt s b delays g) m (getD (minutesFrom (suc m) 0 (countsIn s .groomers) lent table) g freshOf)
-  -- and behind those places what was there
+  -- and after those places what was there
   pub behind : (m : ℕ) → m < shiftMinutes → drop (countsIn s .groomers) (minutesFrom (suc m) 0 (countsIn s .groomers) lent table) ≡ drop (countsIn s .groomers) lent
   -- after the shift's last minute it is the answer's list
   pub last : minutesFrom shiftMinutes 0 (countsIn s .groomers) lent table ≡ playOf s b delays lent .lent
@@ -39,7 +39,7 @@ pub record PlayPromised (s b delays : List ℕ) (lent : List Standing) : Type 0 
   pub standings : (g : ℕ) → g < countsIn s .groomers → StandingIs (dayAt s b delays g) lastMinute (getD (playOf s b delays lent .lent) g freshOf)
   -- of which the three counts make the whole shift
   pub whole : (g : ℕ) → g < countsIn s .groomers → totalOf (getD (playOf s b delays lent .lent) g freshOf) ≡ shiftMinutes
-  -- behind those places it is as it was
+  -- after those places it is as it was
   pub behind : drop (countsIn s .groomers) (playOf s b delays lent .lent) ≡ drop (countsIn s .groomers) lent
   -- the day that is spoken of is that of the groomer, whose number is one above its place
   pub days : (g : ℕ) → DayIs (sheetTurns s) (boardChoice b) (delayIn delays) (suc g) (dayAt s b delays g)

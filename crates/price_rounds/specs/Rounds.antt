@@ -15,7 +15,7 @@ use Rattle.shift_look.specs.declared.Extent.{Extent}
 use Rattle.hall_look.specs.declared.HallSize.{HallSize}
 use Rattle.price_rule.specs.declared.RuleFor.{RuleFor}
 use Rattle.price_rule.specs.declared.RuleFor.the-variants.{Shift, Hall}
-use Rattle.price_rule.specs.Rules.{sizeOf, pricesOf, changeOf, fitsOf, ruleWorth, roundRule, RulePosed, OrderedFor, RunsFor}
+use Rattle.price_rule.specs.Rules.{sizeOf, pricesOf, changeOf, fitsOf, ruleWorth, roundRule, RulePosed, OrderedFor, RowsFor}
 use Rattle.price_rounds.specs.declared.Start.{Start}
 use Rattle.price_rounds.specs.declared.Task.{Task}
 use Rattle.price_rounds.specs.declared.Reached.{Reached}
@@ -42,7 +42,7 @@ stageOf n prices change made limit list map worth =
 
 -- ---- as statements
 
--- a choice stands in the place of another just if it is worth more, and the worth is that of the one that stands
+-- a choice stands in the place of another exactly if it is worth more, and the worth is that of the one that stands
 pub record BetterKept (r : RuleFor) (cols : List ℕ) (made S : List Bool) (worth : ℕ) (S′ : List Bool) (worth′ : ℕ) : Type 0 where
   pub choice-is : S′ ≡ cond (ltb worth (ruleWorth r cols made)) made S
   pub worth-is : worth′ ≡ cond (ltb worth (ruleWorth r cols made)) (ruleWorth r cols made) worth
@@ -80,11 +80,11 @@ pub record BetweenLooks (r : RuleFor) (cols first : List ℕ) (rounds : ℕ) (pr
       ≡ roundsFrom r cols rounds (choiceIn (sizeOf r .count) first)
 
 -- the loop at such a place: what no round changes is there, and lent places keep their lengths
-pub record RoundsUnderway (t : Task) (cols list₀ best₀ orders ranks list best room prices : List ℕ) (change limit worth made : ℕ) : Type 0 where
+pub record RoundsUnderway (t : Task) (cols list₀ best₀ orders rows ranks list best prices : List ℕ) (change limit worth made : ℕ) : Type 0 where
   pub posed : RulePosed (t .rule) cols
   pub ordered : OrderedFor (t .rule) cols orders
   pub ranked : ranks ≡ byWorth (turnsBy (sizeOf (t .rule)) cols)
   pub stage : BetweenLooks (t .rule) cols best₀ (t .rounds) prices change made limit list best worth
   pub list-size : length list ≡ length list₀
   pub map-size : length best ≡ length best₀
-  pub runs : RunsFor (t .rule) cols room
+  pub rows-are : RowsFor (t .rule) cols rows

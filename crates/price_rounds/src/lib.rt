@@ -3,8 +3,9 @@
 ghost use mathlib.Core.Path.{_≡_};
 ghost use Rattle.choice_map.specs.Choice.{choiceIn, Clean};
 ghost use Rattle.selection.specs.Asked.{NumbersOf};
-ghost use Rattle.price_rule.specs.Rules.{sizeOf, RulePosed, RunsFor};
+ghost use Rattle.price_rule.specs.Rules.{sizeOf, RulePosed, RowsFor};
 ghost use Rattle.price_rounds.specs.Rounds.{shiftTask, hallTask, chosenFrom, BetterKept, RoundsStart, ReachedFrom};
+use conflict_sets::ROW_WORDS;
 use hall_look::HallSize;
 use hall_look::MINUTES;
 use instance::MAP_BYTES;
@@ -59,19 +60,19 @@ fn keep_better(
     rule: RuleFor,
     worth: u32,
     cols: &[u16; PLACES],
+    rows: &[u64; ROW_WORDS],
     list: &[u16],
     best: &mut [u8],
-    room: &mut [u16; PLACES],
 ) -> u32
-    requires { ⌜ RulePosed rule (now cols) × NumbersOf (sizeOf rule .count) (now list) × RunsFor rule (now cols) (now room) ⌝ }
+    requires { ⌜ RulePosed rule (now cols) × NumbersOf (sizeOf rule .count) (now list) × RowsFor rule (now cols) (now rows) ⌝ }
     requires { ⌜ Clean (sizeOf rule .count) (now best) ⌝ }
     ensures { λ w. ⌜ BetterKept rule (now (cols .entry)) (chosenFrom rule (now (cols .entry)) (now (list .entry)))
         (choiceIn (sizeOf rule .count) (now (best .entry))) worth (choiceIn (sizeOf rule .count) (now (best .exit))) w ⌝ }
-    ensures { λ _. ⌜ Clean (sizeOf rule .count) (now (best .exit)) × RunsFor rule (now (cols .entry)) (now (room .exit)) ⌝ }
+    ensures { λ _. ⌜ Clean (sizeOf rule .count) (now (best .exit)) ⌝ }
 {
     let mut space = [0u8; MAP_BYTES];
     let map = &mut space[..best.len()];
-    let found = choose_listed(rule, cols, &*room, list, &mut *map);
+    let found = choose_listed(rule, cols, rows, list, &mut *map);
     if found <= worth {
         return worth;
     }
@@ -90,7 +91,7 @@ fn reached_with(limit: u32, worth: u32, rounds: u32) -> Reached
 }
 
 // Makes the rounds, from prices of 0 and the choice in `best`. That is the best choice then, and `kept` has
-// the prices of the lowest limit. The room holds the runs of a shift's orders during the rounds.
+// the prices of the lowest limit. The room is scratch space.
 fn make_rounds(
     t: Task,
     cols: &[u16; PLACES],
@@ -104,7 +105,8 @@ fn make_rounds(
     let rule = t.rule;
     let p = size_of(rule);
     let mut orders = [0u16; ORDERS];
-    put_orders(rule, cols, &mut orders, &mut *room);
+    let mut rows = [0u64; ROW_WORDS];
+    put_orders(rule, cols, &mut orders, &mut *room, &mut rows);
     let mut places = [0u16; MOST_TURNS];
     let ranks = &mut places[..p.count];
     put_ranks(p, cols, &mut *ranks);
@@ -122,7 +124,7 @@ fn make_rounds(
         let mut numbers = [0u16; ASKED];
         let count = put_list(&*ranks, &*relaxed, &mut numbers);
         let list = &numbers[..count];
-        worth = keep_better(rule, worth, cols, list, &mut *best, &mut *room);
+        worth = keep_better(rule, worth, cols, &rows, list, &mut *best);
         if is_over(limit, worth, made, t.rounds) {
             return reached_with(limit, worth, made);
         }

@@ -13,14 +13,15 @@ use Rattle.model.specs.Choice.{has, chosen, fits, chooseEach}
 use Rattle.choice_map.specs.Choice.{choiceIn, Clean}
 use Rattle.best_spec.specs.Table.{bestWorth, bestChoice}
 use Rattle.instance.specs.declared.columns.Size.{Size}
-use Rattle.instance.specs.Columns.{columnPlaces, turnsBy, Held}
+use Rattle.instance.specs.Columns.{turnsBy, Held}
 use Rattle.instance.proofs.Rows.{count-is}
 use Rattle.selection.specs.Asked.{NumbersOf}
 use Rattle.best_table.specs.OrderAndTable.{Ranged}
 use Rattle.limit_spec.specs.Prices.{priceSum}
 use Rattle.shift_look.specs.declared.Extent.{Extent}
 use Rattle.shift_look.specs.OrdersAndCounts.{countedTurns, turnsIn, orderPlaces, Driven, Ordered, Priced}
-use Rattle.selection_by_runs.specs.Runs.{RunsOf}
+use Rattle.conflict_sets.specs.Sets.{rowWords}
+use Rattle.conflict_sets.specs.Rows.{RowsOf}
 use Rattle.refine_spec.specs.Rounds.{firstChange}
 use Rattle.refine_spec.specs.Selection.{byWorth}
 use Rattle.refine_spec.specs.Shift.{greatestWorth}
@@ -37,7 +38,7 @@ use Rattle.hall_look.specs.Look.{hallFor, HallPosed}
 use Rattle.lists.specs.Lists.{keep}
 use Rattle.price_rule.specs.declared.RuleFor.{RuleFor}
 use Rattle.price_rule.specs.declared.RuleFor.the-variants.{Shift, Hall}
-use Rattle.price_rule.specs.Rules.{sizeOf, pricesOf, changeOf, ruleLimit, relaxedOf, fitsOf, movedOf, choiceOf, choosingList, ruleWorth, ShiftPosed, RulePosed, OrderedFor, RunsFor}
+use Rattle.price_rule.specs.Rules.{sizeOf, pricesOf, changeOf, ruleLimit, relaxedOf, fitsOf, movedOf, choiceOf, choosingList, ruleWorth, ShiftPosed, RulePosed, OrderedFor, RowsFor}
 
 -- ---- for a shift
 
@@ -84,13 +85,13 @@ module _ (r : RuleFor) (e : Extent) (g : r ≡ Shift e) where
     unfolding OrderedFor
     shift-ordered-for orders h = rw g h
 
-    pub shift-runs : (runs : List ℕ) → RunsOf (turnsIn e cols) runs → RunsFor r cols runs
-    unfolding RunsFor
-    shift-runs runs h = rw g h
+    pub shift-rows-for : (rows : List ℕ) → RowsOf (turnsIn e cols) rows → RowsFor r cols rows
+    unfolding RowsFor
+    shift-rows-for rows h = rw g h
 
-    pub shift-by-runs : (runs : List ℕ) → RunsFor r cols runs → RunsOf (turnsIn e cols) runs
-    unfolding RunsFor
-    shift-by-runs runs h = rw g at h
+    pub shift-rows : (rows : List ℕ) → RowsFor r cols rows → RowsOf (turnsIn e cols) rows
+    unfolding RowsFor
+    shift-rows rows h = rw g at h
 
     pub shift-worth : (map : List ℕ) {x : ℕ} → x ≡ chosen (e .size .count) (choiceIn (e .size .count) map) (turnsBy (e .size) cols .worth) → x ≡ chosen (sizeOf r .count) (choiceIn (sizeOf r .count) map) (turnsBy (sizeOf r) cols .worth)
     unfolding sizeOf
@@ -188,9 +189,9 @@ module _ (r : RuleFor) (h : HallSize) (g : r ≡ Hall h) where
     unfolding OrderedFor
     hall-ordered-for orders q = rw g q
 
-    pub hall-runs : (runs : List ℕ) → length runs ≡ columnPlaces → RunsFor r cols runs
-    unfolding RunsFor
-    hall-runs runs q = rw g q
+    pub hall-rows-for : (rows : List ℕ) → length rows ≡ rowWords → RowsFor r cols rows
+    unfolding RowsFor
+    hall-rows-for rows q = rw g q
 
     pub hall-worth : (map : List ℕ) {x : ℕ} → x ≡ chosen (h .size .count) (choiceIn (h .size .count) map) (turnsBy (h .size) cols .worth) → x ≡ chosen (sizeOf r .count) (choiceIn (sizeOf r .count) map) (turnsBy (sizeOf r) cols .worth)
     unfolding sizeOf
@@ -242,13 +243,13 @@ change-most-8 l = omega arith
 
 pub ruleset size-cases = (shift-size, hall-size)
 
-pub ruleset table-cases = (shift-held, shift-ranged, shift-driven, shift-ordered-for, shift-runs, hall-ordered-for, hall-runs)
+pub ruleset table-cases = (shift-held, shift-ranged, shift-driven, shift-ordered-for, shift-rows-for, hall-ordered-for, hall-rows-for)
 
 pub ruleset change-cases = (shift-held, shift-change, change-most-4, hall-held, hall-change, change-most-8)
 
 pub ruleset look-cases = (shift-priced, shift-ordered, shift-clean, shift-none, shift-clean-too, shift-limit, shift-relaxed, hall-posed, hall-prices, hall-clean, hall-none, hall-clean-too, hall-limit, hall-relaxed)
 
-pub ruleset chosen-cases = (shift-held, shift-by-runs, shift-numbers, shift-clean, shift-none, shift-clean-too, shift-chosen, shift-worth, hall-posed, hall-numbers, hall-clean, hall-none, hall-clean-too, hall-chosen, hall-worth)
+pub ruleset chosen-cases = (shift-held, shift-rows, shift-numbers, shift-clean, shift-none, shift-clean-too, shift-chosen, shift-worth, hall-posed, hall-numbers, hall-clean, hall-none, hall-clean-too, hall-chosen, hall-worth)
 
 pub ruleset move-cases = (shift-priced, shift-ordered, shift-scaled, shift-behind, shift-taken, shift-moved, hall-posed, hall-prices, hall-clean, hall-moved)
 

@@ -10,12 +10,13 @@ use Rattle.choice_map.specs.Choice.{choiceIn}
 use Rattle.sheet.specs.Kind.{mostSlopes}
 use Rattle.best_spec.specs.Table.{bestWorth, bestChoice}
 use Rattle.instance.specs.declared.columns.Size.{Size}
-use Rattle.instance.specs.Columns.{columnPlaces, turnsBy, Held}
+use Rattle.instance.specs.Columns.{turnsBy, Held}
 use Rattle.best_table.specs.OrderAndTable.{Ranged}
 use Rattle.limit_spec.specs.Prices.{priceSum}
 use Rattle.shift_look.specs.declared.Extent.{Extent}
 use Rattle.shift_look.specs.OrdersAndCounts.{countedTurns, turnsIn, orderPlaces, Ordered}
-use Rattle.selection_by_runs.specs.Runs.{RunsOf}
+use Rattle.conflict_sets.specs.Sets.{rowWords}
+use Rattle.conflict_sets.specs.Rows.{RowsOf}
 use Rattle.refine_spec.specs.Rounds.{RoundRule, firstChange}
 use Rattle.refine_spec.specs.Selection.{byWorth, choiceFrom}
 use Rattle.refine_spec.specs.Shift.{greatestWorth, movedPrices}
@@ -66,7 +67,7 @@ movedOf (Hall h) cols relaxed change prices = movedMinutes (hallFor h cols) rela
 unfoldable pub choiceOf : RuleFor → List ℕ → List Bool → List Bool
 choiceOf r cols relaxed = choiceFrom (fitsOf r cols) (turnsBy (sizeOf r) cols) relaxed
 
--- the list that it is made from: all turns or windows by worth, and behind them those that a map has chosen
+-- the list that it is made from: all turns or windows by worth, and after them those that a map has chosen
 unfoldable pub choosingList : RuleFor → List ℕ → List ℕ → List ℕ
 choosingList r cols map = withChosen (choiceIn (sizeOf r .count) map) (byWorth (turnsBy (sizeOf r) cols))
 
@@ -104,7 +105,7 @@ unfoldable pub OrderedFor : RuleFor → List ℕ → List ℕ → Type 0
 OrderedFor (Shift e) cols orders = Ordered (turnsIn e cols) orders
 OrderedFor (Hall h) cols orders = length orders ≡ orderPlaces
 
--- the runs of these orders are there, by which a shift's choice is made
-unfoldable pub RunsFor : RuleFor → List ℕ → List ℕ → Type 0
-RunsFor (Shift e) cols runs = RunsOf (turnsIn e cols) runs
-RunsFor (Hall h) cols runs = length runs ≡ columnPlaces
+-- the rows of turns in conflict are there, by which a shift's choice is made
+unfoldable pub RowsFor : RuleFor → List ℕ → List ℕ → Type 0
+RowsFor (Shift e) cols rows = RowsOf (turnsIn e cols) rows
+RowsFor (Hall h) cols rows = length rows ≡ rowWords

@@ -7,12 +7,14 @@ ghost use lib.ListN.{length, replicate};
 ghost use Rattle.turn.specs.Turn.{mostWorth};
 ghost use Rattle.model.specs.Choice.{chooseEach, chosen};
 ghost use Rattle.choice_map.specs.Choice.{choiceIn, Clean};
-ghost use Rattle.instance.specs.Columns.{columnPlaces, turnsBy};
+ghost use Rattle.instance.specs.Columns.{turnsBy};
 ghost use Rattle.selection.specs.Asked.{NumbersOf};
 ghost use Rattle.charge_spec.specs.Hall.{staysAllowed};
 ghost use Rattle.hall_look.specs.Look.{hallFor, HallPosed};
 ghost use Rattle.shift_look.specs.OrdersAndCounts.{orderPlaces};
-ghost use Rattle.price_rule.specs.Rules.{sizeOf, pricesOf, changeOf, ruleLimit, relaxedOf, fitsOf, choosingList, movedOf, RulePosed, OrderedFor, RunsFor};
+ghost use Rattle.conflict_sets.specs.Sets.{rowWords};
+ghost use Rattle.price_rule.specs.Rules.{sizeOf, pricesOf, changeOf, ruleLimit, relaxedOf, fitsOf, choosingList, movedOf, RulePosed, OrderedFor, RowsFor};
+use conflict_sets::ROW_WORDS;
 use hall_look::HallSize;
 use hall_steps::OneKind;
 use instance::PLACES;
@@ -36,20 +38,21 @@ pub fn size_of(r: RuleFor) -> Size
     }
 }
 
-// What does not depend on prices: the orders of a shift's turns, and into the room the runs of these orders, by which a
-// choice is made. For a hall there is nothing to put down.
+// What does not depend on prices: the orders of a shift's turns, and the rows of turns in conflict, by which a choice is
+// made. The room is scratch space. For a hall there is nothing to put down.
 pub fn put_orders(
     r: RuleFor,
     cols: &[u16; PLACES],
     orders: &mut [u16; ORDERS],
     room: &mut [u16; PLACES],
+    rows: &mut [u64; ROW_WORDS],
 )
-    requires { ⌜ RulePosed r (now cols) × (length (now orders) ≡ orderPlaces) × (length (now room) ≡ columnPlaces) ⌝ }
-    ensures { λ _. ⌜ OrderedFor r (now (cols .entry)) (now (orders .exit)) × RunsFor r (now (cols .entry)) (now (room .exit)) ⌝ }
+    requires { ⌜ RulePosed r (now cols) × (length (now orders) ≡ orderPlaces) × (length (now rows) ≡ rowWords) ⌝ }
+    ensures { λ _. ⌜ OrderedFor r (now (cols .entry)) (now (orders .exit)) × RowsFor r (now (cols .entry)) (now (rows .exit)) ⌝ }
 {
     if let RuleFor::Shift(e) = r {
         shift_look::put_orders(e, cols, &mut *orders, &mut *room);
-        selection_by_runs::put_runs(e.size, cols, &*orders, &mut *room);
+        conflict_sets::fill_rows(e.size, cols, &*orders, &mut *rows);
     }
 }
 
@@ -106,15 +109,15 @@ fn choose_in_hall(h: HallSize, cols: &[u16; PLACES], list: &[u16], map: &mut [u8
 }
 
 // Goes through a list from its last number to its first and chooses each turn or window that fits; a shift's
-// turns are tested by the runs of its orders. Returns what the choice is worth.
+// turns are tested by their rows. Returns what the choice is worth.
 pub fn choose_listed(
     r: RuleFor,
     cols: &[u16; PLACES],
-    runs: &[u16; PLACES],
+    rows: &[u64; ROW_WORDS],
     list: &[u16],
     map: &mut [u8],
 ) -> u32
-    requires { ⌜ RulePosed r (now cols) × RunsFor r (now cols) (now runs) × NumbersOf (sizeOf r .count) (now list) ⌝ }
+    requires { ⌜ RulePosed r (now cols) × RowsFor r (now cols) (now rows) × NumbersOf (sizeOf r .count) (now list) ⌝ }
     requires { ⌜ Clean (sizeOf r .count) (now map) × (choiceIn (sizeOf r .count) (now map) ≡ replicate (sizeOf r .count) false) ⌝ }
     ensures { λ _. ⌜ choiceIn (sizeOf r .count) (now (map .exit))
         ≡ chooseEach (fitsOf r (now (cols .entry))) (now (list .entry)) (replicate (sizeOf r .count) false) ⌝ }
@@ -122,7 +125,7 @@ pub fn choose_listed(
         × (x ≡ chosen (sizeOf r .count) (choiceIn (sizeOf r .count) (now (map .exit))) (turnsBy (sizeOf r) (now (cols .entry)) .worth)) ⌝ }
 {
     match r {
-        RuleFor::Shift(e) => selection_by_runs::choose_listed(e.size, cols, runs, list, &mut *map),
+        RuleFor::Shift(e) => conflict_sets::choose_listed(e.size, cols, rows, list, &mut *map),
         RuleFor::Hall(h) => choose_in_hall(h, cols, list, &mut *map),
     }
 }

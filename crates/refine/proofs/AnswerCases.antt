@@ -4,13 +4,10 @@ use mathlib.Core.Path.{_≡_, refl, sym, ap, _∙_}
 use mathlib.Core.Bool.{Bool}
 use mathlib.Core.List.{List, _++_}
 use native.Mathlib.Omega.{arith}
-use lib.Dec.{ltb}
 use lib.ListN.{length, take, drop, replicate}
 use lib.Seq.{length-take-le}
-use borrow.Author.Tests.{lt-ltb, le-ltb}
-use Rattle.lists.proofs.Bools.{or-1, or-2}
 use Rattle.refusal.specs.Number.{bufferTooSmall}
-use Rattle.refusal.proofs.Outcome.{tried-stops, tried-last, tried-found}
+use Rattle.refusal.proofs.Outcome.{unless-none, tried-stops, tried-last}
 use Rattle.wire.specs.Number.{bytesOf, puts}
 use Rattle.wire.proofs.Puts.{puts-length}
 use Rattle.model.specs.Turns.{Turns}
@@ -39,7 +36,8 @@ use Rattle.refine_spec.specs.declared.RefineAnswer.{RefineAnswer}
 use Rattle.refine_spec.specs.Rounds.{RoundRule, Stage, startFrom, refined, firstChange}
 use Rattle.refine_spec.specs.Selection.{choiceFrom}
 use Rattle.refine_spec.specs.Shift.{relaxedSet, movedPrices, shiftRule, greatestWorth, shiftStart, shiftRefined}
-use Rattle.refine_spec.specs.Refine.{refineCauses, boardWith, refinementOf, notRefined, refineOf}
+use Rattle.refine_spec.specs.Refine.{few-bytes, few-prices, refineCauses, boardWith, refinementOf, notRefined, refineOf}
+use Rattle.refine_spec.proofs.RefineCauses.{places-iff, clear-iff}
 use Rattle.refine_spec.proofs.Rounds.{chosen-worth}
 use Rattle.refine_spec.proofs.Relaxed.{relaxed-counted}
 use Rattle.lists.proofs.Places.{taken-length}
@@ -166,19 +164,12 @@ module _ (s cols : List ℕ) (rounds : ℕ) (board prices : List ℕ) {r : ReadA
   refine-fault f h = rw h (tried-stops (loaded-tried s cols g) _ (λ k. notRefined k board prices) _ f)
 
   module _ (f : r .refusal ≡ 0) where
-    -- the lent places one by one
-    abbrev few : Bool
-    few = ltb (length board) (boardLength (turnCount s) (turnCount s))
-
-    abbrev short : Bool
-    short = ltb (length prices) (priceCount s)
-
     prices-are : r .slopes + r .turns ≡ priceCount s
     prices-are = rw (g .posed f .slopes, g .posed f .count)
 
     pub refine-few : {x : RefineAnswer} → x ≡ refineRefused bufferTooSmall → length prices < r .slopes + r .turns → refinedBy x board prices ≡ refineOf s rounds board prices
     unfolding refineOf refineCauses
-    refine-few h l = rw h (tried-last (loaded-tried s cols g) _ (λ k. notRefined k board prices) f bufferTooSmall (omega arith) (or-2 few short (lt-ltb (length prices) (priceCount s) (omega (arith, prices-are)))))
+    refine-few h l = rw h (tried-last (loaded-tried s cols g) _ (λ k. notRefined k board prices) f bufferTooSmall (omega arith) (places-iff s (length board) (length prices) .1 (few-prices (omega (arith, prices-are)))))
 
     pub refine-posed : {p : Size} → p ≡ shiftSize (r .turns) → ShiftPosed (record { size = p; slopes = r .slopes }) cols
     refine-posed q =
@@ -196,16 +187,16 @@ module _ (s cols : List ℕ) (rounds : ℕ) (board prices : List ℕ) {r : ReadA
 
       pub refine-short : {x : RefineAnswer} → x ≡ refineRefused bufferTooSmall → length board < size → refinedBy x board prices ≡ refineOf s rounds board prices
       unfolding refineOf refineCauses
-      refine-short h l = rw h (tried-last (loaded-tried s cols g) _ (λ k. notRefined k board prices) f bufferTooSmall (omega arith) (or-1 few short (lt-ltb (length board) (boardLength (turnCount s) (turnCount s)) (omega (arith, size-is)))))
+      refine-short h l = rw h (tried-last (loaded-tried s cols g) _ (λ k. notRefined k board prices) f bufferTooSmall (omega arith) (places-iff s (length board) (length prices) .1 (few-bytes (omega (arith, size-is)))))
 
       pub refine-done : {p : Size} {x : RefineAnswer} {board′ prices′ : List ℕ} → p ≡ shiftSize (r .turns) → r .slopes + r .turns ≤ length prices → size ≤ length board
           → refinedBy x board′ prices′ ≡ refinementOf (turnsBy p cols) (shiftRounds (record { size = p; slopes = r .slopes }) cols rounds (choice (turnsBy p cols))) board prices → refinedBy x board′ prices′ ≡ refineOf s rounds board prices
-      unfolding refineOf refineCauses
+      unfolding refineOf
       refine-done {p} q l k z =
           let posed : turnsBy p cols ≡ sheetTurns s = loaded-turns s cols g f q in
           let numbers : (t : ℕ) → t < turnsBy p cols .count → (1 ≤ turnsBy p cols .groomer t) × (turnsBy p cols .groomer t ≤ countsIn s .groomers) =
           λ t h. rw posed (sheet-groomers s (g .posed f .sound) t (omega (arith, count-is p cols, loaded-count s cols g f q))) in
           z ∙ rw (refined-is (record { size = p; slopes = r .slopes }) cols (countsIn s .groomers) numbers rounds, posed, g .posed f .slopes)
-          (tried-found (loaded-tried s cols g) _ (λ k. notRefined k board prices) f bufferTooSmall (rw (le-ltb (length board) (boardLength (turnCount s) (turnCount s)) (omega (arith, size-is)), le-ltb (length prices) (priceCount s) (omega (arith, prices-are)))))
+          (sym (unless-none (refineCauses s (length board) (length prices)) _ (λ k. notRefined k board prices) (clear-iff s (length board) (length prices) .1 (g .posed f .sound, omega (arith, size-is), omega (arith, prices-are)))))
 
 pub ruleset answer-cases = (refine-fault, refine-short, refine-few, refine-posed, refine-list, plan-room, refine-done)

@@ -49,7 +49,7 @@ module _ (test : List Bool → ℕ → Bool) where
     abbrev After : ℕ → ℕ → Type 0
     After j u = (before u j ≡ true) × (before j u ≡ false)
 
-    -- each turn of a list is asked after all that stand behind it
+    -- each turn of a list is asked after all that stand after it
     data Falling : List ℕ → Type 0 where
       empty : Falling []
       first : {j : ℕ} {js : List ℕ} → j < n → All (After j) js → Falling js → Falling (j ∷ js)
@@ -96,7 +96,7 @@ module _ (test : List Bool → ℕ → Bool) where
               ∙ sym (ap (has (made js)) q ∙ absent)
           at u (no q) = ap (λ (b : Bool). b && before u j) (choose-other (made js) j u q) ∙ told u (has (made js) u) refl
 
-      -- for those behind it nothing changes
+      -- for those after it nothing changes
       as-before : (t : ℕ) → isAmong js t ≡ true → earlier (choose test (made js) j) t ≡ earlier (made js) t
       as-before t m = tab-same n _ _ (λ u k. at u (ℕ-discrete u j))
         where
@@ -195,7 +195,7 @@ among-keep p (u ∷ ts) t e m = go (p u) refl (among-cons t u ts m) (among-keep 
     go false f (inl q) ih = absurd (not-both (ap p (sym q) ∙ e) f)
     go false f (inr k) ih = ih k
 
--- ---- by worth: each turn stands before every one behind it, and none stands there twice
+-- ---- by worth: each turn stands before every one after it, and none stands there twice
 
 module _ (T : Turns) where
   data Ranked : List ℕ → Type 0 where

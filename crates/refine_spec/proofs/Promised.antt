@@ -83,7 +83,7 @@ module _ (s : List ℕ) (rounds : ℕ) (board prices : List ℕ) (e : refineOf s
   sound : firstOf (sheetCauses s) ≡ 0
   sound = refine-clear s rounds board prices e .0
 
-  -- ---- what stands at the front of what is lent, and behind
+  -- ---- what stands at the front of what is lent, and after
 
   front : refinedBoard s rounds board prices ≡ text
   unfolding refinementOf

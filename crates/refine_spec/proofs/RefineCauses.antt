@@ -49,20 +49,20 @@ clear-both cs a x b y n =
 
 module _ (s : List ℕ) (bytes numbers : ℕ) where
   -- too few lent bytes, or too few lent numbers
-  abbrev tooFew : Bool
+  abbrev pub tooFew : Bool
   tooFew = ltb bytes (boardLength (turnCount s) (turnCount s)) || ltb numbers (priceCount s)
 
   either : PlacesFail s bytes numbers → (bytes < boardLength (turnCount s) (turnCount s)) ⊎ (numbers < priceCount s)
   either (few-bytes h) = inl h
   either (few-prices h) = inr h
 
-  places-iff : (tooFew ≡ true) ↔ PlacesFail s bytes numbers
+  pub places-iff : (tooFew ≡ true) ↔ PlacesFail s bytes numbers
   places-iff =
       let w = few-iff bytes (boardLength (turnCount s) (turnCount s)) numbers (priceCount s) in
       (λ e. ⊎-elim few-bytes few-prices (w .0 e), λ f. w .1 (either f))
 
   -- no cause is there just if the sheet is not refused, and there are lent bytes and lent numbers enough
-  clear-iff : (firstOf (refineCauses s bytes numbers) ≡ 0) ↔ ((firstOf (sheetCauses s) ≡ 0) × (boardLength (turnCount s) (turnCount s) ≤ bytes) × (priceCount s ≤ numbers))
+  pub clear-iff : (firstOf (refineCauses s bytes numbers) ≡ 0) ↔ ((firstOf (sheetCauses s) ≡ 0) × (boardLength (turnCount s) (turnCount s) ≤ bytes) × (priceCount s ≤ numbers))
   unfolding refineCauses
   clear-iff = clear-both (sheetCauses s) bytes (boardLength (turnCount s) (turnCount s)) numbers (priceCount s) (sheet-numbered s)
 

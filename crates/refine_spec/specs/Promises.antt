@@ -72,6 +72,6 @@ pub record RefinePromised (s : List ℕ) (rounds : ℕ) (board prices : List ℕ
       refineOf s k board′ prices′ .limit ≢ refineOf s k board′ prices′ .worth
   -- where a turn names no driver, its price is 0
   pub driverless : (u : ℕ) → u < sheetTurns s .count → sheetTurns s .driver u ≡ 0 → turnPrice (countsIn s .slopes) (refinedPrices s rounds board prices) u ≡ 0
-  -- what is lent behind the board and behind the list is as before
+  -- what is lent after the board and after the list is as before
   pub board-rest : drop (refineOf s rounds board prices .bytes) (refineOf s rounds board prices .board) ≡ drop (refineOf s rounds board prices .bytes) board
   pub prices-rest : drop (priceCount s) (refineOf s rounds board prices .prices) ≡ drop (priceCount s) prices

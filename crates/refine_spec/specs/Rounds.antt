@@ -81,12 +81,12 @@ unfoldable pub refined : RoundRule → ℕ → Stage → Stage
 refined R zero x = looked R x
 refined R (suc n) x = let y = looked R x in cond (eqb (y .limit) (y .worth)) y (refined R n (moving R y))
 
--- the change of the round after look k, by the first round's; the first look is number 0
+-- the change of the round after look k, where that of the first round is given; the first look is number 0
 unfoldable pub changeAt : ℕ → ℕ → ℕ
 changeAt first zero = first
 changeAt first (suc k) = nextChange (changeAt first k)
 
--- the prices that look k sees, by the first look's: those of the look before it, moved
+-- the prices at look k, where those of look 0 are given: those of the look before it, moved
 unfoldable pub pricesAt : RoundRule → ℕ → List ℕ → ℕ → List ℕ
 pricesAt R change prices zero = prices
 pricesAt R change prices (suc k) = R .moved (changeAt change k) (pricesAt R change prices k)

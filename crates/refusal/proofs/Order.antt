@@ -54,7 +54,7 @@ first-append a b cs p q e = go (ℕ-discrete (firstOf b) 0)
     go (yes z) = first-goes a cs p (e ∙ z) ∙ sym (first-goes b cs q z)
     go (no n) = first-stops a cs (firstOf b) e n ∙ sym (first-stops b cs (firstOf b) refl n)
 
--- ---- nothing given: of a cause and those behind it, of one list and another
+-- ---- nothing given: of a cause and those after it, of one list and another
 
 pub clear-cons : (c : Cause) (cs : List Cause) → (c .number ≡ 0 → ⊥) → firstOf (c ∷ cs) ≡ 0 → (c .there ≡ false) × (firstOf cs ≡ 0)
 unfolding firstOf

@@ -1,4 +1,4 @@
--- Words that tell what a list of causes gives, and such words one behind another. Assumes nothing.
+-- Words that tell what a list of causes gives, and such words one after another. Assumes nothing.
 use Prim.Native.Nat.{ℕ, _+_, _<_, _≤_}
 use mathlib.Core.Path.{_≡_, refl, sym, _∙_}
 use mathlib.Core.Bool.{Bool, true}
@@ -61,7 +61,7 @@ module _ (n : ℕ) (P : Type 0) (test : Bool) (iff : (test ≡ true) ↔ P) wher
 pub only-within : (n : ℕ) (P : Type 0) → Within (Only n P) 1
 only-within n P k r (only p) = omega arith
 
--- ---- one kind behind another: what tells of the second list may rest on nothing in the first
+-- ---- one kind after another: what tells of the second list may rest on nothing in the first
 
 module _ {A : ℕ → ℕ → Type 0} (n : ℕ) {B : ℕ → ℕ → Type 0} (inside : Within A n) where
   pub then-within : (m : ℕ) → Within B m → Within (Then A n B) (n + m)

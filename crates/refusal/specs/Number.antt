@@ -37,7 +37,7 @@ badTime = 8
 abbrev pub badWorth : ℕ
 badWorth = 9
 
--- bytes behind the last record (tail)
+-- bytes after the last record (tail)
 abbrev pub trailingBytes : ℕ
 trailingBytes = 10
 

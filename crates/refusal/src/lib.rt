@@ -1,5 +1,5 @@
-// The numbers of refusals, in document order; 0 is none. The trade's word for
-// each stands behind it.
+// The numbers of refusals, in document order; 0 is none. After each of 1 to
+// 18 stands the trade's word.
 ghost use mathlib.Core.Path.{_≡_};
 ghost use Rattle.refusal.specs.Written.{writeRefused};
 
@@ -21,7 +21,7 @@ pub const BAD_TIME: u8 = 8; // clock: length 0, or an end after minute 960
 
 pub const BAD_WORTH: u8 = 9; // worthless: the worth is not in 1 to 60,000
 
-pub const TRAILING_BYTES: u8 = 10; // tail: the sheet goes on behind its last record
+pub const TRAILING_BYTES: u8 = 10; // tail: the sheet goes on after its last record
 
 pub const BUFFER_TOO_SMALL: u8 = 11; // narrow: the lent buffer is too short
 

@@ -5,6 +5,6 @@ use Prim.Native.Nat.{ℕ}
 use Rattle.model.specs.Choice.{has}
 use Rattle.lists.specs.Lists.{keep}
 
--- all turns of a list, and behind them those of a set
+-- all turns of a list, and after them those of a set
 unfoldable pub withChosen : List Bool → List ℕ → List ℕ
 withChosen S ts = ts ++ keep (has S) ts

@@ -49,7 +49,7 @@ records-read {K} {limits} (more {t = t} {m = m} {bytes = bytes} {ts = ts} map ke
     let rest = records-read r numbers few low s (cursorAfter s c) refl (one .turn-is) (one .behind) in
     (first-goes (recordCauses K s limits c) _ (record-numbered K numbers s limits c) (one .record-fine) ∙ rest .0, ap₂ _∷_ (one .turn-is) (rest .1))
 
--- a header and any bytes behind it: what it was made of is what is read
+-- a header and any bytes after it: what it was made of is what is read
 pub record HeaderReads (mark : List ℕ) (counts : Counts) (n : ℕ) (body : List ℕ) : Type 0 where
   pub whole : headerBytes ≤ length (headerFor mark counts n ++ body)
   pub mark-is : opensWith mark (headerFor mark counts n ++ body) ≡ true

@@ -27,7 +27,7 @@ module _ (K : Kind) (turns number : ℕ) where
     unfolding headerCauses countCauses firstOf withTurns
     header-alike rest = rw (le-ltb (K .most .turns) (turnCount s) within, le-ltb turns (turnCount s) also)
 
-    -- so the first cause is the same, whatever comes behind the sheet's
+    -- so the first cause is the same, whatever comes after the sheet's
     first-alike : (rest : List Cause) → firstOf (causesFor (withTurns K turns number) s ++ rest) ≡ firstOf (causesFor K s ++ rest)
     unfolding causesFor
     first-alike rest =

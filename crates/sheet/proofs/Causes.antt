@@ -54,7 +54,7 @@ module _ (K : Kind) (mark : ThreeBytes (K .mark)) (s : List ℕ) where
     record-cause k (suc (suc (suc (suc (suc (suc (suc zero))))))) e n = rw n (driver i h (ltb-true mostDriver (turnOf s i .driver) e))
     record-cause k (suc (suc (suc (suc (suc (suc (suc (suc r)))))))) e n = absurd (true≢false (sym e))
 
-  -- what stands behind the last record
+  -- what stands after the last record
   end-cause : (k r : ℕ) → causeAt (recordsCauses K 0 s (countsIn s) (cursorOf s (turnCount s))) r .there ≡ true → k ≡ causeAt (recordsCauses K 0 s (countsIn s) (cursorOf s (turnCount s))) r .number
       → CauseFor K s k (placeOf (turnCount s) r)
   unfolding recordsCauses

@@ -26,7 +26,7 @@ use Rattle.sheet.specs.Accepted.{GoodMap, Carried}
 use Rattle.sheet.proofs.Maps.{good-map-iff}
 use Rattle.sheet.proofs.Records.{field-carried}
 
--- behind what stands at a place
+-- after what stands at a place
 pub drop-front : (vs s : List ℕ) (at : ℕ) (rest : List ℕ) → drop at s ≡ vs ++ rest → drop (at + length vs) s ≡ rest
 drop-front vs s at rest e = sym (drop-drop (length vs) at s) ∙ ap (drop (length vs)) e ∙ drop-append-seam vs rest
 
@@ -44,7 +44,7 @@ field-is zero width v old s at rest h b k e = k refl
 field-is (suc zero) width v old s at rest h b k e = value-front width v s at rest b e
 field-is (suc (suc bit)) width v old s at rest h b k e = absurd (omega arith)
 
--- and the rest stands behind it
+-- and the rest stands after it
 pub field-read : (bit width v old size : ℕ) (s : List ℕ) (at : ℕ) (rest : List ℕ) → bit < 2 → size ≡ width * bit → v < 256 ^ width → (bit ≡ 0 → old ≡ v) → drop at s ≡ fieldBytes bit width v ++ rest
     → (field width s at bit old ≡ v) × (drop (at + size) s ≡ rest)
 field-read bit width v old size s at rest h z b k e = (field-is bit width v old s at rest h b k e, rw (z, ← field-length bit width v h) (drop-front (fieldBytes bit width v) s at rest e))
@@ -81,7 +81,7 @@ record-append m t rest =
     (λ (l : List ℕ). m ∷ l)
     (six (fieldBytes (m % 2) 1 (t .slope)) (fieldBytes (m / 2 % 2) 1 (t .groomer)) (fieldBytes (m / 4 % 2) 2 (t .start)) (fieldBytes (m / 8 % 2) 2 (t .length)) (fieldBytes (m / 16 % 2) 2 (t .worth)) (fieldBytes (m / 32 % 2) 1 (t .driver)) rest)
 
--- the record of a turn stands at a cursor: nothing is wrong with it, the turn is what is read, and the cursor behind it stands at the rest
+-- the record of a turn stands at a cursor: nothing is wrong with it, the turn is what is read, and the cursor after it stands at the rest
 pub record RecordRead (K : Kind) (s : List ℕ) (limits : Counts) (c : Cursor) (t : Turn) (rest : List ℕ) : Type 0 where
   pub record-fine : firstOf (recordCauses K s limits c) ≡ 0
   pub turn-is : turnAt s c ≡ t
@@ -133,7 +133,7 @@ field-stands zero width old size b at h z l = let e : at + size ≡ at = omega (
 field-stands (suc zero) width old size b at h z l = let e : size ≡ width = omega (arith, mul-one width) in rw e (bytes-rest b at width (omega arith))
 field-stands (suc (suc bit)) width old size b at h z l = absurd (omega arith)
 
--- nothing is wrong with the record at a cursor: it is the record of the turn that is read, and the rest stands behind it
+-- nothing is wrong with the record at a cursor: it is the record of the turn that is read, and the rest stands after it
 pub record RecordStands (K : Kind) (s : List ℕ) (limits : Counts) (c : Cursor) : Type 0 where
   pub map : GoodMap (K .maps) (c .first) (mapAt s c)
   pub kept : Carried (mapAt s c) (c .prev) (turnAt s c)

@@ -91,7 +91,7 @@ module _ (K : Kind) (k : ℕ) (s t : List ℕ) (same : (i : ℕ) → i < k → g
           read-alike,
         )
 
-  -- behind the last record both have bytes left
+  -- after the last record both have bytes left
   records-alike : (n : ℕ) (limits : Counts) (c : Cursor) → c .at + recordBytes * n < k → recordsCauses K n t limits c ≡ recordsCauses K n s limits c
   unfolding recordsCauses cursorAfter
   records-alike zero limits c h = rw (lt-ltb (c .at) (length t) (omega arith), lt-ltb (c .at) (length s) (omega arith))

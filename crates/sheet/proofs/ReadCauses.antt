@@ -33,12 +33,12 @@ unfolding recordsCauses recordCauses turnCauses
 records-places K zero s limits c = refl
 records-places K (suc n) s limits c = omega (arith, records-places K n s limits (cursorAfter s c))
 
--- the place behind the sheet's causes
+-- the place after the sheet's causes
 pub sheet-places : (K : Kind) (s : List ℕ) → length (causesFor K s) ≡ placeOf (turnCount s) 1
 unfolding causesFor headerCauses countCauses
 sheet-places K s = omega (arith, records-places K (turnCount s) s (countsIn s) firstCursor)
 
--- ---- a sheet of any kind: its causes in words, and behind them those of a lent buffer, once for every need
+-- ---- a sheet of any kind: its causes in words, and after them those of a lent buffer, once for every need
 
 module _ (K : Kind) (sound : Sound K) (s : List ℕ) where
   pub causes-tell-for : Tells (CauseFor K s) (causesFor K s)

@@ -35,7 +35,7 @@ pub record Carried (m : ℕ) (p t : Turn) : Type 0 where
   pub worth : m / 16 % 2 ≡ 0 → p .worth ≡ t .worth
   pub driver : m / 32 % 2 ≡ 0 → p .driver ≡ t .driver
 
--- bytes that are records of these turns, one after another: a good map, just its fields, values in range, and nothing behind the last
+-- bytes that are records of these turns, one after another: a good map, exactly its fields, values in range, and nothing after the last
 pub data Records (K : Kind) (limits : Counts) : Bool → Turn → List ℕ → List Turn → Type 0 where
   none : {first : Bool} {p : Turn} → Records K limits first p [] []
   more : {first : Bool} {p t : Turn} {m : ℕ} {bytes : List ℕ} {ts : List Turn}
@@ -115,7 +115,7 @@ pub data CauseFor (K : Kind) (s : List ℕ) : ℕ → ℕ → Type 0 where
   driver : (i : ℕ) → i < turnCount s → mostDriver < turnOf s i .driver → CauseFor K s badDriver (placeOf i 7)
   bytes-behind : cursorOf s (turnCount s) .at < length s → CauseFor K s trailingBytes (placeOf (turnCount s) 0)
 
--- one of the sheet's, and behind them all one more
+-- one of the sheet's, and after them all one more
 abbrev pub MoreCauseFor : Kind → List ℕ → ℕ → Type 0 → ℕ → ℕ → Type 0
 MoreCauseFor K s n P = Then (CauseFor K s) (placeOf (turnCount s) 1) (Only n P)
 

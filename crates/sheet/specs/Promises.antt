@@ -17,7 +17,7 @@ pub record ReadInto (K : Kind) (s lent : List ℕ) (a : AcceptedFor K s) (out : 
   pub answer : out .answer ≡ record { refusal = 0; groomers = a .counts .groomers; slopes = a .counts .slopes; turns = length (a .turns) }
   -- the table begins with the rows of its turns, in their order
   pub front : take (rowNumbers * length (a .turns)) (out .lent) ≡ rows (a .turns)
-  -- behind them it is as it was
+  -- after them it is as it was
   pub behind : drop (rowNumbers * length (a .turns)) (out .lent) ≡ drop (rowNumbers * length (a .turns)) lent
 
 -- of reading s, as a sheet of a kind, into a lent table

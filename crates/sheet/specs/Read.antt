@@ -60,7 +60,7 @@ headerOf K s = headerAnswer (headerCauses K s) s
 unfoldable pub countsHeader : Kind → List ℕ → Header
 countsHeader K s = headerAnswer (countCauses K (countsIn s) (turnCount s)) s
 
--- what may be wrong with the next k records, one after another, and then behind the last
+-- what may be wrong with the next k records, one after another, and then after the last
 unfoldable pub recordsCauses : Kind → ℕ → List ℕ → Counts → Cursor → List Cause
 recordsCauses K zero s limits c = trailingBytes when ltb (c .at) (length s) ∷ []
 recordsCauses K (suc k) s limits c = recordCauses K s limits c ++ recordsCauses K k s limits (cursorAfter s c)

@@ -57,7 +57,7 @@ endAt s c = c .at + 1 + widthOf (mapAt s c)
 unfoldable pub turnAt : List ℕ → Cursor → Turn
 turnAt s c = turnFrom s (c .at + 1) (mapAt s c) (c .prev)
 
--- the cursor behind it
+-- the cursor after it
 unfoldable pub cursorAfter : List ℕ → Cursor → Cursor
 cursorAfter s c = record { at = endAt s c; first = false; prev = turnAt s c }
 
@@ -69,7 +69,7 @@ recordCauses K s limits c =
     ∷ truncated when ltb (length s) (endAt s c)
     ∷ turnCauses (K .refusals) limits (turnAt s c)
 
--- the reader's next answer, by its case: the turn and the cursor behind it, or the number of the first cause
+-- the reader's next answer, by its case: the turn and the cursor after it, or the number of the first cause
 unfoldable pub nextOf : Kind → List ℕ → Counts → Cursor → Next
 nextOf K s limits c = unless (recordCauses K s limits c) (Read (turnAt s c) (cursorAfter s c)) Refused
 

@@ -39,6 +39,6 @@ pub record ReadAlike (p q : Reading) (a b : List ℕ) : Type 0 where
   pub one-answer : p .answer ≡ q .answer
   -- the same numbers in front, a row for each turn of the answer
   pub same-rows : take (rowNumbers * p .answer .turns) (p .lent) ≡ take (rowNumbers * q .answer .turns) (q .lent)
-  -- behind them either table is as it was
+  -- after them either table is as it was
   pub first-behind : drop (rowNumbers * p .answer .turns) (p .lent) ≡ drop (rowNumbers * p .answer .turns) a
   pub second-behind : drop (rowNumbers * q .answer .turns) (q .lent) ≡ drop (rowNumbers * q .answer .turns) b

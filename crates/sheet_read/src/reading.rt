@@ -42,7 +42,7 @@ pub fn first_cursor() -> Cursor
     }
 }
 
-// A turn's row from a place on; the place behind it.
+// A turn's row from a place on; the place after it.
 pub fn put_turn(table: &mut [u16], at: usize, t: Turn) -> usize
     requires { ⌜ at + rowNumbers ≤ length (now table) ⌝ }
     ensures { λ r. ⌜ (r ≡ at + rowNumbers) × (now (table .exit) ≡ puts (now (table .entry)) at (rowOf t)) ⌝ }

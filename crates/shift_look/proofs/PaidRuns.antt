@@ -59,7 +59,7 @@ module _ (D : Turns) where
   pub order-apart : (i j : ℕ) → i < j → j < D .count → getD (turnOrder D) i 0 ≢ getD (turnOrder D) j 0
   order-apart i j l h = ordered-apart (order-ordered D) i j l (omega (arith, order-length D))
 
-  -- ---- what stands before and behind
+  -- ---- what stands before and after
 
   -- the turn at place i
   abbrev at : ℕ → ℕ

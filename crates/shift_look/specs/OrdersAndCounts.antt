@@ -39,7 +39,7 @@ orderPlaces = 5 * mostTurns
 abbrev pub groomersTurn : List ℕ → ℕ → ℕ
 groomersTurn orders i = getD orders i 0
 
--- where the set of the turn at place i can go on: the first place behind it that is not in its way
+-- where the set of the turn at place i can go on: the first place after it that is not in its way
 abbrev pub groomersNext : List ℕ → ℕ → ℕ
 groomersNext orders i = getD orders (mostTurns + i) 0
 
@@ -51,7 +51,7 @@ driversTurn orders j = getD orders (2 * mostTurns + j) 0
 abbrev pub paidFrom : List ℕ → ℕ → ℕ
 paidFrom orders t = getD orders (3 * mostTurns + t) 0
 
--- the place behind the last of them
+-- the place after the last of them
 abbrev pub paidTo : List ℕ → ℕ → ℕ
 paidTo orders t = getD orders (4 * mostTurns + t) 0
 

@@ -17,13 +17,13 @@ use instance::PLACES;
 use instance::Row;
 use instance::Size;
 
-// Behind the groomers' order and where its sets go on: the turns in the drivers' order.
+// After the groomers' order and where its sets go on: the turns in the drivers' order.
 pub const DRIVERS: usize = 2 * MOST_TURNS;
 
 // For each turn, the first place of its run in that order.
 pub const FROMS: usize = 3 * MOST_TURNS;
 
-// For each turn, the place behind the last of its run.
+// For each turn, the place after the last of its run.
 pub const TOS: usize = 4 * MOST_TURNS;
 
 // Places of the drivers' order, from one to before another.
@@ -54,7 +54,7 @@ fn run_start(p: Size, cols: &[u16; PLACES], order: &[u16], i: usize, from: usize
     i
 }
 
-// What the turn at place i pays for: all that end with it, and all behind that are in its way; nothing if it
+// What the turn at place i pays for: all that end with it, and all after that are in its way; nothing if it
 // names no driver.
 fn run_of(p: Size, cols: &[u16; PLACES], order: &[u16], i: usize, from: usize) -> Run
     requires { ⌜ (i < p .count) × Held p (now cols) × InTurnOrder (turnsBy p (now cols)) (now order) × RunStart (turnsBy p (now cols)) i from ⌝ }

@@ -38,7 +38,7 @@ payersPresent joining leaving m = sumBefore joining m - sumBefore leaving m
 abbrev pub nobody : ℕ → ℕ
 nobody u = 0
 
--- the payers at a place of a table, and those at the place behind it
+-- the payers at a place of a table, and those at the place after it
 abbrev pub payersAt : List ℕ → ℕ → ℕ
 payersAt payers j = getD payers j 0
 
@@ -57,7 +57,7 @@ turnPayersIn orders taken j = payersBefore taken orders (j + 1)
 abbrev pub ownPlace : ℕ → ℕ
 ownPlace k = k
 
--- where the price of turn u stands, behind those of so many slopes
+-- where the price of turn u stands, after those of so many slopes
 abbrev pub placeBehind : ℕ → ℕ → ℕ
 placeBehind slopes u = slopes + u
 

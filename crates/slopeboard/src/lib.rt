@@ -1,4 +1,4 @@
-// The C ABI: each exported function has the contract of the entry behind it; the steps, which cannot
+// The C ABI: each exported function has the contract of the entry after it; the steps, which cannot
 // leave as a part of a slice, have their place and length.
 ghost use mathlib.Core.Path.{_≡_};
 ghost use lib.ListN.{take, drop};

@@ -8,7 +8,7 @@ use libc::STDIN_FILENO;
 use libc::STDOUT_FILENO;
 use list::LISTING_BYTES;
 
-// One byte more than the longest sheet has: what is behind it changes no answer.
+// One byte more than the longest sheet has: what is after it changes no answer.
 const INPUT_BYTES: usize = 4008;
 
 // Puts what is to be printed for a sheet to the front of the text; returns its bytes.

@@ -1,4 +1,4 @@
-// Text into lent bytes, one piece behind another. Each function returns the place behind what it
+// Text into lent bytes, one piece after another. Each function returns the place after what it
 // put; a byte for which there is no place is counted, not written.
 ghost use mathlib.Core.Path.{_≡_};
 ghost use mathlib.Core.List.{[], _∷_};

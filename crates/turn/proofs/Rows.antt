@@ -32,7 +32,7 @@ pub turns-end : (n i : ℕ) (table : List ℕ) → n ≤ i → turnsOfTable (n -
 unfolding turnsOfTable
 turns-end n i table h = let k : n - i ≡ 0 = omega arith in rw k
 
--- a row and more from a place on: the turn at that place, and the rest behind its row
+-- a row and more from a place on: the turn at that place, and the rest after its row
 row-turn : (t : Turn) (rest table : List ℕ) (i : ℕ) → drop (i * rowNumbers) table ≡ rowOf t ++ rest → turnIn table i ≡ t
 row-turn t rest table i e =
     let at : (k : ℕ) → getD table (i * rowNumbers + k) 0 ≡ getD (rowOf t ++ rest) k 0 = λ k. sym (getD-drop (i * rowNumbers) table k 0) ∙ ap (λ (l : List ℕ). getD l k 0) e in

@@ -25,7 +25,7 @@ pub puts-length : (vs l : List ℕ) (i : ℕ) → length (puts l i vs) ≡ lengt
 puts-length [] l i = refl
 puts-length (a ∷ vs) l i = puts-length vs (set l i a) (i + 1) ∙ length-set l i a
 
--- values put behind what was put
+-- values put after what was put
 pub puts-append : (vs ws l : List ℕ) (i j : ℕ) → j ≡ i + length vs → puts (puts l i vs) j ws ≡ puts l i (vs ++ ws)
 puts-append [] ws l i j e = let k : j ≡ i = omega arith in rw k
 puts-append (a ∷ vs) ws l i j e = puts-append vs ws (set l i a) (i + 1) j (omega arith)

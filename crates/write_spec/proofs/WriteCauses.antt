@@ -75,7 +75,7 @@ module _ (counts : Counts) (table : List ℕ) where
       right : (q : ℕ) × (r ≡ 4 + q) × There (turnsCauses (shiftSheet .refusals) counts (tableTurns table)) k q → TableCause counts table k r
       right x = let e : r ≡ rowPlace 0 (x .0) = omega (arith, x .1) in rw e (rows-cause (tableRows table) 0 (omega arith) k (x .0) (x .2))
 
-  -- the place behind the table's causes
+  -- the place after the table's causes
   rows-places : (n i : ℕ) → length (turnsCauses (shiftSheet .refusals) counts (turnsOfTable n table i)) ≡ 5 * n
   unfolding turnsCauses turnsOfTable turnCauses
   rows-places zero i = refl

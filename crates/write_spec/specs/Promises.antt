@@ -49,14 +49,14 @@ pub record WritePromised (counts : Counts) (table out : List ℕ) : Type 0 where
   pub shortest : {s : List ℕ} {ts : List Turn} → SheetFor shiftSheet s counts ts → InWrittenOrder (tableTurns table) ts → length (bytesWritten counts table out) ≤ length s
   -- and one of the same length is these very bytes
   pub only : {s : List ℕ} {ts : List Turn} → SheetFor shiftSheet s counts ts → InWrittenOrder (tableTurns table) ts → length s ≡ length (bytesWritten counts table out) → s ≡ bytesWritten counts table out
-  -- the counts and the table that are read of them, written again into any lent bytes that are no fewer, give the same bytes, and behind them what was there
+  -- the counts and the table that are read of them, written again into any lent bytes that are no fewer, give the same bytes, and after them what was there
   pub again : (lent other : List ℕ) → length table ≤ length lent → length (bytesWritten counts table out) ≤ length other
       → writeOf (countsBack counts table out lent) (tableBack counts table out lent) other ≡ wrote (bytesWritten counts table out) other
   -- a table that has the same turns, each as often, gives the same answer and bytes
   pub one-sheet : (other : List ℕ) → SameTurns (tableTurns table) (tableTurns other) → length other % rowNumbers ≡ 0 → writeOf counts other out ≡ writeOf counts table out
-  -- byte 7, the first map, is 3F just if the turn that stands first in the written order has a driver other than 0
+  -- byte 7, the first map, is 3F exactly if the turn that stands first in the written order has a driver other than 0
   pub first-map : (t : Turn) (ts : List Turn) → InWrittenOrder (tableTurns table) (t ∷ ts) → (getD (bytesWritten counts table out) 7 0 ≡ 0x3F) ↔ (t .driver ≢ 0)
   -- and 1F otherwise
   pub first-map-else : (t : Turn) (ts : List Turn) → InWrittenOrder (tableTurns table) (t ∷ ts) → t .driver ≡ 0 → getD (bytesWritten counts table out) 7 0 ≡ 0x1F
-  -- behind the bytes the lent bytes are as they were
+  -- after the bytes the lent bytes are as they were
   pub behind : drop (writeOf counts table out .answer .bytes) (writeOf counts table out .lent) ≡ drop (writeOf counts table out .answer .bytes) out

@@ -28,7 +28,7 @@ pub data TableCause (counts : Counts) (table : List ℕ) : ℕ → ℕ → Type 
   worth : (i : ℕ) → i < tableRows table → Outside (turnIn table i .worth) mostWorth → TableCause counts table badWorth (rowPlace i 3)
   driver : (i : ℕ) → i < tableRows table → mostDriver < turnIn table i .driver → TableCause counts table badDriver (rowPlace i 4)
 
--- and behind them all that so many lent bytes are too few for the sheet
+-- and after them all that so many lent bytes are too few for the sheet
 abbrev pub WriteCause : Counts → List ℕ → ℕ → ℕ → ℕ → Type 0
 WriteCause counts table = ThenRoom (TableCause counts table) (rowPlace (tableRows table) 0) (length (sheetOf counts (writtenTurns table)))
 

@@ -1,4 +1,4 @@
--- put_columns: writes all columns of a table's turns, one behind another, from a place on; returns the place behind them.
+-- put_columns: writes all columns of a table's turns, one after another, from a place on; returns the place after them.
 use Rattle.turn.proofs.Rows.{table-turns-length}
 use Rattle.archive_spec.proofs.Across.{columns-put}
 use Rattle.archive_spec.proofs.Across.{widths-sum}

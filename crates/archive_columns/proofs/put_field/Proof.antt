@@ -1,4 +1,4 @@
--- put_field: writes a field's value at a place if the map names it; returns the place behind it.
+-- put_field: writes a field's value at a place if the map names it; returns the place after it.
 use Rattle.archive_spec.proofs.ColumnCases.{field-in-cases}
 use borrow.Author.Needs.{needs}
 use Rattle.archive_columns.proofs.put_field.Statement.{statement}

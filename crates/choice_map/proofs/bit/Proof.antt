@@ -1,4 +1,4 @@
--- bit meets its contract.
+-- bit: whether bit k of a byte stands.
 use Rattle.choice_map.specs.Choice.{bitOf}
 use mathlib.Core.Path.{refl}
 use borrow.Author.Needs.{needs}

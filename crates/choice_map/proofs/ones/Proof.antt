@@ -1,4 +1,4 @@
--- ones meets its contract.
+-- ones: how many bits of a byte stand.
 use Rattle.choice_map.proofs.Bytes.{ones-byte, ones-most}
 use Rattle.choice_map.proofs.ones.Statement.{statement}
 use Rattle.choice_map.proofs.ones.Tie as tie

@@ -1,4 +1,4 @@
--- with_bit meets its contract.
+-- with_bit: a byte with bit k set.
 use Rattle.choice_map.proofs.Bytes.{with-bit-byte}
 use borrow.Author.Needs.{needs}
 use Rattle.choice_map.proofs.with_bit.Statement.{statement}

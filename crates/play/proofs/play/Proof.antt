@@ -88,7 +88,7 @@ use Rattle.play.proofs.play.Code.Mir as pieces
 abbrev stayed : Stays (f.ended .signature .params) (f.ended .kept)
 stayed = (stay-none-slice (0 ∷ []) tt (plain (λ _. u8)) yes, (stay-none-slice (0 ∷ []) tt (plain (λ _. u8)) yes, (stay-none-slice (0 ∷ []) tt (plain (λ _. u16)) yes, (stay-slice (1 ∷ []) tt (plain (λ _. T.the-row)), tt))))
 
--- the locals' types: what lies behind a reference is named; what is held by value is spelled out by the function's own table of declared types
+-- the locals' types: what lies after a reference is named; what is held by value is spelled out by the function's own table of declared types
 abbrev list-ty : Ty
 list-ty = sliceTy (tyRef (named 1) mut (pointee (T.the-row .written)))
 

@@ -12,19 +12,19 @@ use Rattle.price_rounds.proofs.make_rounds.Statement.{statement}
 use Rattle.price_rounds.proofs.make_rounds.Tie as tie
 
 abbrev Inv-loop : tie.InvT-loop
-Inv-loop t cols lowest₀ best₀ room₀ rule orders ranks prices₀ change₀ limit₀ worth₀ made₀ lowest best room prices change limit worth made =
-    RoundsUnderway t cols lowest₀ best₀ orders ranks lowest best room prices change limit worth made
+Inv-loop t cols lowest₀ best₀ room rule orders rows ranks prices₀ change₀ limit₀ worth₀ made₀ lowest best prices change limit worth made =
+    RoundsUnderway t cols lowest₀ best₀ orders rows ranks lowest best prices change limit worth made
 
 abbrev μ-loop : tie.MeasureT-loop
-μ-loop t cols lowest₀ best₀ room₀ rule orders ranks prices₀ change₀ limit₀ worth₀ made₀ lowest best room prices change limit worth made = t .rounds - made
+μ-loop t cols lowest₀ best₀ room rule orders rows ranks prices₀ change₀ limit₀ worth₀ made₀ lowest best prices change limit worth made = t .rounds - made
 
 slice-aggregate-prices : tie.Need-slice-aggregate-prices Inv-loop μ-loop
-slice-aggregate-prices c = start-size _ _ _ _ _ (c .before .before .before .before .before .before .before .before .before .before .before .before .pre)
+slice-aggregate-prices c = start-size _ _ _ _ _ (c .before .before .before .before .before .before .before .before .before .before .before .before .before .pre)
 
 loop-holds : tie.Need-loop-holds Inv-loop μ-loop
 loop-holds c =
     let ordered = c .before .before .before .before .before .before .before in
-    let start = ordered .before .before .before .before .before .before in
+    let start = ordered .before .before .before .before .before .before .before in
     record {
       posed = start .pre .posed;
       ordered = ordered .put-orders .ensures .0;
@@ -32,7 +32,7 @@ loop-holds c =
       stage = search start-cases;
       list-size = search needs;
       map-size = search needs;
-      runs = ordered .put-orders .ensures .1;
+      rows-are = ordered .put-orders .ensures .1;
     }
 
 array-borrow-prefix-map : tie.Need-array-borrow-prefix-map Inv-loop μ-loop
@@ -77,7 +77,7 @@ keep-better-requires : tie.Need-keep-better-requires Inv-loop μ-loop
 keep-better-requires c κs =
     let listed = c .before .before .before .before in
     let i = listed .before .before .before .before .before .before .before .before .before .before .before .before .before .before .before .before .loop .inv in
-    ((i .posed, listed-numbers _ _ _ _ (i .ranked) (listed .put-list .ensures .0), i .runs), i .stage .clean)
+    ((i .posed, listed-numbers _ _ _ _ (i .ranked) (listed .put-list .ensures .0), i .rows-are), i .stage .clean)
 
 returns : tie.Need-returns Inv-loop μ-loop
 returns c =
@@ -88,7 +88,7 @@ returns c =
     let seen = lower .before .before .before .before .before in
     let i = seen .before .before .before .before .before .loop .inv in
     let made = better-made _ _ _ _ (i .ranked) (listed .put-list .ensures .0) (better .keep-better .ensures .0) in
-    round-stops _ _ _ _ _ _ _ _ _ _ _ (i .stage) _ _ (seen .look-at .ensures .0) (seen .look-at .ensures .1 .1) (lower .keep-lower .ensures .0) (lower .keep-lower .ensures .1) made (over .is-over .ensures) (c .before .before .before .before .if1 .taken) (better .keep-better .ensures .1 .0) (c .reached-with .ensures)
+    round-stops _ _ _ _ _ _ _ _ _ _ _ (i .stage) _ _ (seen .look-at .ensures .0) (seen .look-at .ensures .1 .1) (lower .keep-lower .ensures .0) (lower .keep-lower .ensures .1) made (over .is-over .ensures) (c .before .before .before .before .if1 .taken) (better .keep-better .ensures .1) (c .reached-with .ensures)
 
 move-prices-requires : tie.Need-move-prices-requires Inv-loop μ-loop
 move-prices-requires c κs =
@@ -101,7 +101,7 @@ next-change-requires : tie.Need-next-change-requires Inv-loop μ-loop
 next-change-requires c κs = c .before .before .before .before .before .before .before .before .before .before .before .before .before .before .before .before .before .before .before .before .before .before .before .before .before .before .before .before .before .before .before .before .loop .inv .stage .small
 
 -- a round is left
-left : (c : tie.After-next-change Inv-loop μ-loop) → c .before .before .before .before .before .before .before .before .before .before .before .before .before .before .before .before .before .before .before .before .before .before .before .before .before .before .before .before .before .before .before .before .before .loop .made < c .before .before .before .before .before .before .before .before .before .before .before .before .before .before .before .before .before .before .before .before .before .before .before .before .before .before .before .before .before .before .before .before .before .before .before .before .before .before .before .before .before .before .before .before .before .before .before .args .t .rounds
+left : (c : tie.After-next-change Inv-loop μ-loop) → c .before .before .before .before .before .before .before .before .before .before .before .before .before .before .before .before .before .before .before .before .before .before .before .before .before .before .before .before .before .before .before .before .before .loop .made < c .before .before .before .before .before .before .before .before .before .before .before .before .before .before .before .before .before .before .before .before .before .before .before .before .before .before .before .before .before .before .before .before .before .before .before .before .before .before .before .before .before .before .before .before .before .before .before .before .args .t .rounds
 left c =
     let over = c .before .before .before .before .before .before .before .before .before in
     let better = over .before .before .before in
@@ -113,7 +113,7 @@ left c =
     round-left _ _ _ _ _ _ _ _ _ _ _ (i .stage) _ _ (seen .look-at .ensures .0) (seen .look-at .ensures .1 .1) (lower .keep-lower .ensures .0) (lower .keep-lower .ensures .1) made (over .is-over .ensures) (c .before .before .before .before .before .before .before .before .if1 .left)
 
 add-made : tie.Need-add-made Inv-loop μ-loop
-add-made c = omega (arith, left c, c .before .before .before .before .before .before .before .before .before .before .before .before .before .before .before .before .before .before .before .before .before .before .before .before .before .before .before .before .before .before .before .before .before .before .before .before .before .before .before .before .before .before .before .before .before .before .before)
+add-made c = omega (arith, left c, c .before .before .before .before .before .before .before .before .before .before .before .before .before .before .before .before .before .before .before .before .before .before .before .before .before .before .before .before .before .before .before .before .before .before .before .before .before .before .before .before .before .before .before .before .before .before .before .before)
 
 loop-less : tie.Need-loop-less Inv-loop μ-loop
 loop-less c = omega (arith, left c)
@@ -131,10 +131,10 @@ loop-again c =
       posed = i .posed;
       ordered = i .ordered;
       ranked = i .ranked;
-      stage = round-goes _ _ _ _ _ _ _ _ _ _ _ (i .stage) _ _ (seen .look-at .ensures .0) (seen .look-at .ensures .1 .1) (lower .keep-lower .ensures .0) (lower .keep-lower .ensures .1) made (over .is-over .ensures) (c .before .before .before .before .before .before .before .before .if1 .left) (better .keep-better .ensures .1 .0) (c .before .before .before .before .move-prices .ensures) (c .next-change .ensures);
+      stage = round-goes _ _ _ _ _ _ _ _ _ _ _ (i .stage) _ _ (seen .look-at .ensures .0) (seen .look-at .ensures .1 .1) (lower .keep-lower .ensures .0) (lower .keep-lower .ensures .1) made (over .is-over .ensures) (c .before .before .before .before .before .before .before .before .if1 .left) (better .keep-better .ensures .1) (c .before .before .before .before .move-prices .ensures) (c .next-change .ensures);
       list-size = search (needs, i .list-size);
       map-size = search (needs, i .map-size);
-      runs = better .keep-better .ensures .1 .1;
+      rows-are = i .rows-are;
     }
 
 pub make-rounds-spec : {M : Type 1} → statement M

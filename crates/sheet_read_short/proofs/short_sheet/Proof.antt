@@ -1,4 +1,4 @@
--- short_sheet: a shift's sheet with that limit, and a number of its own for more.
+-- short_sheet: the kind of a shift's sheet with at most 96 turns.
 use borrow.Author.Needs.{needs}
 use Rattle.sheet.proofs.Limits.{short-cases}
 use Rattle.sheet_read_short.proofs.short_sheet.Statement.{statement}

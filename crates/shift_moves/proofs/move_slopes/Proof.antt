@@ -1,4 +1,4 @@
--- move_slopes meets its contract.
+-- move_slopes: moves the prices of all slopes by how many taken turns pay them.
 use Rattle.shift_moves.proofs.MoveCases.{slope-cases}
 use borrow.Author.Needs.{needs}
 use Rattle.shift_moves.proofs.move_slopes.Statement.{statement}

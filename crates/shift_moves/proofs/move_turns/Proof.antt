@@ -1,4 +1,4 @@
--- move_turns meets its contract.
+-- move_turns: moves the prices of all turns by how many taken turns pay them.
 use Rattle.shift_moves.proofs.MoveCases.{turn-cases}
 use borrow.Author.Needs.{needs}
 use Rattle.shift_moves.proofs.move_turns.Statement.{statement}

@@ -1,4 +1,4 @@
--- main meets its contract.
+-- main: reads, answers, prints; what is printed is `answer`'s.
 use lib.Seq.{length-take-le}
 use mathlib.Core.Path.{sym}
 use borrow.Author.Needs.{needs}

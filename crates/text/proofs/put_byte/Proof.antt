@@ -1,4 +1,4 @@
--- put_byte meets its contract.
+-- put_byte: puts one byte at a place.
 use Rattle.text.proofs.Puts.{text-cases}
 use borrow.Author.Needs.{needs}
 use Rattle.text.proofs.put_byte.Statement.{statement}

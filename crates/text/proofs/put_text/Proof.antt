@@ -1,4 +1,4 @@
--- Invariant: the first i bytes of the text are put down; with the rest of it behind them the whole would be. Measure: the bytes left.
+-- Invariant: the first i bytes of the text are put down; with the rest of it after them the whole would be. Measure: the bytes left.
 use borrow.Author.Needs.{needs}
 use Rattle.text.proofs.Puts.{text-cases}
 use Prim.Native.Nat.{_+_, _-_, _≤_}

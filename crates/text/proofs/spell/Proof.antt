@@ -1,4 +1,4 @@
--- Invariant: the decimals of the rest, then the digits put down behind place k, are the decimals of x. Measure: the rest.
+-- Invariant: the decimals of the rest, then the digits put down after place k, are the decimals of x. Measure: the rest.
 use borrow.Author.Needs.{needs}
 use Rattle.text.proofs.Digits.{spell-cases}
 use Prim.Native.Nat.{_+_, _<_, _≤_, _^_}

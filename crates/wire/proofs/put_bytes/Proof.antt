@@ -1,4 +1,4 @@
--- Invariant: the first i bytes are put down; with the rest behind them all would be. Measure: the bytes left.
+-- Invariant: the first i bytes are put down; with the rest after them all would be. Measure: the bytes left.
 use Prim.Native.Nat.{_+_, _-_, _≤_}
 use mathlib.Core.Path.{_≡_}
 use lib.ListN.{length, drop}

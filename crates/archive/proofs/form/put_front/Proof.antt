@@ -1,4 +1,4 @@
--- put_front: a mark, and behind it bytes 3 to 6 of another form's header.
+-- put_front: a mark, and after it bytes 3 to 6 of another form's header.
 use Rattle.archive.proofs.KeepCases.{front-put}
 use lib.ListN.{length-set}
 use native.Mathlib.Omega.{arith}

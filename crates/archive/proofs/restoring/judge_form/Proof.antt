@@ -1,4 +1,4 @@
--- judge_form: the first thing wrong with a kept form behind its header, or 0; the turns then stand in the table.
+-- judge_form: the first thing wrong with a kept form after its header, or 0; the turns then stand in the table.
 use Rattle.archive.proofs.RestoreCases.{judge-fault, judge-stops, judge-whole, judge-room, judge-table, judge-values, kind-numbered}
 use borrow.Author.Needs.{needs}
 use Rattle.archive.proofs.restoring.judge_form.Statement.{statement}

@@ -1,4 +1,4 @@
--- put_record: puts a record at a place; returns the place behind it.
+-- put_record: puts a record at a place; returns the place after it.
 use Rattle.archive.proofs.RestoreCases.{fields-room, fields-room-over}
 use Rattle.write.proofs.Overs.{map-over-cases}
 use borrow.Author.Needs.{needs}

@@ -1,4 +1,4 @@
--- Invariant: the first i records are put down; with the rest behind them they are all. Measure: the records left.
+-- Invariant: the first i records are put down; with the rest after them they are all. Measure: the records left.
 use Rattle.archive.proofs.RestoreCases.{records-cases}
 use Rattle.archive_spec.specs.Kept.{recordsBody}
 use Rattle.archive_spec.specs.Column.{widths}

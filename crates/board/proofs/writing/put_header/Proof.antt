@@ -1,4 +1,4 @@
--- put_header meets its contract.
+-- put_header: puts the header's fields at their places.
 use Rattle.board.proofs.Fronts.{head-put}
 use borrow.Author.Needs.{needs}
 use Rattle.board.proofs.writing.put_header.Statement.{statement}

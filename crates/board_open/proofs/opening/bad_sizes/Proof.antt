@@ -1,4 +1,4 @@
--- bad_sizes meets its contract.
+-- bad_sizes: whether mark, counts or length are not those of a board.
 use Rattle.board_open.proofs.Openings.{sizes-cases}
 use borrow.Author.Needs.{needs}
 use Rattle.board_open.proofs.opening.bad_sizes.Statement.{statement}

@@ -1,4 +1,4 @@
--- is_malformed meets its contract.
+-- is_malformed: whether the bytes are no board.
 use Rattle.board_open.proofs.Openings.{open-cases}
 use borrow.Author.Needs.{needs}
 use Rattle.board_open.proofs.opening.is_malformed.Statement.{statement}

@@ -1,4 +1,4 @@
--- Invariant: what is kept of the list's numbers before place i, and behind it what is to be kept of the others, is what is due; no more numbers are kept than gone through. Measure: the numbers left.
+-- Invariant: what is kept of the list's numbers before place i, and after it what is to be kept of the others, is what is due; no more numbers are kept than gone through. Measure: the numbers left.
 use Prim.Native.Nat.{_-_, _≤_}
 use mathlib.Core.Path.{_≡_}
 use mathlib.Core.List.{_++_}

@@ -1,4 +1,4 @@
--- assign meets its contract.
+-- assign: the line and the lent buffer are those of the entry's definition.
 use Rattle.corpus.proofs.LineCases.{line-cases}
 use borrow.Author.Needs.{needs}
 use Rattle.corpus.proofs.entries.assign.Statement.{statement}

@@ -1,4 +1,4 @@
--- check meets its contract.
+-- check: the line and the lent buffer are those of the entry's definition.
 use Rattle.corpus.proofs.LineCases.{line-cases}
 use borrow.Author.Needs.{needs}
 use Rattle.corpus.proofs.entries.check.Statement.{statement}

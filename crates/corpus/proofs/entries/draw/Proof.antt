@@ -1,4 +1,4 @@
--- draw meets its contract.
+-- draw: the line and the lent buffer are those of the entry's definition.
 use Rattle.corpus.proofs.LineCases.{asked-lines}
 use borrow.Author.Needs.{needs}
 use Rattle.corpus.proofs.entries.draw.Statement.{statement}

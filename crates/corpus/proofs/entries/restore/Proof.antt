@@ -1,4 +1,4 @@
--- restore meets its contract.
+-- restore: the line and the lent buffer are those of the entry's definition.
 use Rattle.corpus.proofs.LineCases.{line-cases}
 use borrow.Author.Needs.{needs}
 use Rattle.corpus.proofs.entries.restore.Statement.{statement}

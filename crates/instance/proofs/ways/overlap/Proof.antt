@@ -1,4 +1,4 @@
--- overlap: whether two stretches of minutes overlap, each with the gap behind it.
+-- overlap: whether two stretches of minutes overlap, each with the gap after it.
 use Rattle.instance.proofs.Conflicting.{ways-cases}
 use borrow.Author.Needs.{needs}
 use Rattle.instance.proofs.ways.overlap.Statement.{statement}

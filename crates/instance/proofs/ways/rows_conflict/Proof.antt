@@ -1,4 +1,4 @@
--- rows_conflict: whether they conflict by any way.
+-- rows_conflict: whether two rows conflict, by any way.
 use Rattle.instance.proofs.Conflicting.{ways-cases}
 use borrow.Author.Needs.{needs}
 use Rattle.instance.proofs.ways.rows_conflict.Statement.{statement}

@@ -1,4 +1,4 @@
--- ways_of: the ways in which they do conflict.
+-- ways_of: the ways by which two rows conflict.
 use Rattle.instance.proofs.Conflicting.{ways-cases}
 use borrow.Author.Needs.{needs}
 use Rattle.instance.proofs.ways.ways_of.Statement.{statement}

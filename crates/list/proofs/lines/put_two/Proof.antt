@@ -1,4 +1,4 @@
--- put_two: two of them, and the end of the line.
+-- put_two: puts two words, each with its number, and a line feed.
 use Rattle.list.proofs.LinePieces.{two-cases}
 use borrow.Author.Needs.{needs}
 use Rattle.list.proofs.lines.put_two.Statement.{statement}

@@ -1,4 +1,4 @@
--- `put_days` meets its contract: the table holds the days of any board that passes.
+-- put_days: the days of the chosen turns with their delays, into a blank table.
 use Rattle.play.proofs.Rows.{days-cases}
 use borrow.Author.Needs.{needs}
 use Rattle.play.proofs.days.put_days.Statement.{statement}

@@ -67,7 +67,7 @@ use Rattle.play.proofs.moving.minute.Code.Mir as pieces
 abbrev stayed : Stays (f.ended .signature .params) (f.ended .kept)
 stayed = (stay-slice (0 ∷ []) tt (plain (λ _. T.the-row)), (stay-none-slice (1 ∷ []) tt (plain (λ _. u16)) yes, (stay-none (λ _. usize) yes, (stay-none (λ _. u16) yes, tt))))
 
--- the locals' types: what lies behind a reference is named and not spelled out
+-- the locals' types: what lies after a reference is named and not spelled out
 abbrev list-ty : Ty
 list-ty = sliceTy (tyRef (named 0) mut (pointee (T.the-row .written)))
 

@@ -1,4 +1,4 @@
--- read_header meets its contract.
+-- read_header: the header's counts, or its first cause of refusal.
 use Rattle.sheet.proofs.Headers.{header-cases}
 use borrow.Author.Needs.{needs}
 use Rattle.sheet_read.proofs.header.read_header.Statement.{statement}

@@ -1,4 +1,4 @@
--- put_turn: a turn's row from a place on; the place behind it.
+-- put_turn: a turn's row from a place on; the place after it.
 use lib.ListN.{length-set}
 use native.Mathlib.Omega.{arith}
 use borrow.Author.Needs.{needs}

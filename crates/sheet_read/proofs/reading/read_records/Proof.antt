@@ -1,4 +1,4 @@
--- Invariant: the records left have the first cause of all, and their rows behind those put down make all rows. Measure: the records left.
+-- Invariant: the records left have the first cause of all, and their rows after those put down make all rows. Measure: the records left.
 use borrow.Author.Needs.{needs}
 use Rattle.sheet.proofs.Scans.{scan-cases}
 use Rattle.sheet.specs.Read.{recordsCauses, turnsFrom}

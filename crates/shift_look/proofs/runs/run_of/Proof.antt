@@ -1,4 +1,4 @@
--- run_of: what the turn at place i pays for: all that end with it, and all behind that are in its way; nothing if it names no driver.
+-- run_of: what the turn at place i pays for: all that end with it, and all after that are in its way; nothing if it names no driver.
 use Rattle.shift_look.proofs.RunCases.{place-cases}
 use Rattle.best_table.proofs.OrderCases.{row-cases}
 use borrow.Author.Needs.{needs}

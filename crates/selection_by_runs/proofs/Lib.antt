@@ -1,4 +1,0 @@
-pub mod Near
-pub mod RunCases
-pub mod FlagCases
-pub mod ChoiceCases
