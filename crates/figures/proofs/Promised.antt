@@ -1,11 +1,16 @@
 -- Each promise is taken out of the theorem that has it, under the type that the page writes out. Assumes nothing.
-use Prim.Native.Nat.{ℕ, _<_}
+use Prim.Native.Nat.{ℕ, _+_, _*_, _/_, _≤_, _<_}
 use native.Mathlib.Omega.{arith}
-use mathlib.Core.Path.{_≡_, refl, sym, _∙_}
+use mathlib.Core.Path.{_≡_, refl, sym, ap, _∙_}
 use mathlib.Core.Logic.{_↔_}
-use mathlib.Core.Bool.{Bool}
+use mathlib.Core.Bool.{Bool, true, not, _&&_}
 use mathlib.Core.List.{List}
-use lib.ListN.{take}
+use lib.ListN.{length, take, drop}
+use lib.Seq.{take-append-seam}
+use lib.Dec.{ltb}
+use borrow.Author.Tests.{lt-ltb, ltb-true, not-true}
+use native.Mathlib.Decide.{decLt}
+use Rattle.lists.proofs.Bools.{and-1, and-2}
 use Rattle.refusal.specs.Written.{writtenPart}
 use Rattle.refusal.proofs.Outcome.{number-refused}
 use Rattle.wire.specs.Number.{Bytes}
@@ -31,9 +36,15 @@ use Rattle.model.proofs.Minutes.{conflict-is}
 use Rattle.model.specs.Promises.{Promises}
 use Rattle.instance_spec.specs.Problem.{sheetTurns, SheetConflict}
 use Rattle.instance_spec.proofs.SheetTurns.{sheet-count, sheet-lengths, sheet-conflict}
-use Rattle.board.specs.Board.{boardChoice}
-use Rattle.board_open.proofs.OpenCauses.{open-accepted-iff, open-first-iff}
-use Rattle.board_open.proofs.Chosen.{count-turns, chosen-turn}
+use Rattle.choice_map.specs.Choice.{chosenIn}
+use Rattle.board.specs.Board.{boardTurns, boardSteps, boardMap, boardChoice}
+use Rattle.board_open.specs.declared.opening.CountAnswer.{CountAnswer}
+use Rattle.board_open.specs.Open.{malformed, openOf}
+use Rattle.board_open.specs.Chosen.{counted, turnChosen}
+use Rattle.board_open.specs.Part.{stepsPartAt}
+use Rattle.board_open.proofs.Openings.{opened, shut, part-none}
+use Rattle.board_open.proofs.OpenCauses.{formed-board, open-accepted-iff, open-first-iff}
+use Rattle.board_open.proofs.Chosen.{count-refused, count-given, count-turns, chosen-turn}
 use Rattle.board_open.proofs.Parts.{part-named}
 use Rattle.plan_spec.specs.Plan.{planOf}
 use Rattle.plan_spec.proofs.PlanCauses.{plan-refused-iff, plan-unchanged}
@@ -50,7 +61,7 @@ use Rattle.best_spec.specs.Best.{bestOf}
 use Rattle.best_spec.proofs.BestCauses.{best-clear, best-refused-iff, best-unchanged}
 use Rattle.best_spec.proofs.Promised.{best-of-sheet, best-promised}
 use Rattle.improve_spec.specs.Improve.{improveOf}
-use Rattle.improve_spec.proofs.ImproveCauses.{improve-refused-iff, improve-unchanged}
+use Rattle.improve_spec.proofs.ImproveCauses.{clear-iff, improve-number, improve-refused-iff, improve-unchanged}
 use Rattle.improve_spec.proofs.SheetPromised.{improved-sheet, none-allowed-plan}
 use Rattle.play_spec.specs.declared.Stint.{Stint}
 use Rattle.play_spec.specs.declared.Standing.{Standing}
@@ -65,10 +76,14 @@ use Rattle.limit_spec.specs.Limit.{priceCount, limitCauses, limitRefused, limit
 use Rattle.limit_spec.proofs.LimitCauses.{limit-refused-iff}
 use Rattle.limit_spec.proofs.Promised.{limit-promised}
 use Rattle.refine_spec.specs.Rounds.{firstChange}
-use Rattle.refine_spec.specs.Refine.{refineOf}
-use Rattle.refine_spec.proofs.RefineCauses.{refine-refused-iff, refine-unchanged}
+use Rattle.refine_spec.specs.Refine.{Refinement, boardWith, refinementOf, refineOf}
+use Rattle.refine_spec.proofs.RefineCauses.{sheetRefined, refine-is, refine-refused-iff, refine-unchanged}
 use Rattle.refine_spec.proofs.Promised.{refine-promised}
+use Rattle.charge_spec.specs.Hall.{Hall}
+use Rattle.charge_spec.specs.Plan.{wideChoice, smallChoice, worthIn, greaterOf, hallChoice}
 use Rattle.charge_spec.specs.Charge.{hallOf, chargeOf}
+use Rattle.charge_spec.proofs.Runs.{wide-steps-are, small-steps-are}
+use Rattle.charge_spec.proofs.Halls.{greater-first, greater-second}
 use Rattle.charge_spec.proofs.ChargeCauses.{charge-promises, charge-refused-iff, charge-unchanged}
 use Rattle.charge_spec.proofs.SheetPromised.{charge-promised}
 use Rattle.hall_by_prices_spec.specs.Limit.{chargeLimitCauses, chargeLimitOf}
@@ -77,7 +92,7 @@ use Rattle.hall_by_prices_spec.proofs.LimitCauses.{charge-limit-refused-iff}
 use Rattle.hall_by_prices_spec.proofs.Promised.{charge-limit-promised}
 use Rattle.hall_by_prices_spec.proofs.RefineCauses.{charge-refine-refused-iff, charge-refine-unchanged}
 use Rattle.hall_by_prices_spec.proofs.Refined.{charge-refine-promised}
-use Rattle.claim.proofs.Claimed.{claim, plan-front}
+use Rattle.claim.proofs.Claimed.{claim, planned-answer, plan-front}
 use Rattle.claim.proofs.Listed.{list-promised}
 use Rattle.figures.specs.Promised.{shownIn, Reads, Writes, Binds, Checks, Plans, ListsBoard, AssignsAll, FindsBest, Searches, StandsSo, PlaysShift, LimitsShift, RefinesShift, ChargesHall, LimitsHall, RefinesHall, Promised}
 
@@ -214,7 +229,8 @@ module _ (s : List ℕ) (limit : ℕ) (lent : List ℕ) (z : improveOf s limit l
         ran-whole = p .ran-whole;
         capped = p .greatest;
         larger = p .larger;
-        to-ceiling = p .up-to-ceiling;
+        to-ceiling = p .up-to-ceiling ∙ ap (λ (a : CheckAnswer). a .ceiling) (sym (planned-answer s (clear-iff s (length lent) .0 (sym (improve-number s lent limit) ∙ z) .0)));
+        ceiling-is = p .up-to-ceiling;
         ceiling-caps = p .bounded;
         starts = p .starts;
         sets = c .sets;
@@ -260,6 +276,14 @@ module _ (s prices : List ℕ) (z : limitOf s prices .refusal ≡ 0) where
       let p = limit-promised s prices z in
       record { capped = p .within; boards-capped = p .boards-within; driverless = λ other l f g. p .driverless other (record { lengths = l; slopes = f; turns = g }); parts = p .parts; attained = λ g. p .groomer-most g .attained; greatest = λ g. p .groomer-most g .greatest; free = p .free; free-best = p .free-best }
 
+-- the board is as long as the answer says
+board-long : (s : List ℕ) (rounds : ℕ) (board prices : List ℕ) → refineOf s rounds board prices .refusal ≡ 0 → length (take (refineOf s rounds board prices .bytes) (refineOf s rounds board prices .board)) ≡ refineOf s rounds board prices .bytes
+unfolding refinementOf
+board-long s rounds board prices z =
+    let r = refine-is s rounds board prices z in
+    let text = boardWith (sheetTurns s) (sheetRefined s rounds .choice) in
+    ap (λ (x : Refinement). length (take (x .bytes) (x .board))) r ∙ ap length (take-append-seam text (drop (length text) board)) ∙ ap (λ (x : Refinement). x .bytes) (sym r)
+
 module _ (s : List ℕ) (rounds : ℕ) (board prices : List ℕ) (z : refineOf s rounds board prices .refusal ≡ 0) where
   refines-shift :
       RefinesShift s rounds board prices (take (refineOf s rounds board prices .bytes) (refineOf s rounds board prices .board)) (take (priceCount s) (refineOf s rounds board prices .prices)) (sheetTurns s)
@@ -268,6 +292,7 @@ module _ (s : List ℕ) (rounds : ℕ) (board prices : List ℕ) (z : refineOf s
   refines-shift =
       let p = refine-promised s rounds board prices z in
       record {
+        many = board-long s rounds board prices z;
         passes = p .passes;
         steps-same = p .steps-same;
         tally-same = p .tally-same;
@@ -292,6 +317,18 @@ module _ (s : List ℕ) (rounds : ℕ) (board prices : List ℕ) (z : refineOf s
       }
 
 module _ (s lent : List ℕ) (z : chargeOf s lent .answer .refusal ≡ 0) where
+  abbrev H : Hall
+  H = hallOf s
+
+  -- the windows shown are the hall's choice: of the two plans the one of greater worth
+  plan-set : shownIn s (chargeOf s lent .lent) ≡ hallChoice H
+  unfolding hallChoice
+  plan-set = go (decLt (worthIn H (smallChoice H)) (worthIn H (wideChoice H)))
+    where
+      go : Dec (worthIn H (smallChoice H) < worthIn H (wideChoice H)) → shownIn s (chargeOf s lent .lent) ≡ greaterOf H (wideChoice H) (smallChoice H)
+      go (yes l) = charge-promised s lent z .wide-plan l ∙ sym (greater-first H (wideChoice H) (smallChoice H) l)
+      go (no n) = let l : worthIn H (wideChoice H) ≤ worthIn H (smallChoice H) = omega arith in charge-promised s lent z .small-plan l ∙ sym (greater-second H (wideChoice H) (smallChoice H) l)
+
   charges-hall : ChargesHall s lent (hallOf s) (shownIn s (chargeOf s lent .lent)) (chargeOf s lent)
   charges-hall =
       let p = charge-promised s lent z in
@@ -304,7 +341,9 @@ module _ (s lent : List ℕ) (z : chargeOf s lent .answer .refusal ≡ 0) where
         covers-small = p .covers-small;
         wide-plan = p .wide-plan;
         small-plan = p .small-plan;
-        tie = q .tie;
+        set = plan-set;
+        wide-run = wide-steps-are (hallOf s) _ .1 refl;
+        small-run = small-steps-are (hallOf s) _ .1 refl;
         wide-chosen = q .wide-chosen;
         small-chosen = q .small-chosen;
         wide-full = p .wide-full;
@@ -358,6 +397,22 @@ conflicts-are {s} bytes a x y h k =
     let sheet = sheet-conflict s z x y h k in
     (λ c. sheet .0 (words .1 c), λ c. words .0 (sheet .1 c))
 
+-- ---- what is asked of a board
+
+chosen-bit : (b : List ℕ) (t : ℕ) → (turnChosen b t ≡ true) ↔ ((openOf b ≡ 0) × (t < boardTurns b) × (chosenIn (boardMap b) t ≡ true))
+unfolding turnChosen
+chosen-bit b t =
+    let inside = ltb t (boardTurns b) in
+    let bit = chosenIn (boardMap b) t in (
+      λ e. let f = and-2 (not (malformed b)) (inside && bit) e in
+          (open-accepted-iff b .1 (formed-board b (not-true (malformed b) (and-1 (not (malformed b)) (inside && bit) e))), ltb-true t (boardTurns b) (and-1 inside bit f), and-2 inside bit f),
+      λ (z, l, c). rw (opened b refl z, lt-ltb t (boardTurns b) l, c),
+    )
+
+steps-at : (b : List ℕ) → openOf b ≡ 0 → stepsPartAt b ≡ record { start = 15 + (boardTurns b + 7) / 8; length = 4 * boardSteps b }
+unfolding stepsPartAt
+steps-at b z = rw (opened b refl z)
+
 -- ---- refusals of entries that are lent nothing
 
 check-none : (s b : List ℕ) → (checkOf s b .refusal ≡ 0 → ⊥) → checkOf s b ≡ checked (checkOf s b .refusal) 0 0 0
@@ -387,9 +442,15 @@ promised =
       keep-back = keep-then-restore;
       restore-back = restore-then-keep;
       opens = open-accepted-iff;
-      count = count-turns;
-      is-chosen = chosen-turn;
-      steps = λ b. part-named b refl;
+      count = λ b z.
+          let e = sym (count-given b refl (opened b refl z) refl refl) in
+          e ∙ ap (counted 0) (ap (λ (a : CountAnswer). a .turns) (sym e) ∙ count-turns b z);
+      count-refuses = λ b n. sym (count-refused b refl (shut b refl n));
+      is-chosen = chosen-bit;
+      chosen-has = chosen-turn;
+      steps = steps-at;
+      steps-none = λ b n. sym (part-none b refl (shut b refl n));
+      steps-part = λ b. part-named b refl;
       conflicts = conflicts-are;
       check = checks;
       plan = plans;

@@ -71,11 +71,11 @@ pub record Figures : Type 0 where
   pub driver : mostDriver ≡ 40
   -- groomers, slopes and worths are counted from 1: 0 is out of their range
   pub from-one : (most : ℕ) → outsideRange 0 most ≡ true
-  -- and the greatest number is still in it
+  -- in range are exactly the numbers from 1 to the greatest
   pub to-most : (x most : ℕ) → (outsideRange x most ≡ false) ↔ ((1 ≤ x) × (x ≤ most))
   -- a length is at least 1, and an end of 960 is still right
   pub times : (start len : ℕ) → (pastShift start len ≡ false) ↔ ((1 ≤ len) × (start + len ≤ 960))
-  -- what remains of a worth is never below -59,999
+  -- the least that can remain of a worth
   pub least-left : leastResidual ≡ negℤ (pos 59999)
   -- ten free minutes between two turns of a groomer or of a driver, on every sheet
   pub gap : shiftGap ≡ 10
@@ -90,7 +90,7 @@ pub record Figures : Type 0 where
   -- numbers of two and of four bytes have their high byte first
   pub two-bytes : (s : List ℕ) (at : ℕ) → valueAt s at 2 ≡ 256 * getD s at 0 + getD s (at + 1) 0
   pub four-bytes : (s : List ℕ) (at : ℕ) → valueAt s at 4 ≡ 65536 * valueAt s at 2 + valueAt s (at + 2) 2
-  -- a header of 7 bytes: behind the mark a byte of groomers, a byte of slopes, two bytes of turns
+  -- a header of 7 bytes: after the mark a byte of groomers, a byte of slopes, two bytes of turns
   pub header : headerBytes ≡ 7
   pub header-counts : (s : List ℕ) → countsIn s ≡ record { groomers = valueAt s 3 1; slopes = valueAt s 4 1 }
   pub header-turns : (s : List ℕ) → turnCount s ≡ valueAt s 5 2
@@ -117,7 +117,7 @@ pub record Figures : Type 0 where
       → turnFrom s at 0x3F p ≡ record { slope = valueAt s at 1; groomer = valueAt s (at + 1) 1; start = valueAt s (at + 2) 2; length = valueAt s (at + 4) 2; worth = valueAt s (at + 6) 2; driver = valueAt s (at + 8) 1 }
   -- a turn has six numbers in a table
   pub row : rowNumbers ≡ 6
-  -- and so many places the reader needs for each
+  -- the reader needs six places a turn
   pub reader-need : {s : List ℕ} → Bytes s → (lent : List ℕ) → (readOf s lent .answer .refusal ≡ 0) ↔ (Accepted s × (6 * turnCount s ≤ length lent))
   -- the four kinds of sheet: mark, greatest counts, maps, and the refusals of counts, turns, slope and groomer. A shift's
   pub shift-sheet-kind :
@@ -137,7 +137,7 @@ pub record Figures : Type 0 where
       ≡ record { mark = 0x47 ∷ 0x52 ∷ 0x45 ∷ []; most = record { groomers = 48; slopes = 60; turns = 400 }; maps = record { first = 0x1F; full = 0x1F }; refusals = record { counts = 3; turns = 4; slope = 6; groomer = 25 } }
   -- ---- the board
 
-  -- a header of 15 bytes: behind the mark turns and steps, two bytes each, then tally and worth, four bytes each
+  -- a header of 15 bytes: after the mark turns and steps, two bytes each, then tally and worth, four bytes each
   pub board-header : boardHeader ≡ 15
   pub board-turns : turnsPlace ≡ 3
   pub board-steps : stepCountPlace ≡ 5
@@ -153,13 +153,13 @@ pub record Figures : Type 0 where
   pub planner-need : {s : List ℕ} → Bytes s → (lent : List ℕ) → (planOf s lent .answer .refusal ≡ 0) ↔ (Accepted s × (15 + (turnCount s + 7) / 8 + 4 * turnCount s ≤ length lent))
   -- ---- what the other entries accept, and how long a lent place must be
 
-  -- the short reader: as a shift's
+  -- the short reader: as the reader's
   pub short-reader-need : {s : List ℕ} → Bytes s → (lent : List ℕ) → (readShortOf s lent .answer .refusal ≡ 0) ↔ (AcceptedShort s × (6 * turnCount s ≤ length lent))
-  -- the writer: as many bytes as it writes where a table is accepted
+  -- the writer, for a table that it accepts: the bytes that it writes
   pub write-need :
       (counts : Counts) (table place : List ℕ) → writeOf counts table place .answer .refusal ≡ 0
       → (lent : List ℕ) → (writeOf counts table lent .answer .refusal ≡ 0) ↔ (writeOf counts table place .answer .bytes ≤ length lent)
-  -- drawing: a seed from 1 to 2,147,483,646, counts of a header, and the bytes of the sheet
+  -- drawing: a seed from 1 to 2,147,483,646, counts and turns that a header may have, and the bytes of the sheet
   pub draw-need :
       (seed : ℕ) (counts : Counts) (turns : ℕ) (lent : List ℕ)
       → (drawOf seed counts turns lent .answer .refusal ≡ 0) ↔ (((1 ≤ seed) × (seed ≤ 2147483646)) × Legal shiftSheet counts turns × (length (drawnSheet seed counts turns) ≤ length lent))
@@ -243,13 +243,13 @@ pub record Figures : Type 0 where
   -- a hall's prices are sixteenths
   pub window-pays : (H : Hall) (prices : List ℕ) (t : ℕ) → windowPays H prices t ≡ draw H t * minutesCost H prices t / 16
   pub supply-costs : (H : Hall) (prices : List ℕ) → supplyCost H prices ≡ H .units * sumOver (minutePrice prices) (below 960) / 16
-  -- the first change is a quarter of the greatest worth, in a hall an eighth, rounded up; from round to round it loses a sixteenth, and is never below 1
+  -- the first change is a quarter of the greatest worth, in a hall an eighth, rounded up; the next change is fifteen sixteenths of the last, rounded down, at least 1
   pub first-change : (T : Turns) (groomers slopes : ℕ) → shiftStart T groomers slopes .change ≡ (greatestWorth T + 3) / 4
   pub first-hall-change : (H : Hall) (vehicles : ℕ) → hallStart H vehicles .change ≡ (greatestOf (H .windows .worth) (below (windowCount H)) + 7) / 8
   pub next-change : (change : ℕ) → nextChange change ≡ max 1 (15 * change / 16)
   -- a turn's price changes by half of it, and at least by 1
   pub turn-change : (change : ℕ) → turnChange change ≡ max 1 (change / 2)
-  -- a price that no turn pays falls by the change, and a difference of numbers is not below 0; one that a single turn pays stays
+  -- a price that no turn pays falls by the change, not below 0; one that a single turn pays stays
   pub price-without-payers : (change price : ℕ) → movedPrice change 0 price ≡ price - change
   pub lone-price : (change price : ℕ) → movedPrice change 1 price ≡ price
   -- a price that k turns pay, k above 1, rises to 60,000 at most; one of a minute in which more than the units is drawn, to 65,535; one of another minute falls, not below 0
