@@ -9,35 +9,46 @@ use lib.ListN.{length, take, drop}
 use lib.Seq.{take-append-seam}
 use lib.Dec.{ltb}
 use borrow.Author.Tests.{lt-ltb, ltb-true, not-true}
-use native.Mathlib.Decide.{decLt}
+use native.Mathlib.Decide.{decLt, ℕ-discrete}
 use Rattle.lists.proofs.Bools.{and-1, and-2}
-use Rattle.refusal.specs.Written.{writtenPart}
+use Rattle.refusal.specs.Written.{wrote, writtenPart}
+use Rattle.refusal.proofs.Written.{written-all}
 use Rattle.refusal.proofs.Outcome.{number-refused}
+use Rattle.refusal.specs.Cause.{firstOf}
 use Rattle.wire.specs.Number.{Bytes}
 use Rattle.turn.specs.declared.Counts.{Counts}
 use Rattle.sheet.specs.declared.kind.Kind.{Kind}
-use Rattle.sheet.specs.Read.{countsIn, turnCount, Reading}
+use Rattle.sheet.specs.Kind.{shiftSheet, withTurns}
+use Rattle.sheet.specs.Read.{countsIn, turnCount, turnsOf, sheetCauses, Reading, readFor, readOf}
+use Rattle.sheet.specs.Short.{shortSheet, readShortOf}
 use Rattle.sheet.specs.Promises.{ReadPromisedFor}
 use Rattle.sheet.specs.Accepted.{Accepted}
-use Rattle.sheet.proofs.Accepting.{accepted-iff}
+use Rattle.sheet.proofs.SoundKinds.{shift-sheet-sound}
+use Rattle.sheet.proofs.Accepting.{sheet-reads, accepted-iff}
 use Rattle.sheet.proofs.ReadCauses.{read-refused-iff}
 use Rattle.sheet.proofs.Promised.{read-promised}
-use Rattle.sheet.proofs.Limits.{short-refused-iff, short-promised, short-same}
+use Rattle.sheet.proofs.Limits.{within-both, both-alike, short-refused-iff, short-promised, short-same}
 use Rattle.write_spec.specs.Write.{writeOf}
 use Rattle.write_spec.specs.Promises.{WritePromised}
 use Rattle.write_spec.proofs.WriteCauses.{write-refused-iff, write-unchanged}
 use Rattle.write_spec.proofs.Promised.{write-promised}
 use Rattle.draw_spec.proofs.DrawCauses.{draw-refused-iff, draw-unchanged}
 use Rattle.draw_spec.proofs.DrawnSheets.{draw-promised}
-use Rattle.archive_spec.proofs.KeptCauses.{keep-refused-iff, keep-unchanged, restore-refused-iff, restore-unchanged}
-use Rattle.archive_spec.proofs.RoundTrip.{keep-then-restore, restore-then-keep}
+use Rattle.archive_spec.specs.Kept.{sheetMaps, keptOf, keptMaps, keptTurns, restoredOf}
+use Rattle.archive_spec.specs.Archive.{keepCauses, keepOf, restoreCauses, restoreOf}
+use Rattle.archive_spec.proofs.Accepting.{kept-reads, reads-kept}
+use Rattle.archive_spec.proofs.KeptCauses.{keep-accepted-iff, restore-accepted-iff, keep-refused-iff, keep-unchanged, restore-refused-iff, restore-unchanged}
+use Rattle.archive_spec.proofs.RoundTrip.{sheet-named, sheet-maps, sheet-kept, kept-sheet, keep-then-restore, restore-then-keep}
 use Rattle.model.specs.Turns.{Turns, Conflict}
+use Rattle.model.specs.Choice.{chosen}
 use Rattle.model.proofs.Minutes.{conflict-is}
 use Rattle.model.specs.Promises.{Promises}
+use Rattle.model.specs.Ceiling.{fewestGroups, stepCost, ceiling}
+use Rattle.model.proofs.Ceilings.{fewest-is}
 use Rattle.instance_spec.specs.Problem.{sheetTurns, SheetConflict}
 use Rattle.instance_spec.proofs.SheetTurns.{sheet-count, sheet-lengths, sheet-conflict}
 use Rattle.choice_map.specs.Choice.{chosenIn}
-use Rattle.board.specs.Board.{boardTurns, boardSteps, boardMap, boardChoice}
+use Rattle.board.specs.Board.{boardTurns, boardSteps, boardWorth, boardMap, boardChoice}
 use Rattle.board_open.specs.declared.opening.CountAnswer.{CountAnswer}
 use Rattle.board_open.specs.Open.{malformed, openOf}
 use Rattle.board_open.specs.Chosen.{counted, turnChosen}
@@ -46,7 +57,7 @@ use Rattle.board_open.proofs.Openings.{opened, shut, part-none}
 use Rattle.board_open.proofs.OpenCauses.{formed-board, open-accepted-iff, open-first-iff}
 use Rattle.board_open.proofs.Chosen.{count-refused, count-given, count-turns, chosen-turn}
 use Rattle.board_open.proofs.Parts.{part-named}
-use Rattle.plan_spec.specs.Plan.{planOf}
+use Rattle.plan_spec.specs.Plan.{plannedBoard, planOf}
 use Rattle.plan_spec.proofs.PlanCauses.{plan-refused-iff, plan-unchanged}
 use Rattle.check_spec.specs.declared.CheckAnswer.{CheckAnswer}
 use Rattle.check_spec.specs.Check.{checkCauses, checked, checkOf}
@@ -94,7 +105,7 @@ use Rattle.hall_by_prices_spec.proofs.RefineCauses.{charge-refine-refused-iff, 
 use Rattle.hall_by_prices_spec.proofs.Refined.{charge-refine-promised}
 use Rattle.claim.proofs.Claimed.{claim, planned-answer, plan-front}
 use Rattle.claim.proofs.Listed.{list-promised}
-use Rattle.figures.specs.Promised.{shownIn, Reads, Writes, Binds, Checks, Plans, ListsBoard, AssignsAll, FindsBest, Searches, StandsSo, PlaysShift, LimitsShift, RefinesShift, ChargesHall, LimitsHall, RefinesHall, Promised}
+use Rattle.figures.specs.Promised.{mapIn, shownIn, Reads, Writes, TwoForms, Binds, Checks, Plans, ListsBoard, AssignsAll, FindsBest, Searches, StandsSo, PlaysShift, LimitsShift, RefinesShift, ChargesHall, LimitsHall, RefinesHall, Promised}
 
 reads : {K : Kind} {s lent : List ℕ} {x : Reading} → ReadPromisedFor K s lent x → Reads K s lent x
 reads p =
@@ -143,6 +154,7 @@ binds p =
 
 module _ (s b : List ℕ) (y : Bytes s) where
   checks : Checks s b
+  unfolding ceiling stepCost
   checks =
       let c = claim s b y in
       record {
@@ -154,6 +166,8 @@ module _ (s b : List ℕ) (y : Bytes s) where
         keeps = c .keeps-no-cause;
         passes = c .passes-no-cause;
         answers = c .answers;
+        ceiling-sums = λ xs. refl;
+        counted = λ r x right. (fewestGroups (sheetTurns s) r (x .turn), fewest-is (sheetTurns s) r x right, refl);
         binds = λ z. binds (c .promises z);
       }
 
@@ -214,6 +228,9 @@ module _ (s lent : List ℕ) (z : bestOf s lent .answer .refusal ≡ 0) where
       }
 
 module _ (s : List ℕ) (limit : ℕ) (lent : List ℕ) (z : improveOf s limit lent .answer .refusal ≡ 0) where
+  searched-clear : firstOf (sheetCauses s) ≡ 0
+  searched-clear = clear-iff s (length lent) .0 (sym (improve-number s lent limit) ∙ z) .0
+
   searches : Searches s limit lent (sheetTurns s) (shownIn s (improveOf s limit lent .lent)) (improveOf s limit lent)
   searches =
       let p = improved-sheet s limit lent z in
@@ -229,7 +246,7 @@ module _ (s : List ℕ) (limit : ℕ) (lent : List ℕ) (z : improveOf s limit l
         ran-whole = p .ran-whole;
         capped = p .greatest;
         larger = p .larger;
-        to-ceiling = p .up-to-ceiling ∙ ap (λ (a : CheckAnswer). a .ceiling) (sym (planned-answer s (clear-iff s (length lent) .0 (sym (improve-number s lent limit) ∙ z) .0)));
+        to-ceiling = p .up-to-ceiling ∙ ap (λ (a : CheckAnswer). a .ceiling) (sym (planned-answer s searched-clear));
         ceiling-is = p .up-to-ceiling;
         ceiling-caps = p .bounded;
         starts = p .starts;
@@ -397,6 +414,53 @@ conflicts-are {s} bytes a x y h k =
     let sheet = sheet-conflict s z x y h k in
     (λ c. sheet .0 (words .1 c), λ c. words .0 (sheet .1 c))
 
+-- ---- a search without visits
+
+-- without turns nothing is worth more than 0
+plan-back : (s lent : List ℕ) → improveOf s 0 lent .answer .refusal ≡ 0 → (improveOf s 0 lent .answer .worth ≡ boardWorth (plannedBoard s)) × (mapIn s (improveOf s 0 lent .lent) ≡ boardMap (plannedBoard s))
+unfolding chosen
+plan-back s lent z = go (ℕ-discrete (turnCount s) 0)
+  where
+    go : Dec (turnCount s ≡ 0) → (improveOf s 0 lent .answer .worth ≡ boardWorth (plannedBoard s)) × (mapIn s (improveOf s 0 lent .lent) ≡ boardMap (plannedBoard s))
+    go (yes e) =
+        let p = improved-sheet s 0 lent z in
+        let w : improveOf s 0 lent .answer .worth ≡ 0 = sym (p .earns) ∙ ap (λ (n : ℕ). chosen n (shownIn s (improveOf s 0 lent .lent)) (sheetTurns s .worth)) (sheet-count s (searched-clear s 0 lent z) ∙ e) in
+        (omega (arith, w, p .no-less), p .plan-kept (omega (arith, w)))
+    go (no n) = let p = none-allowed-plan s lent z n in (p .worth-is, p .map-is)
+
+-- ---- the two forms of a sheet
+
+keeps-all : (s lent : List ℕ) → keepOf s lent .answer .refusal ≡ 0 → keepOf s lent ≡ wrote (keptOf s) lent
+unfolding keepOf
+keeps-all s lent = written-all (keepCauses s (length lent)) (keptOf s) lent
+
+restores-all : (k lent : List ℕ) → restoreOf k lent .answer .refusal ≡ 0 → restoreOf k lent ≡ wrote (restoredOf k) lent
+unfolding restoreOf
+restores-all k lent = written-all (restoreCauses k (length lent)) (restoredOf k) lent
+
+kept-forms : {s : List ℕ} → Bytes s → (lent : List ℕ) → keepOf s lent .answer .refusal ≡ 0 → TwoForms s (keptOf s) (countsIn s) (sheetMaps s) (turnsOf s)
+kept-forms {s} y lent z =
+    let a = keep-accepted-iff y lent .0 z .0 in
+    let n = sheet-named (a .sheet) in
+    let r = sheet-reads shiftSheet shift-sheet-sound s (a .counts) (a .turns) (a .sheet) in
+    rw (r .1, sheet-maps s (a .counts) (n .maps) (a .turns) (n .sheet), r .2) (record { by-record = n .sheet .bytes; by-column = sheet-kept s (a .counts) (n .maps) (a .turns) (n .sheet) })
+
+restored-forms : {k : List ℕ} → Bytes k → (lent : List ℕ) → restoreOf k lent .answer .refusal ≡ 0 → TwoForms (restoredOf k) k (countsIn k) (keptMaps k) (keptTurns k)
+restored-forms {k} y lent z =
+    let a = restore-accepted-iff y lent .0 z .0 in
+    let f = reads-kept y (kept-reads k (a .counts) (a .maps) (a .turns) (a .kept) .fine) in
+    record { by-record = kept-sheet k (countsIn k) (keptMaps k) (keptTurns k) f .bytes; by-column = f }
+
+-- ---- the readers by their limits
+
+reader-limit : (s lent : List ℕ) → readOf s lent ≡ readFor (withTurns shiftSheet 400 4) s lent
+unfolding readOf withTurns shiftSheet
+reader-limit s lent = refl
+
+short-limit : (s lent : List ℕ) → readShortOf s lent ≡ readFor (withTurns shiftSheet 96 20) s lent
+unfolding readShortOf shortSheet
+short-limit s lent = refl
+
 -- ---- what is asked of a board
 
 chosen-bit : (b : List ℕ) (t : ℕ) → (turnChosen b t ≡ true) ↔ ((openOf b ≡ 0) × (t < boardTurns b) × (chosenIn (boardMap b) t ≡ true))
@@ -435,10 +499,18 @@ promised =
       read = λ y lent. reads (read-promised y lent);
       read-short = λ y lent. reads (short-promised y lent);
       read-alike = short-same;
+      reader-is = reader-limit;
+      short-reader-is = short-limit;
+      limits-alike = λ K m i n j s a b e f. let p = both-alike K m i n j s a b e f in record { answer = p .one-answer; turns = p .same-rows; behind = p .first-behind; behind-too = p .second-behind };
+      limits-same = within-both;
       write = λ counts table lent z. writes (write-promised counts table lent z);
       draw = λ seed counts turns lent z.
           let p = draw-promised seed counts turns lent z in
           (p .drawn, p .many, λ k d l. let f = p .fields k d l in record { slope = f .slope; groomer = f .groomer; start = f .start; length = f .length; worth = f .worth; driver = f .driver }, p .as-written, writes (p .promised));
+      keep-writes = keeps-all;
+      keep-form = kept-forms;
+      restore-writes = restores-all;
+      restore-form = restored-forms;
       keep-back = keep-then-restore;
       restore-back = restore-then-keep;
       opens = open-accepted-iff;
@@ -461,7 +533,7 @@ promised =
       assign-behind = λ s lent z. assign-promised s lent z .behind;
       best = finds-best;
       improve = searches;
-      improve-none = λ s lent z n. let p = none-allowed-plan s lent z n in (p .worth-is, p .map-is);
+      improve-none = plan-back;
       play = plays-shift;
       play-alike = λ s b delays lent other room. let p = play-alike s b delays lent other room in (p .answer, p .standings);
       limit = limits-shift;

@@ -3,20 +3,23 @@ use Prim.Native.Nat.{ℕ, suc, _+_, _-_, _*_, _/_, _%_, _^_, _≤_, _<_}
 use mathlib.Core.Path.{_≡_}
 use mathlib.Core.Logic.{_↔_, _≢_, _⊎_}
 use mathlib.Core.Bool.{Bool, true, false, cond}
-use mathlib.Core.List.{List, [], _∷_}
+use mathlib.Core.List.{List, [], _∷_, _++_}
 use lib.Dec.{eqb}
+use lib.IntN.{ℤ}
 use lib.ListN.{length, getD, take, drop, replicate}
 use Rattle.lists.specs.Lists.{sumOver, below, All, In}
 use Rattle.lists.specs.Order.{howMany}
 use Rattle.refusal.specs.Outcome.{Outcome, beside}
 use Rattle.refusal.specs.Written.{Written, kept, wrote, writtenPart}
 use Rattle.wire.specs.Number.{Bytes}
+use Rattle.wire.specs.Mark.{sheetMark}
 use Rattle.turn.specs.declared.Counts.{Counts}
 use Rattle.turn.specs.declared.Turn.{Turn}
 use Rattle.turn.specs.Turn.{countsOf, rows, tableRows, tableTurns}
 use Rattle.sheet.specs.declared.kind.Kind.{Kind}
-use Rattle.sheet.specs.Kind.{shiftSheet}
-use Rattle.sheet.specs.Read.{countsIn, turnCount, turnsOf, readRefused, Reading, readOf}
+use Rattle.sheet.specs.Kind.{shiftSheet, withTurns}
+use Rattle.sheet.specs.Read.{countsIn, turnCount, turnsOf, readRefused, Reading, readFor, readOf}
+use Rattle.sheet.specs.Layout.{headerFor}
 use Rattle.sheet.specs.Accepted.{SheetFor, AcceptedFor, Accepted, SheetCause, FirstReadCause}
 use Rattle.sheet.specs.Short.{shortSheet, readShortOf, FirstShortCause}
 use Rattle.write_spec.specs.Order.{SameTurns, InWrittenOrder}
@@ -25,16 +28,17 @@ use Rattle.write_spec.specs.WriteCause.{FirstWriteCause}
 use Rattle.draw_spec.specs.Draw.{drawNumber, LengthAt}
 use Rattle.draw_spec.specs.DrawnSheet.{drawOf}
 use Rattle.draw_spec.specs.DrawCause.{FirstDrawCause}
+use Rattle.archive_spec.specs.Kept.{recordsBody, sheetMaps, keptOf, keptMaps, keptTurns, restoredOf}
 use Rattle.archive_spec.specs.Archive.{keepOf, restoreOf}
-use Rattle.archive_spec.specs.AcceptedKept.{FirstKeepCause, FirstRestoreCause}
+use Rattle.archive_spec.specs.AcceptedKept.{KeptFor, FirstKeepCause, FirstRestoreCause}
 use Rattle.model.specs.Turns.{Turns, Conflict, NoDrivers}
-use Rattle.model.specs.Steps.{Step, tally}
+use Rattle.model.specs.Steps.{Step, initial, afterStep, total, tally}
 use Rattle.model.specs.Pick.{steps}
 use Rattle.model.specs.Choice.{has, chosen, fits, fill, choice}
 use Rattle.model.specs.Filling.{FilledUp}
 use Rattle.model.specs.Feasible.{Feasible, worthOf, OneTurnASlope}
-use Rattle.model.specs.Ceiling.{ceiling}
-use Rattle.model.specs.Rules.{Independent, Maximal}
+use Rattle.model.specs.Ceiling.{stepCost, ceiling, Fewest}
+use Rattle.model.specs.Rules.{Independent, Maximal, Right}
 use Rattle.model.specs.IntervalSelection.{Selects}
 use Rattle.instance_spec.specs.Problem.{sheetTurns, SheetConflict}
 use Rattle.choice_map.specs.Choice.{mapBytes, mapOf, chosenIn, choiceIn, onesIn}
@@ -105,6 +109,13 @@ pub record Reads (K : Kind) (s lent : List ℕ) (x : Reading) : Type 0 where
   pub turns : x .answer .refusal ≡ 0 → (a : AcceptedFor K s) → take (6 * length (a .turns)) (x .lent) ≡ rows (a .turns)
   pub behind : x .answer .refusal ≡ 0 → (a : AcceptedFor K s) → drop (6 * length (a .turns)) (x .lent) ≡ drop (6 * length (a .turns)) lent
 
+-- R-8, of two readings into the lent tables a and b: one answer, the same turns, and after them either table is as it was
+pub record ReadsAlike (a b : List ℕ) (x y : Reading) : Type 0 where
+  pub answer : x .answer ≡ y .answer
+  pub turns : take (6 * x .answer .turns) (x .lent) ≡ take (6 * y .answer .turns) (y .lent)
+  pub behind : drop (6 * x .answer .turns) (x .lent) ≡ drop (6 * x .answer .turns) a
+  pub behind-too : drop (6 * y .answer .turns) (y .lent) ≡ drop (6 * y .answer .turns) b
+
 -- R-1, R-5. The bytes b that were written are an accepted sheet of these counts
 pub record Writes (counts : Counts) (table lent b : List ℕ) (x : Written) : Type 0 where
   pub many : length b ≡ x .answer .bytes
@@ -127,6 +138,11 @@ pub record Writes (counts : Counts) (table lent b : List ℕ) (x : Written) : Ty
   pub first-map : (t : Turn) (ts : List Turn) → InWrittenOrder (tableTurns table) (t ∷ ts) → (getD b 7 0 ≡ 0x3F) ↔ (t .driver ≢ 0)
   pub first-map-else : (t : Turn) (ts : List Turn) → InWrittenOrder (tableTurns table) (t ∷ ts) → t .driver ≡ 0 → getD b 7 0 ≡ 0x1F
   pub behind : drop (x .answer .bytes) (x .lent) ≡ drop (x .answer .bytes) lent
+
+-- R-12. A sheet s and a kept form k have the same counts, maps and turns: one record by record, the other by column
+pub record TwoForms (s k : List ℕ) (counts : Counts) (maps : List ℕ) (turns : List Turn) : Type 0 where
+  pub by-record : s ≡ headerFor sheetMark counts (length turns) ++ recordsBody maps turns
+  pub by-column : KeptFor k counts maps turns
 
 -- R-11. Turn k of a seed, from 0, goes by draws 5k + 1 to 5k + 5, and has no driver
 pub record Draws (counts : Counts) (seed k : ℕ) (t : Turn) : Type 0 where
@@ -167,8 +183,12 @@ pub record Checks (s b : List ℕ) : Type 0 where
   pub exactly : (checkOf s b .refusal ≡ 0) ↔ (Accepted s × BoardKeeps s b)
   pub keeps : Accepted s → BoardKeeps s b ↔ ((k r : ℕ) → BoardCause (sheetTurns s) b k r → ⊥)
   pub passes : (checkOf s b .refusal ≡ 0) ↔ ((k r : ℕ) → CheckCause s b k r → ⊥)
-  -- then tally and worth come back as they stand in it, with the ceiling (R-7), and it binds every feasible set, whoever made it
+  -- then tally and worth come back as they stand in it, with the ceiling
   pub answers : checkOf s b .refusal ≡ 0 → checkOf s b ≡ checked 0 (boardTally b) (boardWorth b) (ceiling (sheetTurns s) (writtenSteps b))
+  -- R-7: the ceiling is what the steps count for, added up; a right step counts for its amount once for each of the fewest groups that hold what it touches
+  pub ceiling-sums : (xs : List Step) → ceiling (sheetTurns s) xs ≡ total (afterStep (sheetTurns s)) (stepCost (sheetTurns s)) (initial (sheetTurns s)) xs
+  pub counted : (r : List ℤ) (x : Step) → Right (sheetTurns s) r x → (k : ℕ) × Fewest (sheetTurns s) r (x .turn) k × (stepCost (sheetTurns s) r x ≡ k * x .amount)
+  -- it binds every feasible set, whoever made it
   pub binds : checkOf s b .refusal ≡ 0 → Binds (sheetTurns s) (boardChoice b) (boardTally b) (boardWorth b) (checkOf s b .ceiling)
 
 -- ---- the planner
@@ -407,12 +427,23 @@ pub record Promised : Type 0 where
   pub read-short : {s : List ℕ} → Bytes s → (lent : List ℕ) → Reads shortSheet s lent (readShortOf s lent)
   -- R-8: what the short reader accepts it reads as a shift does
   pub read-alike : (s lent : List ℕ) → readShortOf s lent .answer .refusal ≡ 0 → readShortOf s lent ≡ readOf s lent
+  -- the two readers are one, at limits of 400 and 96. For any limits m and n, and numbers i and j for more turns: what both accept they read alike, and of no more turns than both limits they say the same
+  pub reader-is : (s lent : List ℕ) → readOf s lent ≡ readFor (withTurns shiftSheet 400 4) s lent
+  pub short-reader-is : (s lent : List ℕ) → readShortOf s lent ≡ readFor (withTurns shiftSheet 96 20) s lent
+  pub limits-alike : (K : Kind) (m i n j : ℕ) (s a b : List ℕ) → readFor (withTurns K m i) s a .answer .refusal ≡ 0 → readFor (withTurns K n j) s b .answer .refusal ≡ 0 →
+      ReadsAlike a b (readFor (withTurns K m i) s a) (readFor (withTurns K n j) s b)
+  pub limits-same : (K : Kind) (m i n j : ℕ) (s : List ℕ) → turnCount s ≤ m → turnCount s ≤ n → (lent : List ℕ) → readFor (withTurns K m i) s lent ≡ readFor (withTurns K n j) s lent
   pub write : (counts : Counts) (table lent : List ℕ) → writeOf counts table lent .answer .refusal ≡ 0 → Writes counts table lent (writtenPart (writeOf counts table lent)) (writeOf counts table lent)
   -- R-11: the sheet of a seed is what the writer gives for the drawn turns, and keeps all that the writer promises
   pub draw : (seed : ℕ) (counts : Counts) (turns : ℕ) (lent : List ℕ) → drawOf seed counts turns lent .answer .refusal ≡ 0 →
       (ts : List Turn) × (length ts ≡ turns) × ((k : ℕ) (d : Turn) → k < turns → Draws counts seed k (getD ts k d)) × (drawOf seed counts turns lent ≡ writeOf counts (rows ts) lent)
       × Writes counts (rows ts) lent (writtenPart (writeOf counts (rows ts) lent)) (writeOf counts (rows ts) lent)
-  -- R-12: kept and restored, or restored and kept, the very bytes come back
+  -- R-12: what is written is the other form, and the lent bytes go on as they were
+  pub keep-writes : (s lent : List ℕ) → keepOf s lent .answer .refusal ≡ 0 → keepOf s lent ≡ wrote (keptOf s) lent
+  pub keep-form : {s : List ℕ} → Bytes s → (lent : List ℕ) → keepOf s lent .answer .refusal ≡ 0 → TwoForms s (keptOf s) (countsIn s) (sheetMaps s) (turnsOf s)
+  pub restore-writes : (k lent : List ℕ) → restoreOf k lent .answer .refusal ≡ 0 → restoreOf k lent ≡ wrote (restoredOf k) lent
+  pub restore-form : {k : List ℕ} → Bytes k → (lent : List ℕ) → restoreOf k lent .answer .refusal ≡ 0 → TwoForms (restoredOf k) k (countsIn k) (keptMaps k) (keptTurns k)
+  -- kept and restored, or restored and kept, the very bytes come back
   pub keep-back : {s : List ℕ} → Bytes s → (lent other : List ℕ) → keepOf s lent .answer .refusal ≡ 0 → length s ≤ length other → restoreOf (writtenPart (keepOf s lent)) other ≡ wrote s other
   pub restore-back : {k : List ℕ} → Bytes k → (lent other : List ℕ) → restoreOf k lent .answer .refusal ≡ 0 → length k ≤ length other → keepOf (writtenPart (restoreOf k lent)) other ≡ wrote k other
   -- 01, the board: opening accepts exactly a board; then the count is that of its chosen turns, and without a board it refuses
@@ -439,8 +470,8 @@ pub record Promised : Type 0 where
   pub assign-behind : (s lent : List ℕ) → assignOf s lent .answer .refusal ≡ 0 → drop (turnCount s) (assignOf s lent .lent) ≡ drop (turnCount s) lent
   pub best : (s lent : List ℕ) → bestOf s lent .answer .refusal ≡ 0 → FindsBest s lent (sheetTurns s) (shownIn s (bestOf s lent .lent)) (bestOf s lent)
   pub improve : (s : List ℕ) (limit : ℕ) (lent : List ℕ) → improveOf s limit lent .answer .refusal ≡ 0 → Searches s limit lent (sheetTurns s) (shownIn s (improveOf s limit lent .lent)) (improveOf s limit lent)
-  -- R-10: with no visits allowed and a turn to visit, the planned board's worth and map come back
-  pub improve-none : (s lent : List ℕ) → improveOf s 0 lent .answer .refusal ≡ 0 → turnCount s ≢ 0 → (improveOf s 0 lent .answer .worth ≡ boardWorth (plannedBoard s)) × (mapIn s (improveOf s 0 lent .lent) ≡ boardMap (plannedBoard s))
+  -- R-10: with no visits allowed, the planned board's worth and map come back
+  pub improve-none : (s lent : List ℕ) → improveOf s 0 lent .answer .refusal ≡ 0 → (improveOf s 0 lent .answer .worth ≡ boardWorth (plannedBoard s)) × (mapIn s (improveOf s 0 lent .lent) ≡ boardMap (plannedBoard s))
   pub play : (s b delays : List ℕ) (lent : List Standing) → playOf s b delays lent .answer .refusal ≡ 0 →
       PlaysShift (sheetTurns s) (turnCount s) (boardChoice b) (delayIn delays) (countsIn s .groomers) (dayAt s b delays) lent (playOf s b delays lent)
   -- R-13: what the list held plays no part
