@@ -166,7 +166,7 @@ pub record Binds (T : Turns) (S : List Bool) (tallied worth bound : ℕ) : Type 
   -- R-5, on every sheet, drivers or not: none is worth more than three times the tally, nor, where no slope has two turns, more than twice
   pub thrice : CapsShift T (3 * tallied)
   pub twice-single : OneTurnASlope T → CapsShift T (2 * tallied)
-  -- R-7: nor more than the ceiling, which lies between the tally and those multiples
+  -- R-7: nor more than the ceiling, which is the tally or more, and at most three times the tally, without drivers at most twice
   pub capped : CapsShift T bound
   pub ceiling-from : tallied ≤ bound
   pub ceiling-to : bound ≤ 3 * tallied
