@@ -139,11 +139,6 @@ pub record Writes (counts : Counts) (table lent b : List ℕ) (x : Written) : Ty
   pub first-map-else : (t : Turn) (ts : List Turn) → InWrittenOrder (tableTurns table) (t ∷ ts) → t .driver ≡ 0 → getD b 7 0 ≡ 0x1F
   pub behind : drop (x .answer .bytes) (x .lent) ≡ drop (x .answer .bytes) lent
 
--- R-12. A sheet s and a kept form k have the same counts, maps and turns: one record by record, the other by column
-pub record TwoForms (s k : List ℕ) (counts : Counts) (maps : List ℕ) (turns : List Turn) : Type 0 where
-  pub by-record : s ≡ headerFor sheetMark counts (length turns) ++ recordsBody maps turns
-  pub by-column : KeptFor k counts maps turns
-
 -- R-11. Turn k of a seed, from 0, goes by draws 5k + 1 to 5k + 5, and has no driver
 pub record Draws (counts : Counts) (seed k : ℕ) (t : Turn) : Type 0 where
   pub slope : t .slope ≡ 1 + drawNumber (5 * k + 1) seed % counts .slopes
@@ -152,6 +147,11 @@ pub record Draws (counts : Counts) (seed k : ℕ) (t : Turn) : Type 0 where
   pub length : LengthAt (drawNumber (5 * k + 4) seed % 100) (t .length)
   pub worth : t .worth ≡ 1 + drawNumber (5 * k + 5) seed % 60000
   pub driver : t .driver ≡ 0
+
+-- R-12. A sheet s and a kept form k have the same counts, maps and turns: one record by record, the other by column
+pub record TwoForms (s k : List ℕ) (counts : Counts) (maps : List ℕ) (turns : List Turn) : Type 0 where
+  pub by-record : s ≡ headerFor sheetMark counts (length turns) ++ recordsBody maps turns
+  pub by-column : KeptFor k counts maps turns
 
 -- ---- the check and the claim
 
@@ -427,7 +427,7 @@ pub record Promised : Type 0 where
   pub read-short : {s : List ℕ} → Bytes s → (lent : List ℕ) → Reads shortSheet s lent (readShortOf s lent)
   -- R-8: what the short reader accepts it reads as a shift does
   pub read-alike : (s lent : List ℕ) → readShortOf s lent .answer .refusal ≡ 0 → readShortOf s lent ≡ readOf s lent
-  -- the two readers are one, at limits of 400 and 96. For any limits m and n, and numbers i and j for more turns: what both accept they read alike, and of no more turns than both limits they say the same
+  -- the two readers are one, at limits of 400 and 96. For any limits m and n, and numbers i and j for more turns: what both accept they read alike, and a sheet within both limits gets the same from both
   pub reader-is : (s lent : List ℕ) → readOf s lent ≡ readFor (withTurns shiftSheet 400 4) s lent
   pub short-reader-is : (s lent : List ℕ) → readShortOf s lent ≡ readFor (withTurns shiftSheet 96 20) s lent
   pub limits-alike : (K : Kind) (m i n j : ℕ) (s a b : List ℕ) → readFor (withTurns K m i) s a .answer .refusal ≡ 0 → readFor (withTurns K n j) s b .answer .refusal ≡ 0 →
