@@ -12,8 +12,10 @@ use Rattle.sheet.proofs.Accepting.{read-accepted-iff}
 use Rattle.sheet.specs.Short.{shortSheet}
 use Rattle.sheet.proofs.Limits.{short-accepted-iff}
 use Rattle.write_spec.proofs.RoundTrip.{write-room-iff}
+use Rattle.archive_spec.specs.Column.{columnsOf}
 use Rattle.archive_spec.specs.Kept.{archive}
 use Rattle.choice_map.specs.Choice.{bitOf, chosenIn}
+use Rattle.board.specs.Board.{stepsIn, writtenSteps}
 use Rattle.archive_spec.proofs.KeptCauses.{keep-accepted-iff, restore-accepted-iff}
 use Rattle.instance_spec.specs.Problem.{problemOf, sheetTurns}
 use Rattle.plan_spec.proofs.PlanCauses.{plan-accepted-iff}
@@ -28,11 +30,11 @@ use Rattle.draw_spec.proofs.Draws.{ten-thousandth, length-first, length-second,
 use Rattle.charge_spec.specs.Hall.{isWide, wideDraw}
 use Rattle.charge_spec.specs.Plan.{roundedUp, smallTakes}
 use Rattle.charge_spec.specs.Charge.{chargingSheet}
-use Rattle.limit_spec.specs.Prices.{slopePrice, turnPrice}
+use Rattle.limit_spec.specs.Prices.{slopePrice, turnPrice, paysTurn, paidBy, countsFor}
 use Rattle.limit_spec.proofs.LimitCauses.{limit-accepted-iff}
 use Rattle.refine_spec.specs.Rounds.{startFrom, firstChange, nextChange}
 use Rattle.refine_spec.specs.Shift.{movedPrice, turnChange, shiftStart, shiftRule}
-use Rattle.hall_by_prices_spec.specs.Prices.{minutePrice, windowPays, supplyCost}
+use Rattle.hall_by_prices_spec.specs.Prices.{minutePrice, minutesCost, windowPays, windowCounts, supplyCost}
 use Rattle.hall_by_prices_spec.specs.Hall.{movedMinute, hallStart, hallRule}
 use Rattle.charge_spec.proofs.ChargeCauses.{charge-accepted-iff}
 use Rattle.refine_spec.specs.Selection.{poorerFirst, choiceFrom}
@@ -42,7 +44,7 @@ use Rattle.hall_by_prices_spec.proofs.LimitCauses.{charge-limit-accepted-iff}
 use Rattle.figures.specs.Figures.{Figures}
 
 pub figures : Figures
-unfolding outsideRange bitOf chosenIn shiftSheet withTurns widthOf field turnFrom shortSheet archive problemOf sheetTurns nextDraw turnDrawn isWide wideDraw roundedUp smallTakes chargingSheet startFrom firstChange nextChange movedPrice turnChange shiftStart windowPays supplyCost movedMinute hallStart slopePrice turnPrice minutePrice poorerFirst choiceFrom shiftRule hallRule
+unfolding outsideRange bitOf chosenIn shiftSheet withTurns widthOf field turnFrom shortSheet archive problemOf sheetTurns nextDraw turnDrawn isWide wideDraw roundedUp smallTakes chargingSheet startFrom firstChange nextChange movedPrice turnChange shiftStart windowPays supplyCost movedMinute hallStart slopePrice turnPrice minutePrice poorerFirst choiceFrom shiftRule hallRule stepsIn writtenSteps paysTurn paidBy countsFor minutesCost windowCounts columnsOf
 figures =
     record {
       groomers = refl;
@@ -86,6 +88,7 @@ figures =
       shift-sheet-kind = refl;
       short-sheet-kind = refl;
       kept-kind = refl;
+      columns = λ maps ts. refl;
       charging-kind = refl;
       board-header = refl;
       board-turns = refl;
@@ -94,6 +97,8 @@ figures =
       board-worth = refl;
       map-bytes = λ n. refl;
       step-bytes = refl;
+      step-at = λ bytes i. refl;
+      written-steps = λ b. refl;
       map-bit = λ map t. refl;
       board-bytes = λ n m. refl;
       planner-need = plan-accepted-iff;
@@ -127,6 +132,8 @@ figures =
       hall-gap = refl;
       wide = λ H t. refl;
       small-share = λ H j amount t e f. rw (e, f);
+      small-same = λ H j amount t e. rw e;
+      small-none = λ H j amount t e f. rw (e, f);
       next-draw = λ x. refl;
       seed = refl;
       ten-thousandth = ten-thousandth;
@@ -145,7 +152,12 @@ figures =
       slope-place = λ prices slope. refl;
       turn-place = λ slopes prices u. refl;
       minute-place = λ prices minute. refl;
+      pays-turn = λ T u t. refl;
+      turn-pays = λ T slopes prices t. refl;
+      turn-counts = λ T slopes prices t. refl;
+      minutes-cost = λ H prices t. refl;
       window-pays = λ H prices t. refl;
+      window-counts = λ H prices t. refl;
       supply-costs = λ H prices. refl;
       first-change = λ T groomers slopes. refl;
       first-hall-change = λ H vehicles. refl;

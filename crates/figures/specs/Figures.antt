@@ -1,13 +1,13 @@
 -- The numbers that the format's description fixes, on one page: each is said of a definition with a literal, mostly as an equation (documents 01, 02 and 03). Assumes nothing.
 use Prim.Native.Nat.{ℕ, _+_, _-_, _*_, _/_, _%_, _^_, _≤_, _<_, max, min}
 use mathlib.Core.Path.{_≡_}
-use mathlib.Core.Bool.{Bool, true, false, _&&_, _||_}
+use mathlib.Core.Bool.{Bool, true, false, cond, _&&_, _||_}
 use mathlib.Core.Logic.{_↔_}
-use mathlib.Core.List.{List, [], _∷_}
+use mathlib.Core.List.{List, [], _∷_, _++_}
 use lib.Dec.{ltb, eqb, leb}
-use lib.ListN.{length, getD, replicate}
+use lib.ListN.{length, getD, drop, replicate}
 use lib.IntN.{pos, negℤ}
-use Rattle.lists.specs.Lists.{sumOver, below, keep}
+use Rattle.lists.specs.Lists.{sumOver, tab, below, keep}
 use Rattle.refusal.specs.Number.{truncated, badMagic, badCounts, tooManyTurns, badMap, badSlope, badGroomer, badTime, badWorth, trailingBytes, bufferTooSmall, malformedBoard, chosenConflict, notMaximal, wrongStep, turnLeftOpen, wrongSums, partialTurn, badDriver, tooManyForShort, notSingleTurns, tooManyToSearch, badSeed, badDelays, badDraw, badPrices}
 use Rattle.wire.specs.Number.{valueAt, Bytes}
 use Rattle.wire.specs.Mark.{sheetMark, boardMark, keptMark, chargingMark}
@@ -20,13 +20,14 @@ use Rattle.sheet.specs.Read.{headerBytes, countsIn, turnCount, readOf}
 use Rattle.sheet.specs.Accepted.{Legal, Accepted}
 use Rattle.sheet.specs.Short.{shortTurns, shortSheet, readShortOf, AcceptedShort}
 use Rattle.write_spec.specs.Write.{writeOf}
+use Rattle.archive_spec.specs.Column.{valuesOf, columnOf, columnsOf}
 use Rattle.archive_spec.specs.Kept.{archive}
 use Rattle.choice_map.specs.Choice.{mapBytes, chosenIn}
 use Rattle.archive_spec.specs.AcceptedKept.{AcceptedKept}
 use Rattle.archive_spec.specs.Archive.{keepOf, restoreOf}
-use Rattle.board.specs.Board.{turnsPlace, stepCountPlace, tallyPlace, worthPlace, boardHeader, stepSize, boardLength}
+use Rattle.board.specs.Board.{turnsPlace, stepCountPlace, tallyPlace, worthPlace, boardHeader, stepSize, boardLength, stepAt, writtenSteps}
 use Rattle.instance_spec.specs.Problem.{shiftGap, sheetTurns}
-use Rattle.model.specs.Turns.{Turns, NoDrivers}
+use Rattle.model.specs.Turns.{Turns, NoDrivers, byDriver}
 use Rattle.model.specs.Choice.{has, fits, chooseEach}
 use Rattle.model.specs.Feasible.{Feasible, worthOf, OneTurnASlope}
 use Rattle.model.specs.Promises.{Promises}
@@ -43,17 +44,17 @@ use Rattle.play_spec.specs.Day.{overMinutes, mostDelay}
 use Rattle.play_spec.specs.declared.Standing.{Standing}
 use Rattle.play_spec.specs.Standing.{noTurnNumber}
 use Rattle.play_spec.specs.Play.{playOf}
-use Rattle.charge_spec.specs.Hall.{mostUnits, mostVehicles, hallGap, Hall, windowCount, draw, sameVehicle, shareMinute, isWide, staysAllowed, Allowed}
+use Rattle.charge_spec.specs.Hall.{mostUnits, mostVehicles, hallGap, Hall, windowCount, draw, sameVehicle, shareMinute, chargesAt, isWide, staysAllowed, Allowed}
 use Rattle.charge_spec.specs.Plan.{smallTakes, smallSteps, hallWorth}
 use Rattle.charge_spec.specs.Promises.{worthOfWindows, HallPromises}
 use Rattle.charge_spec.specs.Charge.{chargingSheet, AcceptedCharging, chargeOf}
-use Rattle.limit_spec.specs.Prices.{slopePrice, turnPrice}
+use Rattle.limit_spec.specs.Prices.{slopePrice, turnPrice, paysTurn, paidBy, countsFor}
 use Rattle.limit_spec.specs.Limit.{limitOf}
 use Rattle.refine_spec.specs.Rounds.{nextChange, greatestOf}
 use Rattle.refine_spec.specs.Selection.{poorerFirst, byWorth}
 use Rattle.refine_spec.specs.Shift.{relaxedSet, movedPrice, turnChange, shiftRule, greatestWorth, shiftStart}
 use Rattle.refine_spec.specs.Refine.{refineOf}
-use Rattle.hall_by_prices_spec.specs.Prices.{minutesCost, windowPays, minutePrice, supplyCost, hallRelaxed}
+use Rattle.hall_by_prices_spec.specs.Prices.{minutesCost, windowPays, windowCounts, minutePrice, supplyCost, hallRelaxed}
 use Rattle.hall_by_prices_spec.specs.Hall.{movedMinute, hallRule, hallStart}
 use Rattle.hall_by_prices_spec.specs.Refine.{chargeRefineOf}
 use Rattle.hall_by_prices_spec.specs.Limit.{chargeLimitOf}
@@ -71,11 +72,11 @@ pub record Figures : Type 0 where
   pub driver : mostDriver ≡ 40
   -- groomers, slopes and worths are counted from 1: 0 is out of their range
   pub from-one : (most : ℕ) → outsideRange 0 most ≡ true
-  -- and the greatest number is still in it
+  -- in range are exactly the numbers from 1 to the greatest
   pub to-most : (x most : ℕ) → (outsideRange x most ≡ false) ↔ ((1 ≤ x) × (x ≤ most))
   -- a length is at least 1, and an end of 960 is still right
   pub times : (start len : ℕ) → (pastShift start len ≡ false) ↔ ((1 ≤ len) × (start + len ≤ 960))
-  -- what remains of a worth is never below -59,999
+  -- the least that can remain of a worth
   pub least-left : leastResidual ≡ negℤ (pos 59999)
   -- ten free minutes between two turns of a groomer or of a driver, on every sheet
   pub gap : shiftGap ≡ 10
@@ -117,7 +118,7 @@ pub record Figures : Type 0 where
       → turnFrom s at 0x3F p ≡ record { slope = valueAt s at 1; groomer = valueAt s (at + 1) 1; start = valueAt s (at + 2) 2; length = valueAt s (at + 4) 2; worth = valueAt s (at + 6) 2; driver = valueAt s (at + 8) 1 }
   -- a turn has six numbers in a table
   pub row : rowNumbers ≡ 6
-  -- and so many places the reader needs for each
+  -- the reader needs six places a turn
   pub reader-need : {s : List ℕ} → Bytes s → (lent : List ℕ) → (readOf s lent .answer .refusal ≡ 0) ↔ (Accepted s × (6 * turnCount s ≤ length lent))
   -- the four kinds of sheet: mark, greatest counts, maps, and the refusals of counts, turns, slope and groomer. A shift's
   pub shift-sheet-kind :
@@ -131,6 +132,16 @@ pub record Figures : Type 0 where
   pub kept-kind :
       archive
       ≡ record { mark = 0x47 ∷ 0x52 ∷ 0x43 ∷ []; most = record { groomers = 16; slopes = 120; turns = 400 }; maps = record { first = 0x1F; full = 0x3F }; refusals = record { counts = 3; turns = 4; slope = 6; groomer = 7 } }
+  -- its columns, after the maps: slopes, groomers, starts, lengths, worths, drivers; each field with its place in a row, what its bit counts for in a map, and how many bytes it has
+  pub columns :
+      (maps : List ℕ) (ts : List Turn)
+      → columnsOf maps ts
+      ≡ columnOf (record { place = 0; unit = 1; width = 1 }) maps (valuesOf (record { place = 0; unit = 1; width = 1 }) ts)
+      ++ (columnOf (record { place = 1; unit = 2; width = 1 }) maps (valuesOf (record { place = 1; unit = 2; width = 1 }) ts)
+      ++ (columnOf (record { place = 2; unit = 4; width = 2 }) maps (valuesOf (record { place = 2; unit = 4; width = 2 }) ts)
+      ++ (columnOf (record { place = 3; unit = 8; width = 2 }) maps (valuesOf (record { place = 3; unit = 8; width = 2 }) ts)
+      ++ (columnOf (record { place = 4; unit = 16; width = 2 }) maps (valuesOf (record { place = 4; unit = 16; width = 2 }) ts)
+      ++ columnOf (record { place = 5; unit = 32; width = 1 }) maps (valuesOf (record { place = 5; unit = 32; width = 1 }) ts)))))
   -- the hall's: units and vehicles stand for groomers and slopes
   pub charging-kind :
       chargingSheet
@@ -146,6 +157,9 @@ pub record Figures : Type 0 where
   -- then a bit a turn, in whole bytes, and four bytes a step
   pub map-bytes : (n : ℕ) → mapBytes n ≡ (n + 7) / 8
   pub step-bytes : stepSize ≡ 4
+  -- step i of them: two bytes for its turn, two for its amount
+  pub step-at : (bytes : List ℕ) (i : ℕ) → stepAt bytes i ≡ record { turn = valueAt bytes (4 * i) 2; amount = valueAt bytes (4 * i + 2) 2 }
+  pub written-steps : (b : List ℕ) → writtenSteps b ≡ tab (valueAt b 5 2) (stepAt (drop (15 + (valueAt b 3 2 + 7) / 8) b))
   -- the bit of turn t is bit t % 8, from the lowest, of byte t / 8 of the map
   pub map-bit : (map : List ℕ) (t : ℕ) → chosenIn map t ≡ eqb (getD map (t / 8) 0 / 2 ^ (t % 8) % 2) 1
   pub board-bytes : (n m : ℕ) → boardLength n m ≡ 15 + (n + 7) / 8 + 4 * m
@@ -153,13 +167,13 @@ pub record Figures : Type 0 where
   pub planner-need : {s : List ℕ} → Bytes s → (lent : List ℕ) → (planOf s lent .answer .refusal ≡ 0) ↔ (Accepted s × (15 + (turnCount s + 7) / 8 + 4 * turnCount s ≤ length lent))
   -- ---- what the other entries accept, and how long a lent place must be
 
-  -- the short reader: as a shift's
+  -- the short reader: as the reader's
   pub short-reader-need : {s : List ℕ} → Bytes s → (lent : List ℕ) → (readShortOf s lent .answer .refusal ≡ 0) ↔ (AcceptedShort s × (6 * turnCount s ≤ length lent))
-  -- the writer: as many bytes as it writes where a table is accepted
+  -- the writer, for a table that it accepts: the bytes that it writes
   pub write-need :
       (counts : Counts) (table place : List ℕ) → writeOf counts table place .answer .refusal ≡ 0
       → (lent : List ℕ) → (writeOf counts table lent .answer .refusal ≡ 0) ↔ (writeOf counts table place .answer .bytes ≤ length lent)
-  -- drawing: a seed from 1 to 2,147,483,646, counts of a header, and the bytes of the sheet
+  -- drawing: a seed from 1 to 2,147,483,646, counts and turns that a header may have, and the bytes of the sheet
   pub draw-need :
       (seed : ℕ) (counts : Counts) (turns : ℕ) (lent : List ℕ)
       → (drawOf seed counts turns lent .answer .refusal ≡ 0) ↔ (((1 ≤ seed) × (seed ≤ 2147483646)) × Legal shiftSheet counts turns × (length (drawnSheet seed counts turns) ≤ length lent))
@@ -211,6 +225,9 @@ pub record Figures : Type 0 where
   pub wide : (H : Hall) (t : ℕ) → isWide H t ≡ ltb (H .units) (2 * draw H t)
   -- a step takes from a small window of another vehicle that shares a minute: twice its draw times the amount, by the units, rounded up
   pub small-share : (H : Hall) (j amount t : ℕ) → sameVehicle H j t ≡ false → shareMinute H j t ≡ true → smallTakes H j amount t ≡ (2 * draw H t * amount + (H .units - 1)) / H .units
+  -- from one of the same vehicle its amount, from any other nothing
+  pub small-same : (H : Hall) (j amount t : ℕ) → sameVehicle H j t ≡ true → smallTakes H j amount t ≡ amount
+  pub small-none : (H : Hall) (j amount t : ℕ) → sameVehicle H j t ≡ false → shareMinute H j t ≡ false → smallTakes H j amount t ≡ 0
   -- ---- drawn sheets
 
   -- the generator, the greatest seed, and the ten-thousandth draw from seed 1
@@ -240,16 +257,24 @@ pub record Figures : Type 0 where
   pub slope-place : (prices : List ℕ) (slope : ℕ) → slopePrice prices slope ≡ getD prices (slope - 1) 0
   pub turn-place : (slopes : ℕ) (prices : List ℕ) (u : ℕ) → turnPrice slopes prices u ≡ getD prices (slopes + u) 0
   pub minute-place : (prices : List ℕ) (minute : ℕ) → minutePrice prices minute ≡ getD prices minute 0
-  -- a hall's prices are sixteenths
+  -- a turn pays the price of its slope; if it has a driver, also that of each turn of this driver that overlaps it and ends no later, itself among them. It counts for what is left of its worth, not below 0
+  pub pays-turn : (T : Turns) (u t : ℕ) → paysTurn T u t ≡ (byDriver T u t && leb (T .end u) (T .end t))
+  pub turn-pays :
+      (T : Turns) (slopes : ℕ) (prices : List ℕ) (t : ℕ)
+      → paidBy T slopes prices t ≡ slopePrice prices (T .slope t) + sumOver (λ u. cond (paysTurn T u t) (turnPrice slopes prices u) 0) (below (T .count))
+  pub turn-counts : (T : Turns) (slopes : ℕ) (prices : List ℕ) (t : ℕ) → countsFor T slopes prices t ≡ T .worth t - paidBy T slopes prices t
+  -- a hall's prices are sixteenths; a window counts for what is left of its worth, not below 0
+  pub minutes-cost : (H : Hall) (prices : List ℕ) (t : ℕ) → minutesCost H prices t ≡ sumOver (λ m. cond (chargesAt H m t) (minutePrice prices m) 0) (below 960)
   pub window-pays : (H : Hall) (prices : List ℕ) (t : ℕ) → windowPays H prices t ≡ draw H t * minutesCost H prices t / 16
+  pub window-counts : (H : Hall) (prices : List ℕ) (t : ℕ) → windowCounts H prices t ≡ H .windows .worth t - windowPays H prices t
   pub supply-costs : (H : Hall) (prices : List ℕ) → supplyCost H prices ≡ H .units * sumOver (minutePrice prices) (below 960) / 16
-  -- the first change is a quarter of the greatest worth, in a hall an eighth, rounded up; from round to round it loses a sixteenth, and is never below 1
+  -- the first change is a quarter of the greatest worth, in a hall an eighth, rounded up; the next change is fifteen sixteenths of the last, rounded down, at least 1
   pub first-change : (T : Turns) (groomers slopes : ℕ) → shiftStart T groomers slopes .change ≡ (greatestWorth T + 3) / 4
   pub first-hall-change : (H : Hall) (vehicles : ℕ) → hallStart H vehicles .change ≡ (greatestOf (H .windows .worth) (below (windowCount H)) + 7) / 8
   pub next-change : (change : ℕ) → nextChange change ≡ max 1 (15 * change / 16)
   -- a turn's price changes by half of it, and at least by 1
   pub turn-change : (change : ℕ) → turnChange change ≡ max 1 (change / 2)
-  -- a price that no turn pays falls by the change, and a difference of numbers is not below 0; one that a single turn pays stays
+  -- a price that no turn pays falls by the change, not below 0; one that a single turn pays stays
   pub price-without-payers : (change price : ℕ) → movedPrice change 0 price ≡ price - change
   pub lone-price : (change price : ℕ) → movedPrice change 1 price ≡ price
   -- a price that k turns pay, k above 1, rises to 60,000 at most; one of a minute in which more than the units is drawn, to 65,535; one of another minute falls, not below 0

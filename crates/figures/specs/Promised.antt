@@ -1,22 +1,25 @@
--- What is promised, each promise in full: of the bytes that an entry is given, of what it returns, and of what the lent places hold then (documents 01, 02 and 03). No other record of promises is cited, so that what one of them leaves out is missed here. Assumes nothing.
+-- What is promised, each promise in full: of the bytes that an entry is given, of what it returns, and of what the lent places hold then (documents 01, 02 and 03). No other record of promises is cited, so that what another record leaves out is noticed here. Assumes nothing.
 use Prim.Native.Nat.{ℕ, suc, _+_, _-_, _*_, _/_, _%_, _^_, _≤_, _<_}
 use mathlib.Core.Path.{_≡_}
 use mathlib.Core.Logic.{_↔_, _≢_, _⊎_}
 use mathlib.Core.Bool.{Bool, true, false, cond}
-use mathlib.Core.List.{List, _∷_}
+use mathlib.Core.List.{List, [], _∷_, _++_}
 use lib.Dec.{eqb}
+use lib.IntN.{ℤ}
 use lib.ListN.{length, getD, take, drop, replicate}
 use Rattle.lists.specs.Lists.{sumOver, below, All, In}
 use Rattle.lists.specs.Order.{howMany}
 use Rattle.refusal.specs.Outcome.{Outcome, beside}
 use Rattle.refusal.specs.Written.{Written, kept, wrote, writtenPart}
 use Rattle.wire.specs.Number.{Bytes}
+use Rattle.wire.specs.Mark.{sheetMark}
 use Rattle.turn.specs.declared.Counts.{Counts}
 use Rattle.turn.specs.declared.Turn.{Turn}
 use Rattle.turn.specs.Turn.{countsOf, rows, tableRows, tableTurns}
 use Rattle.sheet.specs.declared.kind.Kind.{Kind}
-use Rattle.sheet.specs.Kind.{shiftSheet}
-use Rattle.sheet.specs.Read.{countsIn, turnCount, turnsOf, readRefused, Reading, readOf}
+use Rattle.sheet.specs.Kind.{shiftSheet, withTurns}
+use Rattle.sheet.specs.Read.{countsIn, turnCount, turnsOf, readRefused, Reading, readFor, readOf}
+use Rattle.sheet.specs.Layout.{headerFor}
 use Rattle.sheet.specs.Accepted.{SheetFor, AcceptedFor, Accepted, SheetCause, FirstReadCause}
 use Rattle.sheet.specs.Short.{shortSheet, readShortOf, FirstShortCause}
 use Rattle.write_spec.specs.Order.{SameTurns, InWrittenOrder}
@@ -25,19 +28,20 @@ use Rattle.write_spec.specs.WriteCause.{FirstWriteCause}
 use Rattle.draw_spec.specs.Draw.{drawNumber, LengthAt}
 use Rattle.draw_spec.specs.DrawnSheet.{drawOf}
 use Rattle.draw_spec.specs.DrawCause.{FirstDrawCause}
+use Rattle.archive_spec.specs.Kept.{recordsBody, sheetMaps, keptOf, keptMaps, keptTurns, restoredOf}
 use Rattle.archive_spec.specs.Archive.{keepOf, restoreOf}
-use Rattle.archive_spec.specs.AcceptedKept.{FirstKeepCause, FirstRestoreCause}
+use Rattle.archive_spec.specs.AcceptedKept.{KeptFor, FirstKeepCause, FirstRestoreCause}
 use Rattle.model.specs.Turns.{Turns, Conflict, NoDrivers}
-use Rattle.model.specs.Steps.{Step, tally}
+use Rattle.model.specs.Steps.{Step, initial, afterStep, total, tally}
 use Rattle.model.specs.Pick.{steps}
 use Rattle.model.specs.Choice.{has, chosen, fits, fill, choice}
 use Rattle.model.specs.Filling.{FilledUp}
 use Rattle.model.specs.Feasible.{Feasible, worthOf, OneTurnASlope}
-use Rattle.model.specs.Ceiling.{ceiling}
-use Rattle.model.specs.Rules.{Independent, Maximal}
+use Rattle.model.specs.Ceiling.{stepCost, ceiling, Fewest}
+use Rattle.model.specs.Rules.{Independent, Maximal, Right}
 use Rattle.model.specs.IntervalSelection.{Selects}
 use Rattle.instance_spec.specs.Problem.{sheetTurns, SheetConflict}
-use Rattle.choice_map.specs.Choice.{mapBytes, mapOf, choiceIn, onesIn}
+use Rattle.choice_map.specs.Choice.{mapBytes, mapOf, chosenIn, choiceIn, onesIn}
 use Rattle.board.specs.Board.{boardTurns, boardSteps, boardTally, boardWorth, boardMap, boardChoice, writtenSteps}
 use Rattle.board_open.specs.Open.{openOf, stepsPart, WellFormed, FirstOpenCause}
 use Rattle.board_open.specs.Chosen.{countOf, turnChosen}
@@ -69,7 +73,7 @@ use Rattle.refine_spec.specs.Rounds.{greatestOf, LowestKept, BestKept}
 use Rattle.refine_spec.specs.Shift.{greatestWorth, shiftRule}
 use Rattle.refine_spec.specs.Refine.{Refinement, notRefined, refineOf, FirstRefineCause}
 use Rattle.charge_spec.specs.Hall.{Hall, windowCount, vehicle, isWide, isSmall, Allowed, AllowedChoice, FullAmong}
-use Rattle.charge_spec.specs.Plan.{ChosenAmong, wideSteps, smallSteps, wideChoice, smallChoice, worthIn, hallChoice}
+use Rattle.charge_spec.specs.Plan.{ChosenAmong, WideRun, SmallRun, wideSteps, smallSteps, wideChoice, smallChoice, worthIn, hallChoice}
 use Rattle.charge_spec.specs.Charge.{hallOf, Charged, chargeRefused, chargeOf, FirstChargeCause}
 use Rattle.hall_by_prices_spec.specs.Prices.{windowCounts, richestOf, vehicleBest, supplyCost}
 use Rattle.hall_by_prices_spec.specs.Hall.{hallRule}
@@ -98,12 +102,19 @@ shownIn s lent = choiceIn (turnCount s) (mapIn s lent)
 
 -- ---- reading and writing
 
--- 01, the sheet; R-8 of the short reader's. The reader accepts exactly a sheet with six places for each turn in the table; then answer and table have its counts and turns, and after them the table is as it was
+-- 01, the sheet; of the short reader, R-8. The reader accepts exactly a sheet with six places for each turn in the table; then answer and table have its counts and turns, and after them the table is as it was
 pub record Reads (K : Kind) (s lent : List ℕ) (x : Reading) : Type 0 where
   pub accepts : (x .answer .refusal ≡ 0) ↔ ((a : AcceptedFor K s) × (6 * length (a .turns) ≤ length lent))
   pub answers : x .answer .refusal ≡ 0 → (a : AcceptedFor K s) → x .answer ≡ record { refusal = 0; groomers = a .counts .groomers; slopes = a .counts .slopes; turns = length (a .turns) }
   pub turns : x .answer .refusal ≡ 0 → (a : AcceptedFor K s) → take (6 * length (a .turns)) (x .lent) ≡ rows (a .turns)
   pub behind : x .answer .refusal ≡ 0 → (a : AcceptedFor K s) → drop (6 * length (a .turns)) (x .lent) ≡ drop (6 * length (a .turns)) lent
+
+-- R-8, of two readings into the lent tables a and b: one answer, the same turns, and after them either table is as it was
+pub record ReadsAlike (a b : List ℕ) (x y : Reading) : Type 0 where
+  pub answer : x .answer ≡ y .answer
+  pub turns : take (6 * x .answer .turns) (x .lent) ≡ take (6 * y .answer .turns) (y .lent)
+  pub behind : drop (6 * x .answer .turns) (x .lent) ≡ drop (6 * x .answer .turns) a
+  pub behind-too : drop (6 * y .answer .turns) (y .lent) ≡ drop (6 * y .answer .turns) b
 
 -- R-1, R-5. The bytes b that were written are an accepted sheet of these counts
 pub record Writes (counts : Counts) (table lent b : List ℕ) (x : Written) : Type 0 where
@@ -137,6 +148,11 @@ pub record Draws (counts : Counts) (seed k : ℕ) (t : Turn) : Type 0 where
   pub worth : t .worth ≡ 1 + drawNumber (5 * k + 5) seed % 60000
   pub driver : t .driver ≡ 0
 
+-- R-12. A sheet s and a kept form k have the same counts, maps and turns: one record by record, the other by column
+pub record TwoForms (s k : List ℕ) (counts : Counts) (maps : List ℕ) (turns : List Turn) : Type 0 where
+  pub by-record : s ≡ headerFor sheetMark counts (length turns) ++ recordsBody maps turns
+  pub by-column : KeptFor k counts maps turns
+
 -- ---- the check and the claim
 
 -- 01, third demand, of a board that passes: its turns S, its tally and worth, the ceiling that comes back. No two chosen turns conflict, every other conflicts with a chosen one
@@ -147,10 +163,10 @@ pub record Binds (T : Turns) (S : List Bool) (tallied worth bound : ℕ) : Type 
   -- without drivers no feasible set is worth more than twice the tally, nor, where no slope has two turns, more than the board
   pub twice : NoDrivers T → CapsShift T (2 * tallied)
   pub exact : NoDrivers T → OneTurnASlope T → CapsShift T worth
-  -- R-5, with drivers: more than three times the tally, twice where no slope has two turns
+  -- R-5, on every sheet, drivers or not: none is worth more than three times the tally, nor, where no slope has two turns, more than twice
   pub thrice : CapsShift T (3 * tallied)
   pub twice-single : OneTurnASlope T → CapsShift T (2 * tallied)
-  -- R-7: more than the ceiling, which lies between the tally and those multiples
+  -- R-7: nor more than the ceiling, which is the tally or more, and at most three times the tally, without drivers at most twice
   pub capped : CapsShift T bound
   pub ceiling-from : tallied ≤ bound
   pub ceiling-to : bound ≤ 3 * tallied
@@ -167,8 +183,12 @@ pub record Checks (s b : List ℕ) : Type 0 where
   pub exactly : (checkOf s b .refusal ≡ 0) ↔ (Accepted s × BoardKeeps s b)
   pub keeps : Accepted s → BoardKeeps s b ↔ ((k r : ℕ) → BoardCause (sheetTurns s) b k r → ⊥)
   pub passes : (checkOf s b .refusal ≡ 0) ↔ ((k r : ℕ) → CheckCause s b k r → ⊥)
-  -- then tally and worth come back as they stand in it, with the ceiling (R-7), and it binds every feasible set, whoever made it
+  -- then tally and worth come back as they stand in it, with the ceiling
   pub answers : checkOf s b .refusal ≡ 0 → checkOf s b ≡ checked 0 (boardTally b) (boardWorth b) (ceiling (sheetTurns s) (writtenSteps b))
+  -- R-7: the ceiling is what the steps count for, added up; a right step counts for its amount once for each of the fewest groups that hold what it touches
+  pub ceiling-sums : (xs : List Step) → ceiling (sheetTurns s) xs ≡ total (afterStep (sheetTurns s)) (stepCost (sheetTurns s)) (initial (sheetTurns s)) xs
+  pub counted : (r : List ℤ) (x : Step) → Right (sheetTurns s) r x → (k : ℕ) × Fewest (sheetTurns s) r (x .turn) k × (stepCost (sheetTurns s) r x ≡ k * x .amount)
+  -- it binds every feasible set, whoever made it
   pub binds : checkOf s b .refusal ≡ 0 → Binds (sheetTurns s) (boardChoice b) (boardTally b) (boardWorth b) (checkOf s b .ceiling)
 
 -- ---- the planner
@@ -192,7 +212,7 @@ pub record ListsBoard (s b lent : List ℕ) (T : Turns) (S : List Bool) (x : Wri
   pub by-start : (h : ℕ) → Rising T (roundOf T S h)
   pub turn-lines : sumOver (λ k. length (roundOf T S (k + 1))) (below (countsIn s .groomers)) ≡ onesIn (boardMap b)
 
--- R-4. Each turn's number is the smallest that is free when its turn comes, and no two of one number come within ten minutes
+-- R-4. Each turn's number is the smallest that is free when its turn comes, and between two turns of one number lie ten minutes or more
 pub record AssignsAll (T : Turns) (numbers : List ℕ) (used : ℕ) : Type 0 where
   pub greedy : GreedyNumbers T numbers
   pub apart : Assignment T (numberIn numbers)
@@ -234,12 +254,13 @@ pub record Searches (s : List ℕ) (limit : ℕ) (lent : List ℕ) (T : Turns) (
   pub all-made : wholeVisits T ≤ limit → x .answer .visits ≡ wholeVisits T
   pub countable : wholeVisits T < 2 ^ 64
   pub ran-whole : (x .answer .whole ≡ true) ↔ (wholeVisits T ≤ limit)
-  -- then no feasible set earns more; a larger limit earns no less; how far the plan's ceiling is above
+  -- if it ran whole, no feasible set earns more; a larger limit earns no less; worth and `above` make the plan's ceiling
   pub capped : x .answer .whole ≡ true → CapsShift T (x .answer .worth)
   pub larger : (more : ℕ) → limit ≤ more → (place : List ℕ) → mapBytes (turnCount s) ≤ length place → x .answer .worth ≤ improveOf s more place .answer .worth
-  pub to-ceiling : x .answer .worth + x .answer .above ≡ ceiling T (steps T)
+  pub to-ceiling : x .answer .worth + x .answer .above ≡ checkOf s (plannedBoard s) .ceiling
+  pub ceiling-is : x .answer .worth + x .answer .above ≡ ceiling T (steps T)
   pub ceiling-caps : CapsShift T (x .answer .worth + x .answer .above)
-  -- compared are the planned set, then the sets without conflict, with a turn before without it, as far as the visits pay; only greater worth replaces
+  -- compared are the planned set, then the sets without conflict, those with a turn before those without it, as far as the visits pay; only greater worth replaces
   pub starts : boardChoice (plannedBoard s) ≡ choice T
   pub sets : (U : List Bool) → ListedSet U (setsOf T (T .count)) ↔ SetOf T (T .count) U
   pub ordered : SetsInOrder (setsOf T (T .count))
@@ -282,7 +303,7 @@ pub record PlaysShift (T : Turns) (turns : ℕ) (S : List Bool) (delay : ℕ →
   pub behind : drop n (x .lent) ≡ drop n lent
   -- without delays each chosen turn is worked in exactly its planned minutes
   pub on-time : ((u : ℕ) → delay u ≡ 0) → (u : ℕ) → has S u ≡ true → (g : ℕ) × (g < n) × (T .groomer u ≡ suc g) × ((m : ℕ) → (doingAt (day g) m ≡ works u) ↔ ((T .start u ≤ m) × (m < T .end u)))
-  -- then the minutes worked are its turns' lengths, added up; a turn is in hand at the end exactly if it is chosen, its groomer's, and ends with the shift
+  -- then a groomer's minutes worked are the lengths of its chosen turns, added up; at the end a turn is in hand there exactly if it is chosen, of that groomer, and ends at 960
   pub on-time-worked : ((u : ℕ) → delay u ≡ 0) → (g : ℕ) → g < n → getD (x .lent) g freshOf .working ≡ chosen turns S (λ u. cond (eqb (T .groomer u) (suc g)) (T .end u - T .start u) 0)
   pub on-time-turn : ((u : ℕ) → delay u ≡ 0) → (g : ℕ) → g < n → (u : ℕ) → u < turns → (getD (x .lent) g freshOf .turn ≡ u) ↔ ((has S u ≡ true) × (T .groomer u ≡ suc g) × (T .end u ≡ 960))
   -- the list is moved minute by minute by any table of these days, and there is one
@@ -309,6 +330,7 @@ pub record LimitsShift (s prices : List ℕ) (T : Turns) (most : ℕ → ℕ) (l
 
 -- P-2, of the board b and the prices p that were written. The board passes, with the planned steps and tally, and is worth what comes back, no less than the planned one
 pub record RefinesShift (s : List ℕ) (rounds : ℕ) (board prices b p : List ℕ) (T : Turns) (x : Refinement) : Type 0 where
+  pub many : length b ≡ x .bytes
   pub passes : checkOf s b .refusal ≡ 0
   pub steps-same : writtenSteps b ≡ writtenSteps (plannedBoard s)
   pub tally-same : boardTally b ≡ boardTally (plannedBoard s)
@@ -344,18 +366,21 @@ pub record ChargesHall (s lent : List ℕ) (H : Hall) (S : List Bool) (x : Charg
   pub one-kind : ((t : ℕ) → has S t ≡ true → isWide H t ≡ true) ⊎ ((t : ℕ) → has S t ≡ true → isSmall H t ≡ true)
   pub earns : worthIn H S ≡ x .answer .worth
   -- they are the plan of greater worth, of the small draws on a tie, and no further window of the kind could be chosen
+  pub set : S ≡ hallChoice H
   pub covers-wide : worthIn H (wideChoice H) ≤ x .answer .worth
   pub covers-small : worthIn H (smallChoice H) ≤ x .answer .worth
   pub wide-plan : worthIn H (smallChoice H) < worthIn H (wideChoice H) → S ≡ wideChoice H
   pub small-plan : worthIn H (wideChoice H) ≤ worthIn H (smallChoice H) → S ≡ smallChoice H
-  pub tie : worthIn H (wideChoice H) ≡ worthIn H (smallChoice H) → hallChoice H ≡ smallChoice H
+  -- each plan goes back over its steps and fills up; each step is on the window to pick, until none is open
+  pub wide-run : WideRun H (wideSteps H)
+  pub small-run : SmallRun H (smallSteps H)
   pub wide-chosen : ChosenAmong H (isWide H) (wideSteps H) (wideChoice H)
   pub small-chosen : ChosenAmong H (isSmall H) (smallSteps H) (smallChoice H)
   pub wide-full : worthIn H (smallChoice H) < worthIn H (wideChoice H) → FullAmong H (isWide H) S
   pub small-full : worthIn H (wideChoice H) ≤ worthIn H (smallChoice H) → FullAmong H (isSmall H) S
   -- no allowed set is worth more than five times the plan and the units for each step of the small draws
   pub capped : CapsHall H (5 * x .answer .worth + H .units * length (smallSteps H))
-  -- nor one of wide windows than twice their tally, nor one of small ones than three times theirs and the units for each step; each plan covers its tally
+  -- an allowed set of wide windows is worth at most twice the wide tally; one of small windows at most three times the small tally and the units for each small step; each plan is worth its tally or more
   pub wide-capped : (R : List ℕ) → Allowed H R → All (λ t. isWide H t ≡ true) R → sumOver (H .windows .worth) R ≤ 2 * tally (wideSteps H)
   pub wide-covered : tally (wideSteps H) ≤ worthIn H (wideChoice H)
   pub small-capped : (R : List ℕ) → Allowed H R → All (λ t. isSmall H t ≡ true) R → sumOver (H .windows .worth) R ≤ 3 * tally (smallSteps H) + H .units * length (smallSteps H)
@@ -370,6 +395,7 @@ pub record LimitsHall (s prices : List ℕ) (H : Hall) (limit : ℕ) : Type 0 wh
   pub parts : limit ≡ supplyCost H prices + sumOver (λ k. vehicleBest H prices (k + 1) .worth) (below (countsIn s .slopes))
   pub greatest : (v t : ℕ) → t < windowCount H → vehicle H t ≡ v → windowCounts H prices t ≤ vehicleBest H prices v .worth
   pub attained : (v : ℕ) → (vehicleBest H prices v .worth ≡ 0) ⊎ ((t : ℕ) × (t < windowCount H) × (vehicle H t ≡ v) × (windowCounts H prices t ≡ vehicleBest H prices v .worth))
+  -- at prices of 0 it is the sum of the worths of the vehicles' richest windows
   pub free : ((k : ℕ) → getD prices k 0 ≡ 0) → limit ≡ sumOver (λ k. richestOf H (H .windows .worth) (k + 1) (turnCount s) .worth) (below (countsIn s .slopes))
 
 -- P-3, by rounds. The windows S written are allowed and worth what comes back, no less than R-14's plan
@@ -401,20 +427,37 @@ pub record Promised : Type 0 where
   pub read-short : {s : List ℕ} → Bytes s → (lent : List ℕ) → Reads shortSheet s lent (readShortOf s lent)
   -- R-8: what the short reader accepts it reads as a shift does
   pub read-alike : (s lent : List ℕ) → readShortOf s lent .answer .refusal ≡ 0 → readShortOf s lent ≡ readOf s lent
+  -- the two readers are one, at limits of 400 and 96. For any limits m and n, and numbers i and j for more turns: what both accept they read alike, and a sheet within both limits gets the same from both
+  pub reader-is : (s lent : List ℕ) → readOf s lent ≡ readFor (withTurns shiftSheet 400 4) s lent
+  pub short-reader-is : (s lent : List ℕ) → readShortOf s lent ≡ readFor (withTurns shiftSheet 96 20) s lent
+  pub limits-alike : (K : Kind) (m i n j : ℕ) (s a b : List ℕ) → readFor (withTurns K m i) s a .answer .refusal ≡ 0 → readFor (withTurns K n j) s b .answer .refusal ≡ 0 →
+      ReadsAlike a b (readFor (withTurns K m i) s a) (readFor (withTurns K n j) s b)
+  pub limits-same : (K : Kind) (m i n j : ℕ) (s : List ℕ) → turnCount s ≤ m → turnCount s ≤ n → (lent : List ℕ) → readFor (withTurns K m i) s lent ≡ readFor (withTurns K n j) s lent
   pub write : (counts : Counts) (table lent : List ℕ) → writeOf counts table lent .answer .refusal ≡ 0 → Writes counts table lent (writtenPart (writeOf counts table lent)) (writeOf counts table lent)
   -- R-11: the sheet of a seed is what the writer gives for the drawn turns, and keeps all that the writer promises
   pub draw : (seed : ℕ) (counts : Counts) (turns : ℕ) (lent : List ℕ) → drawOf seed counts turns lent .answer .refusal ≡ 0 →
       (ts : List Turn) × (length ts ≡ turns) × ((k : ℕ) (d : Turn) → k < turns → Draws counts seed k (getD ts k d)) × (drawOf seed counts turns lent ≡ writeOf counts (rows ts) lent)
       × Writes counts (rows ts) lent (writtenPart (writeOf counts (rows ts) lent)) (writeOf counts (rows ts) lent)
-  -- R-12: kept and restored, or restored and kept, the very bytes come back
+  -- R-12: what is written is the other form, and the lent bytes go on as they were
+  pub keep-writes : (s lent : List ℕ) → keepOf s lent .answer .refusal ≡ 0 → keepOf s lent ≡ wrote (keptOf s) lent
+  pub keep-form : {s : List ℕ} → Bytes s → (lent : List ℕ) → keepOf s lent .answer .refusal ≡ 0 → TwoForms s (keptOf s) (countsIn s) (sheetMaps s) (turnsOf s)
+  pub restore-writes : (k lent : List ℕ) → restoreOf k lent .answer .refusal ≡ 0 → restoreOf k lent ≡ wrote (restoredOf k) lent
+  pub restore-form : {k : List ℕ} → Bytes k → (lent : List ℕ) → restoreOf k lent .answer .refusal ≡ 0 → TwoForms (restoredOf k) k (countsIn k) (keptMaps k) (keptTurns k)
+  -- kept and restored, or restored and kept, the very bytes come back
   pub keep-back : {s : List ℕ} → Bytes s → (lent other : List ℕ) → keepOf s lent .answer .refusal ≡ 0 → length s ≤ length other → restoreOf (writtenPart (keepOf s lent)) other ≡ wrote s other
   pub restore-back : {k : List ℕ} → Bytes k → (lent other : List ℕ) → restoreOf k lent .answer .refusal ≡ 0 → length k ≤ length other → keepOf (writtenPart (restoreOf k lent)) other ≡ wrote k other
-  -- 01, the board: opening accepts exactly a board; then the count is that of its chosen turns, a turn is chosen exactly if its bit stands, and the steps are a part of the bytes
+  -- 01, the board: opening accepts exactly a board; then the count is that of its chosen turns, and without a board it refuses
   pub opens : (b : List ℕ) → (openOf b ≡ 0) ↔ WellFormed b (boardTurns b) (boardSteps b)
-  pub count : (b : List ℕ) → openOf b ≡ 0 → countOf b .turns ≡ chosen (boardTurns b) (boardChoice b) (λ t. 1)
-  pub is-chosen : (b : List ℕ) → openOf b ≡ 0 → (t : ℕ) → turnChosen b t ≡ has (boardChoice b) t
-  pub steps : (b : List ℕ) → take (stepsPartAt b .length) (drop (stepsPartAt b .start) b) ≡ stepsPart b
-  -- R-2, R-5: two turns of a sheet conflict exactly if they have one slope, or one groomer or driver and share a minute, or one starts 0 to 9 minutes after the other's end
+  pub count : (b : List ℕ) → openOf b ≡ 0 → countOf b ≡ record { refusal = 0; turns = chosen (boardTurns b) (boardChoice b) (λ t. 1) }
+  pub count-refuses : (b : List ℕ) → openOf b ≢ 0 → countOf b ≡ record { refusal = 12; turns = 0 }
+  -- a turn is chosen exactly if there is a board that has it, and its bit stands
+  pub is-chosen : (b : List ℕ) (t : ℕ) → (turnChosen b t ≡ true) ↔ ((openOf b ≡ 0) × (t < boardTurns b) × (chosenIn (boardMap b) t ≡ true))
+  pub chosen-has : (b : List ℕ) → openOf b ≡ 0 → (t : ℕ) → turnChosen b t ≡ has (boardChoice b) t
+  -- the steps, four bytes each, follow the map; without a board they are empty; they are a part of the bytes
+  pub steps : (b : List ℕ) → openOf b ≡ 0 → stepsPartAt b ≡ record { start = 15 + (boardTurns b + 7) / 8; length = 4 * boardSteps b }
+  pub steps-none : (b : List ℕ) → openOf b ≢ 0 → stepsPart b ≡ []
+  pub steps-part : (b : List ℕ) → take (stepsPartAt b .length) (drop (stepsPartAt b .start) b) ≡ stepsPart b
+  -- R-2, R-5: two turns of a sheet conflict exactly if they have one slope, or have one groomer or one driver and either share a minute or one starts 0 to 9 minutes after the other's end
   pub conflicts : {s : List ℕ} → Bytes s → Accepted s → (x y : ℕ) → x < turnCount s → y < turnCount s → Conflict (sheetTurns s) x y ↔ SheetConflict s x y
   pub check : (s b : List ℕ) → Bytes s → Checks s b
   pub plan : {s : List ℕ} → Bytes s → (lent : List ℕ) → planOf s lent .answer .refusal ≡ 0 → Plans s (writtenPart (planOf s lent)) (sheetTurns s)
@@ -427,8 +470,8 @@ pub record Promised : Type 0 where
   pub assign-behind : (s lent : List ℕ) → assignOf s lent .answer .refusal ≡ 0 → drop (turnCount s) (assignOf s lent .lent) ≡ drop (turnCount s) lent
   pub best : (s lent : List ℕ) → bestOf s lent .answer .refusal ≡ 0 → FindsBest s lent (sheetTurns s) (shownIn s (bestOf s lent .lent)) (bestOf s lent)
   pub improve : (s : List ℕ) (limit : ℕ) (lent : List ℕ) → improveOf s limit lent .answer .refusal ≡ 0 → Searches s limit lent (sheetTurns s) (shownIn s (improveOf s limit lent .lent)) (improveOf s limit lent)
-  -- R-10: with no visits allowed and a turn to visit, the planned board's worth and map come back
-  pub improve-none : (s lent : List ℕ) → improveOf s 0 lent .answer .refusal ≡ 0 → turnCount s ≢ 0 → (improveOf s 0 lent .answer .worth ≡ boardWorth (plannedBoard s)) × (mapIn s (improveOf s 0 lent .lent) ≡ boardMap (plannedBoard s))
+  -- R-10: with no visits allowed, the planned board's worth and map come back
+  pub improve-none : (s lent : List ℕ) → improveOf s 0 lent .answer .refusal ≡ 0 → (improveOf s 0 lent .answer .worth ≡ boardWorth (plannedBoard s)) × (mapIn s (improveOf s 0 lent .lent) ≡ boardMap (plannedBoard s))
   pub play : (s b delays : List ℕ) (lent : List Standing) → playOf s b delays lent .answer .refusal ≡ 0 →
       PlaysShift (sheetTurns s) (turnCount s) (boardChoice b) (delayIn delays) (countsIn s .groomers) (dayAt s b delays) lent (playOf s b delays lent)
   -- R-13: what the list held plays no part
