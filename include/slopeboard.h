@@ -31,7 +31,7 @@
  * - Times, measured and not proved, in microseconds: one call on the slowest sheets known, the best of many rounds
  *   over 64 sheets (reference/bench), on one core of an AMD EPYC server that others used too. slopeboard_charge 148,
  *   slopeboard_list 139, slopeboard_plan 121, slopeboard_play 67, slopeboard_check 61, slopeboard_assign 16,
- *   slopeboard_limit 13, slopeboard_keep 12, slopeboard_draw 8.1, slopeboard_write 6.3 (some 30 on a table made to be
+ *   slopeboard_limit 13, slopeboard_keep 12, slopeboard_draw 14, slopeboard_write 10 (some 30 on a table made to be
  *   slow to sort), slopeboard_charge_limit 6.0, slopeboard_restore 3.9, slopeboard_read 2.5, slopeboard_best 2.5;
  *   slopeboard_improve 51 for 10,000 visits; slopeboard_refine 270 and slopeboard_charge_refine 455 for 50 rounds. A
  *   slower sheet may exist.
@@ -134,9 +134,9 @@ enum {
 #define SLOPEBOARD_STACK_READ 4992
 #define SLOPEBOARD_STACK_READ_SHORT 4992
 #define SLOPEBOARD_STACK_REFINE 29760
-#define SLOPEBOARD_STACK_RESTORE 4888
+#define SLOPEBOARD_STACK_RESTORE 4872
 #define SLOPEBOARD_STACK_STEPS 16
-#define SLOPEBOARD_STACK_WRITE 3748
+#define SLOPEBOARD_STACK_WRITE 4248
 
 typedef struct {
     uint8_t refusal;

@@ -5,7 +5,7 @@ use mathlib.Core.Bool.{Bool, true, false}
 use mathlib.Core.List.{List, [], _∷_, _++_}
 use native.Mathlib.Omega.{arith}
 use lib.Dec.{ltb}
-use lib.ListN.{length, getD, set, take, drop, length-set, length-drop}
+use lib.ListN.{length, getD, take, drop, length-drop}
 use lib.Seq.{drop-length, take-all}
 use borrow.Author.Tests.{lt-ltb, le-ltb}
 use Rattle.lists.proofs.Places.{drop-step}
@@ -19,7 +19,7 @@ use Rattle.wire.proofs.Puts.{puts-front, puts-append}
 use Rattle.turn.specs.declared.Turn.{Turn}
 use Rattle.turn.specs.declared.Counts.{Counts}
 use Rattle.turn.specs.Turn.{turnIn, turnsOfTable, Numbered}
-use Rattle.turn.proofs.Rows.{turns-step, table-turns-length}
+use Rattle.turn.proofs.Rows.{turns-step}
 use Rattle.sheet.specs.declared.kind.Kind.{Kind}
 use Rattle.sheet.specs.declared.kind.Maps.{Maps}
 use Rattle.sheet.specs.declared.header.Header.{Header}
@@ -30,11 +30,10 @@ use Rattle.sheet.specs.Read.{headerBytes, countsIn, turnCount, headerCauses, he
 use Rattle.sheet.specs.Layout.{recordOf}
 use Rattle.sheet.proofs.Headers.{header-numbered, header-few, header-fine}
 use Rattle.sheet.proofs.Readings.{header-found, header-refused}
-use Rattle.sheet.proofs.Fields.{width-most}
+use Rattle.sheet.proofs.Fields.{width-most, record-length}
 use Rattle.refusal.specs.declared.WriteAnswer.{WriteAnswer}
 use Rattle.refusal.specs.Outcome.{beside}
 use Rattle.write_spec.specs.Write.{turnsCauses}
-use Rattle.write.specs.Over.{Over}
 use Rattle.archive_spec.specs.Column.{widths, columnsIn, turnsAcross}
 use Rattle.archive_spec.specs.Kept.{formWith, recordsBody, archive, keptMaps, columnsAt, keptEnd, keptTurns, restoredOf}
 use Rattle.archive_spec.specs.Archive.{mapsCauses, formCauses, keptCauses, restoreCauses, restoreOf}
@@ -209,30 +208,21 @@ module _ (k : List ℕ) (K : Kind) (a : K ≡ archive) {h : Header} where
 
 -- ---- the records
 
-module _ (l : List ℕ) (at m later : ℕ) (h : at + 1 + widthOf m + later ≤ length l) where
-  pub fields-room : at + 1 + widthOf m ≤ length (set l at m)
-  fields-room = rw length-set (omega arith)
-
-  pub fields-room-over : 2 ≤ later → at + 1 + widthOf m + 2 ≤ length (set l at m)
-  fields-room-over k = rw length-set (omega arith)
-
 module _ (maps table : List ℕ) (i at : ℕ) where
-  pub records-room : {e n o : ℕ} → i < length maps → at + (length maps - i) + widths (drop i maps) ≡ e → e ≤ n → o ≡ n → at + 1 + widthOf (getD maps i 0) + (length maps - (i + 1)) ≤ o
+  pub records-room : {e n o : ℕ} → i < length maps → at + (length maps - i) + widths (drop i maps) ≡ e → e ≤ n → o ≡ n → at + 1 + widthOf (getD maps i 0) ≤ o
   records-room h p q r = omega (arith, width-ahead maps i 0 h)
 
   pub records-size : {at′ e : ℕ} → i < length maps → at′ ≡ at + 1 + widthOf (getD maps i 0) → at + (length maps - i) + widths (drop i maps) ≡ e → at′ + (length maps - (i + 1)) + widths (drop (i + 1) maps) ≡ e
   records-size h p q = omega (arith, width-ahead maps i 0 h)
 
-  pub records-more : (l : List ℕ) {at′ : ℕ} {t : Turn} {l′ z : List ℕ} → i < length maps → t ≡ turnIn table i → Over (length maps - (i + 1)) l at (recordOf (getD maps i 0) t) l′ at′
+  pub records-more : (l : List ℕ) {at′ : ℕ} {t : Turn} {l′ z : List ℕ} → i < length maps → t ≡ turnIn table i → at′ ≡ at + 1 + widthOf (getD maps i 0) → l′ ≡ puts l at (recordOf (getD maps i 0) t)
       → puts l at (recordsBody (drop i maps) (turnsOfTable (length maps - i) table i)) ≡ z → puts l′ at′ (recordsBody (drop (i + 1) maps) (turnsOfTable (length maps - (i + 1)) table (i + 1))) ≡ z
   unfolding recordsBody
-  records-more l {at′} {t} h p o e =
+  records-more l {at′} {t} {l′} {z} h p q o e =
       let m = getD maps i 0 in
-      let k = length maps - (i + 1) in
-      let ts = turnsOfTable k table (i + 1) in
-      let n : length ts ≡ length (drop (i + 1) maps) = omega (arith, length-drop (i + 1) maps, table-turns-length k table (i + 1)) in
-      let s : k ≤ length (recordsBody (drop (i + 1) maps) ts) = omega (arith, records-length (drop (i + 1) maps) ts n, length-drop (i + 1) maps) in
-      o .then (recordsBody (drop (i + 1) maps) ts) s ∙ rw p (rw (drop-step maps i h, turns-step (length maps) i table h) at e)
+      let rest = recordsBody (drop (i + 1) maps) (turnsOfTable (length maps - (i + 1)) table (i + 1)) in
+      let s : puts l at (recordOf m t ++ rest) ≡ z = rw p (rw (drop-step maps i h, turns-step (length maps) i table h) at e) in
+      rw o (puts-append (recordOf m t) rest l at at′ (omega (arith, record-length m t))) ∙ s
 
   pub records-done : (l : List ℕ) {z : List ℕ} → length maps ≤ i → i ≤ length maps → puts l at (recordsBody (drop i maps) (turnsOfTable (length maps - i) table i)) ≡ z → l ≡ z
   unfolding recordsBody

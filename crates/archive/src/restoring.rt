@@ -8,12 +8,10 @@ ghost use Rattle.refusal.specs.Cause.{firstOf};
 ghost use Rattle.wire.specs.Number.{puts};
 ghost use Rattle.turn.specs.Turn.{rowNumbers};
 ghost use Rattle.sheet.specs.Kind.{mostTurns, tablePlaces};
-ghost use Rattle.sheet.specs.Record.{widthOf, recordBytes};
+ghost use Rattle.sheet.specs.Record.{recordBytes};
 ghost use Rattle.sheet.specs.Read.{headerBytes, countsIn, turnCount};
-ghost use Rattle.sheet.specs.Layout.{recordOf};
 ghost use Rattle.write_spec.specs.Write.{turnsCauses};
 ghost use Rattle.refusal.specs.Outcome.{beside};
-ghost use Rattle.write.specs.Over.{Over};
 ghost use Rattle.archive_spec.specs.Column.{widths, firstTurns};
 ghost use Rattle.archive_spec.specs.Kept.{formSize, archive, keptMaps, columnsAt, keptTurns, tableRecords, restoredFirst};
 ghost use Rattle.archive_spec.specs.Archive.{mapsCauses, formCauses, keptCauses, restoreOf};
@@ -27,7 +25,6 @@ use sheet::Maps;
 use sheet::TABLE_PLACES;
 use sheet::width;
 use turn::Counts;
-use turn::Turn;
 
 // A shift's sheet with the mark of a kept form.
 fn archive() -> Kind
@@ -139,19 +136,6 @@ fn judge_kept(k: &[u8], table: &mut [u16]) -> u8
     }
 }
 
-// Puts a record at a place; returns the place after it. At least `later` bytes follow: with two or more, each
-// field may be put without a test, since the next one goes over what is too much (put_fields_over).
-fn put_record(out: &mut [u8], at: usize, m: u8, t: Turn, later: usize) -> usize
-    requires { ⌜ at + 1 + widthOf m + later ≤ length (now out) ⌝ }
-    ensures { λ r. ⌜ (r ≡ at + 1 + widthOf m) × Over later (now (out .entry)) at (recordOf m t) (now (out .exit)) r ⌝ }
-{
-    out[at] = m;
-    if later < 2 {
-        return write::put_fields(&mut *out, at + 1, m, t);
-    }
-    write::put_fields_over(&mut *out, at + 1, m, t)
-}
-
 // The records of these maps and of the turns of a table, after the header.
 fn put_records(maps: &[u8], table: &[u16], out: &mut [u8])
     requires { ⌜ (formSize (now maps) ≤ length (now out)) × (rowNumbers * length (now maps) ≤ length (now table)) ⌝ }
@@ -161,9 +145,8 @@ fn put_records(maps: &[u8], table: &[u16], out: &mut [u8])
     let mut i = 0;
     while i < maps.len() {
         let t = turn::turn_at(table, i);
-        let m = maps[i];
+        at = write::put_record(&mut *out, at, maps[i], t);
         i += 1;
-        at = put_record(&mut *out, at, m, t, maps.len() - i);
     }
 }
 

@@ -1,4 +1,3 @@
-pub mod Overs
 pub mod WriteRecords
 pub mod Measures
 pub mod Writings

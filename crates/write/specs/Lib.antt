@@ -1,2 +1,1 @@
 pub mod Measure
-pub mod Over
