@@ -1,5 +1,5 @@
-// Conflicts as sets: each turn's row is the set of the turns that conflict with it, and a turn fits beside a set iff
-// its row and the set share no turn. A set of turns is seven words of 64 bits; sets stand one after another.
+// Conflicts as sets: each turn's row is the set of the turns that conflict with it, and a turn fits beside a choice iff
+// no chosen turn's row has it. A set of turns is seven words of 64 bits; sets stand one after another.
 mod choosing;
 mod filling;
 mod sets;

@@ -21,7 +21,7 @@ use Rattle.limit_spec.specs.Prices.{priceSum}
 use Rattle.shift_look.specs.declared.Extent.{Extent}
 use Rattle.shift_look.specs.OrdersAndCounts.{countedTurns, turnsIn, orderPlaces, Driven, Ordered, Priced}
 use Rattle.conflict_sets.specs.Sets.{rowWords}
-use Rattle.conflict_sets.specs.Rows.{RowsOf}
+use Rattle.conflict_sets.specs.Rows.{RowsOf, Sloped}
 use Rattle.refine_spec.specs.Rounds.{firstChange}
 use Rattle.refine_spec.specs.Selection.{byWorth}
 use Rattle.refine_spec.specs.Shift.{greatestWorth}
@@ -64,6 +64,9 @@ module _ (r : RuleFor) (e : Extent) (g : r ≡ Shift e) where
 
       pub shift-ranged : Ranged (e .size) cols
       shift-ranged = shift-posed .ranged
+
+      pub shift-sloped : Sloped (e .size) cols
+      shift-sloped = record { few = λ t h. omega (arith, shift-posed .numbers t h .1, shift-posed .few-slopes) }
 
       pub shift-driven : Driven (e .size) cols
       shift-driven = record { drivers = shift-posed .drivers }
@@ -243,7 +246,7 @@ change-most-8 l = omega arith
 
 pub ruleset size-cases = (shift-size, hall-size)
 
-pub ruleset table-cases = (shift-held, shift-ranged, shift-driven, shift-ordered-for, shift-rows-for, hall-ordered-for, hall-rows-for)
+pub ruleset table-cases = (shift-held, shift-ranged, shift-sloped, shift-driven, shift-ordered-for, shift-rows-for, hall-ordered-for, hall-rows-for)
 
 pub ruleset change-cases = (shift-held, shift-change, change-most-4, hall-held, hall-change, change-most-8)
 

@@ -46,6 +46,23 @@ fn taken(line: &str) -> usize {
     }
 }
 
+/// The bytes that a loop takes from the stack page by page, beside the page that
+/// its own instruction names: a large frame, down to where `%r11` was put by this
+/// instruction and the one before it.
+fn taken_by_pages(before: &str, line: &str) -> usize {
+    let operands = |line: &str, word: &str| {
+        let mut words = line.split_whitespace().skip(1);
+        (words.next() == Some(word)).then(|| words.next().unwrap_or_default().to_string())
+    };
+    if operands(before, "mov").as_deref() != Some("%rsp,%r11") {
+        return 0;
+    }
+    operands(line, "sub")
+        .and_then(|both| Some(both.strip_suffix(",%r11")?.strip_prefix("$0x")?.to_string()))
+        .and_then(|digits| usize::from_str_radix(&digits, 16).ok())
+        .map_or(0, |bytes| bytes - 0x1000)
+}
+
 /// The bytes below the stack pointer that an instruction uses.
 fn used_below(line: &str) -> usize {
     let Some((front, _)) = line.split_once("(%rsp") else {
@@ -82,9 +99,9 @@ fn target(line: &str) -> Option<(&str, Option<&str>)> {
 }
 
 /// Whether an instruction moves the stack pointer in a way that [`taken`] does
-/// not count.
+/// not count. Taking back and comparing is nothing.
 fn moved_otherwise(line: &str) -> bool {
-    let back = ["add", "pop"]
+    let back = ["add", "pop", "cmp"]
         .iter()
         .any(|word| line.split_whitespace().nth(1) == Some(word));
     line.trim_end().ends_with(",%rsp") && taken(line) == 0 && !back
@@ -94,12 +111,13 @@ fn moved_otherwise(line: &str) -> bool {
 fn functions(listing: &str) -> Result<BTreeMap<String, Function>, String> {
     let mut found: BTreeMap<String, Function> = BTreeMap::new();
     let mut name = String::new();
+    let mut before = "";
     for line in listing.lines() {
         if let Some(next) = begun(line) {
             name = next.to_string();
             found.entry(name.clone()).or_default().frame = 8;
         } else if let Some(function) = found.get_mut(&name) {
-            function.frame += taken(line);
+            function.frame += taken(line) + taken_by_pages(before, line);
             function.below = function.below.max(used_below(line));
             function.callees.extend(named(line));
             match target(line) {
@@ -114,6 +132,7 @@ fn functions(listing: &str) -> Result<BTreeMap<String, Function>, String> {
                 _ => {}
             }
         }
+        before = line;
     }
     Ok(found)
 }
