@@ -33,7 +33,7 @@
  *   slopeboard_list 139, slopeboard_plan 121, slopeboard_play 67, slopeboard_check 61, slopeboard_assign 16,
  *   slopeboard_limit 13, slopeboard_keep 12, slopeboard_draw 14, slopeboard_write 10 (some 30 on a table made to be
  *   slow to sort), slopeboard_charge_limit 6.0, slopeboard_restore 3.9, slopeboard_read 2.5, slopeboard_best 2.5;
- *   slopeboard_improve 51 for 10,000 visits; slopeboard_refine 270 and slopeboard_charge_refine 455 for 50 rounds. A
+ *   slopeboard_improve 51 for 10,000 visits; slopeboard_refine 273 and slopeboard_charge_refine 460 for 50 rounds. A
  *   slower sheet may exist.
  */
 #ifndef SLOPEBOARD_H
@@ -117,23 +117,23 @@ enum {
  * and memset need beyond their return address comes on top. */
 #define SLOPEBOARD_STACK_ASSIGN 10736
 #define SLOPEBOARD_STACK_BEST 14016
-#define SLOPEBOARD_STACK_CHARGE 24896
+#define SLOPEBOARD_STACK_CHARGE 25696
 #define SLOPEBOARD_STACK_CHARGE_LIMIT 13856
-#define SLOPEBOARD_STACK_CHARGE_REFINE 29816
+#define SLOPEBOARD_STACK_CHARGE_REFINE 55128
 #define SLOPEBOARD_STACK_CHECK 13360
 #define SLOPEBOARD_STACK_COUNT 8
-#define SLOPEBOARD_STACK_DRAW 3748
-#define SLOPEBOARD_STACK_IMPROVE 16160
+#define SLOPEBOARD_STACK_DRAW 4248
+#define SLOPEBOARD_STACK_IMPROVE 17808
 #define SLOPEBOARD_STACK_IS_CHOSEN 8
 #define SLOPEBOARD_STACK_KEEP 5392
 #define SLOPEBOARD_STACK_LIMIT 20592
-#define SLOPEBOARD_STACK_LIST 20304
+#define SLOPEBOARD_STACK_LIST 23232
 #define SLOPEBOARD_STACK_OPEN 8
-#define SLOPEBOARD_STACK_PLAN 12624
+#define SLOPEBOARD_STACK_PLAN 15504
 #define SLOPEBOARD_STACK_PLAY 24240
 #define SLOPEBOARD_STACK_READ 4992
 #define SLOPEBOARD_STACK_READ_SHORT 4992
-#define SLOPEBOARD_STACK_REFINE 29760
+#define SLOPEBOARD_STACK_REFINE 55024
 #define SLOPEBOARD_STACK_RESTORE 4872
 #define SLOPEBOARD_STACK_STEPS 16
 #define SLOPEBOARD_STACK_WRITE 4248
