@@ -23,7 +23,7 @@
  * - The content of a slice may be anything. Every call returns an answer.
  * - 'refusal' in an answer is 0, or one of the numbers below. On a refusal every other field is 0 or false, and no
  *   lent buffer has changed. If several causes are there, the first in the order under the function counts.
- * - On success the places of a lent buffer behind the last one written are as they were.
+ * - On success the places of a lent buffer after the last one written are as they were.
  * - No pointer is kept. There is no heap, no lock, no global state, no input or output. Calls in several threads do
  *   not disturb each other if none uses a lent buffer of another.
  * - All working space is on the caller's stack: at most SLOPEBOARD_STACK_.. bytes, given for each function below. No
@@ -100,7 +100,7 @@ enum {
 /* Enough for every sheet and every kept form: a header of 7 bytes and records of at most 10. */
 #define SLOPEBOARD_MOST_SHEET_BYTES (7 + 10 * SLOPEBOARD_MOST_TURNS)
 /* The bytes of a choice map. Turn t has bit t % 8 of byte t / 8, bit 0 being the lowest: 1 if it is chosen. Bits
- * behind the last turn are 0. */
+ * after the last turn are 0. */
 #define SLOPEBOARD_MAP_BYTES(turns) (((turns) + 7) / 8)
 /* A price list has a number for each slope and one for each turn. That of a hall has SLOPEBOARD_MINUTES. */
 #define SLOPEBOARD_MOST_PRICES (SLOPEBOARD_MOST_SLOPES + SLOPEBOARD_MOST_TURNS)
@@ -263,7 +263,7 @@ slopeboard_write_answer slopeboard_write(uint32_t groomers, uint32_t slopes, con
 slopeboard_plan_answer slopeboard_plan(const uint8_t *sheet, size_t sheet_len, uint8_t *board, size_t board_len);
 
 /* Gives 0 if the bytes are a board, else 12. A board opens with GRB, has no more steps than turns, is exactly as long
- * as these two numbers ask, and has no bit behind the last turn in its choice map. Nothing else is judged; it may have
+ * as these two numbers ask, and has no bit after the last turn in its choice map. Nothing else is judged; it may have
  * more turns than any sheet. */
 uint8_t slopeboard_open(const uint8_t *board, size_t board_len);
 
@@ -329,7 +329,7 @@ slopeboard_best_answer slopeboard_best(const uint8_t *sheet, size_t sheet_len, u
  *
  * The search starts with no turn taken and comes to the turns in the order of the sheet; coming to a turn is a visit.
  * If the turn conflicts with none taken, the search goes on with it, and when all of that is done, without it; else
- * only without it. Behind the last turn, which is no visit, the turns taken replace the best set if they are worth
+ * only without it. After the last turn, which is no visit, the turns taken replace the best set if they are worth
  * more. At first the best set is that of the planned board.
  *
  * The answer has the visits made: the visits allowed or those of the whole search, whichever are fewer. If 'whole' is
@@ -365,7 +365,7 @@ slopeboard_write_answer slopeboard_keep(const uint8_t *sheet, size_t sheet_len, 
  * whoever wrote it, that is restored and kept.
  *
  * Refusals, in this order: 1 for fewer than 7 bytes; 2; 3; 4; 1 for fewer maps than turns; 5 for each map in order; 1
- * or 10 for fewer or more bytes behind the maps than these ask for; then for each turn 6, 7, 8, 9, 19; then 11 if
+ * or 10 for fewer or more bytes after the maps than these ask for; then for each turn 6, 7, 8, 9, 19; then 11 if
  * sheet_len is below the bytes of the kept form. */
 slopeboard_write_answer slopeboard_restore(const uint8_t *kept, size_t kept_len, uint8_t *sheet, size_t sheet_len);
 
@@ -375,7 +375,7 @@ slopeboard_write_answer slopeboard_restore(const uint8_t *kept, size_t kept_len,
  * these minutes the groomer works; in the ten minutes after every turn it drives over; in all others it stands.
  *
  * Writes the standing of groomer g at place g - 1 of the list; what the list held plays no part. The answer has the
- * number of groomers. If all delays are 0, each chosen turn is worked just in its own minutes.
+ * number of groomers. If all delays are 0, each chosen turn is worked exactly in its own minutes.
  *
  * Refusals: those of slopeboard_check, in their order; then 24 if delays_len is not the number of turns, or if a
  * delay, of a chosen turn or not, is above SLOPEBOARD_MOST_DELAY; then 11 if list_len is below the groomers. */
@@ -388,7 +388,7 @@ slopeboard_play_answer slopeboard_play(const uint8_t *sheet, size_t sheet_len, c
  * A charging sheet is laid out as a sheet, with the mark GRE. The units of the hall stand in the place of the
  * groomers, its vehicles in that of the slopes. A record is a window: its slope is the vehicle, its groomer the draw;
  * it has no driver. Windows are allowed together if they are of different vehicles and in no minute draw more than
- * the units together. A window holds its own minutes, not the ten behind them.
+ * the units together. A window holds its own minutes, not the ten after them.
  *
  * There are two plans. That of the wide windows, which draw more than half of the units, has the steps of
  * slopeboard_plan for turns of one groomer that need no free minutes. In that of the small windows, all others, a
@@ -433,7 +433,7 @@ slopeboard_limit_answer slopeboard_limit(const uint8_t *sheet, size_t sheet_len,
  * taken together, of equal ones that which slopeboard_best would show, and a choice is made: their turns by
  * worth, the greatest first, of equals the lowest number, each chosen if it conflicts with none chosen before;
  * then all turns of the sheet likewise. If this choice is worth more than the board's, it takes its place. If
- * the kept limit is now the board's worth, or if all rounds are made, it ends. Else a round moves the prices just
+ * the kept limit is now the board's worth, or if all rounds are made, it ends. Else a round moves the prices exactly
  * looked at, not the kept ones, and it looks again.
  *
  * A round moves each price by how many turns of the best sets pay it. A price that none pays goes down by the
