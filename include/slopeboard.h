@@ -433,8 +433,8 @@ slopeboard_limit_answer slopeboard_limit(const uint8_t *sheet, size_t sheet_len,
  * taken together, of equal ones that which slopeboard_best would show, and a choice is made: their turns by
  * worth, the greatest first, of equals the lowest number, each chosen if it conflicts with none chosen before;
  * then all turns of the sheet likewise. If this choice is worth more than the board's, it takes its place. If
- * the kept limit is now the board's worth, or if all rounds are made, it ends. Else a round moves the prices exactly
- * looked at, not the kept ones, and it looks again.
+ * the kept limit is now the board's worth, or if all rounds are made, it ends. Else a round moves the prices
+ * looked at last, not the kept ones, and it looks again.
  *
  * A round moves each price by how many turns of the best sets pay it. A price that none pays goes down by the
  * change, to 0 at the lowest. One that a single turn pays stays; for each further payer it goes up by the change, to

@@ -170,18 +170,18 @@ impl Rule for WeighedHall<'_> {
         }
     }
 
-    fn misfits(&self, taken: &Set) -> Set {
+    fn blocked(&self, taken: &Set) -> Set {
         let mut selection = Selection::new(self.hall.units);
         for rank in each(taken) {
             selection.put(self.window(rank));
         }
-        let mut misfits = self.hall.all;
-        remove(&mut misfits, taken);
+        let mut blocked = self.hall.all;
+        remove(&mut blocked, taken);
         for rank in each(&self.hall.all) {
             if selection.fits(self.window(rank)) {
-                misfits[rank / 64] &= !(1 << (rank % 64));
+                blocked[rank / 64] &= !(1 << (rank % 64));
             }
         }
-        misfits
+        blocked
     }
 }
