@@ -361,6 +361,7 @@ module _ (s lent : List ℕ) (z : chargeOf s lent .answer .refusal ≡ 0) where
         set = plan-set;
         wide-run = wide-steps-are (hallOf s) _ .1 refl;
         small-run = small-steps-are (hallOf s) _ .1 refl;
+        tie = q .tie;
         wide-chosen = q .wide-chosen;
         small-chosen = q .small-chosen;
         wide-full = p .wide-full;

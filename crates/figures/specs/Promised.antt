@@ -367,6 +367,7 @@ pub record ChargesHall (s lent : List ℕ) (H : Hall) (S : List Bool) (x : Charg
   pub earns : worthIn H S ≡ x .answer .worth
   -- they are the plan of greater worth, of the small draws on a tie, and no further window of the kind could be chosen
   pub set : S ≡ hallChoice H
+  pub tie : worthIn H (wideChoice H) ≡ worthIn H (smallChoice H) → hallChoice H ≡ smallChoice H
   pub covers-wide : worthIn H (wideChoice H) ≤ x .answer .worth
   pub covers-small : worthIn H (smallChoice H) ≤ x .answer .worth
   pub wide-plan : worthIn H (smallChoice H) < worthIn H (wideChoice H) → S ≡ wideChoice H
