@@ -1,4 +1,7 @@
 // Sheets kept by column: from a sheet to its kept form, and back.
+
+#![tactic(auto)]
+
 mod form;
 mod keeping;
 mod restoring;

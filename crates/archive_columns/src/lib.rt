@@ -1,4 +1,7 @@
 // A field of many turns side by side, a column: put from a turn table, and read back into one.
+
+#![tactic(auto)]
+
 ghost use Rattle.std.specs.Prelude.{◌≡◌, ◌+◌, ◌*◌, ◌≤◌, ◌<◌, length};
 ghost use Rattle.wire.specs.Number.{puts};
 ghost use Rattle.turn.specs.Turn.{row_numbers};

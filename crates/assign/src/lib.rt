@@ -1,5 +1,8 @@
 // Groomers for all turns: each turn gets the number of the groomer who does it, where any groomer
 // can do any turn.
+
+#![tactic(auto)]
+
 ghost use Rattle.std.specs.Prelude.{◌≡◌, ◌+◌, ◌≤◌, ◌<◌, length};
 ghost use Rattle.turn.specs.Turn.{shift_minutes};
 ghost use Rattle.sheet.specs.Kind.{most_turns};

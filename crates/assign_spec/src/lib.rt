@@ -1,6 +1,8 @@
 // Numbers for all turns, where any groomer can do any: what they are, and that no fewer will do; the entry's answer and
 // causes to refuse; no code.
 
+#![tactic(auto)]
+
 // What comes back: a refusal, 0 if none, and how many groomers are used, 0 on a refusal.
 #[repr(C)]
 #[derive(Drop)]

@@ -1,5 +1,8 @@
 // The best worth of a shift where no slope comes twice and no turn names a driver, which the table of crate
 // best_table gives, and a set of that worth.
+
+#![tactic(auto)]
+
 ghost use Rattle.std.specs.Prelude.{◌≡◌, length, replicate};
 ghost use Rattle.choice_map.specs.Choice.{map_bytes, map_of};
 ghost use Rattle.instance.specs.Columns.{turns_by, Held};

@@ -1,5 +1,8 @@
 // The best worth of turns in columns, and the set that earns it: groomer after groomer, a table has an entry
 // for each turn, filled from the one that ends first on.
+
+#![tactic(auto)]
+
 mod best;
 mod blocked;
 mod keys;

@@ -1,4 +1,7 @@
 // The board's bytes: where its numbers and its steps stand, and writing them.
+
+#![tactic(auto)]
+
 mod header;
 mod writing;
 

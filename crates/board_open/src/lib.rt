@@ -1,4 +1,7 @@
 // Opening a board: whether any bytes are one, where its steps and its map are, which turns it chooses.
+
+#![tactic(auto)]
+
 mod opening;
 mod part;
 

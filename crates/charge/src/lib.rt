@@ -1,5 +1,8 @@
 // The charging hall: a plan of its wide windows, a plan of its small ones, and of the two the one of greater
 // worth.
+
+#![tactic(auto)]
+
 ghost use Rattle.std.specs.Prelude.{◌≡◌, false, length, replicate};
 ghost use Rattle.choice_map.specs.Choice.{choice_in, map_bytes, map_of, Clean};
 ghost use Rattle.charge_spec.specs.Plan.{hall_choice, hall_worth, worth_in};

@@ -1,4 +1,7 @@
 // The check of a board against its sheet.
+
+#![tactic(auto)]
+
 mod judge;
 mod orders;
 mod replay;

@@ -1,5 +1,7 @@
 // What the check answers, which boards pass, and what that promises; no code.
 
+#![tactic(auto)]
+
 // What the check returns: a refusal, 0 if none, and the board's tally, worth and ceiling, 0 on a refusal.
 #[repr(C)]
 #[derive(Drop)]

@@ -1,4 +1,7 @@
 // The choice map: byte t / 8 has turn t, at its bit t % 8.
+
+#![tactic(auto)]
+
 ghost use Rattle.std.specs.Prelude.{◌≡◌, ◌+◌, ◌-◌, ◌*◌, ◌≤◌, ◌<◌, length};
 ghost use Rattle.choice_map.specs.Choice.{bit_of, with_bit, map_bytes, chosen_in, with_turn, ones_of, ones_in, clear_past, low_among, next_chosen};
 

@@ -1,4 +1,7 @@
 // Planning, then checking what was planned: the claim, said of the programs.
+
+#![tactic(auto)]
+
 ghost use Rattle.std.specs.Prelude.{◌≡◌};
 ghost use Rattle.claim.specs.Confirm.{confirmed, confirm_of};
 

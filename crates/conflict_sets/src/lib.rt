@@ -1,5 +1,8 @@
 // Conflicts as sets: each turn's row is the set of the turns that conflict with it, and a turn fits beside a choice iff
 // no chosen turn's row has it. A set of turns is seven words of 64 bits; sets stand one after another.
+
+#![tactic(auto)]
+
 mod choosing;
 mod filling;
 mod sets;

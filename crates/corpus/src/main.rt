@@ -8,6 +8,9 @@
 // its input, no contract says, and none can say what is printed: the lines are held to the file stdout.
 //
 // A further entry is an arm of run_entry, a function in entries.rt and a line in specs/Line.
+
+#![tactic(auto)]
+
 ghost use Rattle.std.specs.Prelude.{◌≤◌, length};
 
 mod entries;

@@ -1,5 +1,8 @@
 // Drawn sheets: from a seed, turns by the generator of Park and Miller, and the sheet that the writer
 // makes of them. The same seed and counts give the same sheet on every machine.
+
+#![tactic(auto)]
+
 ghost use Rattle.std.specs.Prelude.{◌≡◌, ◌+◌, ◌*◌, ◌%◌, ◌≤◌, ◌<◌, length};
 ghost use Rattle.refusal.specs.Cause.{first_of};
 ghost use Rattle.refusal.specs.Outcome.{beside};

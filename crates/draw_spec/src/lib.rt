@@ -1,1 +1,3 @@
 // Drawn sheets: the generator, the drawn turns, their sheet; no code.
+
+#![tactic(auto)]

@@ -1,4 +1,7 @@
 // A look at a hall's prices of minutes: the limit, and the relaxed set.
+
+#![tactic(auto)]
+
 mod limit;
 mod relaxed;
 mod sums;

@@ -1,4 +1,7 @@
 // How a round moves the price of each minute, by what the relaxed set draws then.
+
+#![tactic(auto)]
+
 ghost use Rattle.std.specs.Prelude.{◌≡◌, ◌+◌, ◌-◌, ◌≤◌, ◌<◌, min, length, replicate};
 ghost use Rattle.limit_spec.specs.Prices.{most_price};
 ghost use Rattle.turn.specs.Turn.{shift_minutes, most_worth};

@@ -1,4 +1,7 @@
 // A hall's windows of one kind as the engine's turns, and their steps.
+
+#![tactic(auto)]
+
 mod one_kind;
 mod running;
 

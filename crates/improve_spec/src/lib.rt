@@ -1,6 +1,8 @@
 // The search with a limit on its visits; the answer, the causes to refuse and the promises of the entry that improves a
 // planned set; no code.
 
+#![tactic(auto)]
+
 // What the entry returns: a refusal, 0 if none, and else whether the search ran whole, the worth of the best
 // set found, what the ceiling of the planned steps exceeds it by, and the visits.
 #[repr(C)]

@@ -1,4 +1,7 @@
 // A sheet's turns as the engine holds them: in columns of numbers; and by which ways two turns conflict.
+
+#![tactic(auto)]
+
 mod by_end;
 mod by_start;
 mod columns;

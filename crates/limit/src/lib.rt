@@ -1,4 +1,7 @@
 // A limit by prices: any bytes as a sheet, and any numbers as a price list.
+
+#![tactic(auto)]
+
 ghost use Rattle.std.specs.Prelude.{◌≡◌, ◌+◌, length};
 ghost use Rattle.instance.specs.Columns.{Held};
 ghost use Rattle.best_spec.specs.Table.{best_worth};

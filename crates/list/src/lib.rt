@@ -1,4 +1,7 @@
 // The drivers' listing: what each groomer drives, as text.
+
+#![tactic(auto)]
+
 mod lines;
 mod notes;
 mod parts;

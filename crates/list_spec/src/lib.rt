@@ -1,5 +1,7 @@
 // The drivers' listing: rounds, lines, the whole text; when it is refused; no code.
 
+#![tactic(auto)]
+
 // What the last line says.
 #[derive(Drop)]
 pub struct Sums {

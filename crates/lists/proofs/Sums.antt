@@ -59,6 +59,7 @@ all_append none k = k
 all_append (more h hs) k = more h (all_append hs k)
 
 pub all_in : {P : ℕ → Type 0} {t : ℕ} {ts : List ℕ} → All P ts → In t ts → P t
+all_in none i = elim i [ ]
 all_in (more h hs) here = h
 all_in (more h hs) (later i) = all_in hs i
 

@@ -1,4 +1,7 @@
 // The engine of the local ratio method: residuals, what a step takes, what steps count for.
+
+#![tactic(auto)]
+
 mod counting;
 mod residuals;
 

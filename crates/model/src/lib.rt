@@ -1,1 +1,3 @@
 // Definitions and theorems only: this crate has no program.
+
+#![tactic(auto)]

@@ -1,5 +1,8 @@
 // Numbers: the lesser and the greater of two, what is left of one, 1 or 0 for a test, and a number as a wider one; a
 // function for each width that is needed.
+
+#![tactic(auto)]
+
 ghost use Rattle.std.specs.Prelude.{◌≡◌, cond, ◌-◌, ◌≤◌, ◌<◌, min, max};
 
 pub fn lesser_u16(x: u16, y: u16) -> u16

@@ -1,5 +1,8 @@
 // A shift in which turns are late, gone through by minutes. The caller lends a list; it holds a standing for
 // each groomer, which every minute moves on.
+
+#![tactic(auto)]
+
 mod days;
 mod moving;
 mod preparing;

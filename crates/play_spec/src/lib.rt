@@ -1,6 +1,8 @@
 // What a groomer does in each minute of a shift where turns are late, and the counts that are kept of it; the entry's
 // answer and causes to refuse; no code.
 
+#![tactic(auto)]
+
 // A turn as it is worked: from which minute on, and until which.
 #[derive(Drop)]
 pub struct Stint {

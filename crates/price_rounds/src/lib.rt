@@ -1,5 +1,8 @@
 // Rounds in which prices move, whatever the rule: a look at the prices, then a round, until the lowest limit is
 // the best worth or no round is left.
+
+#![tactic(auto)]
+
 ghost use Rattle.std.specs.Prelude.{◌≡◌};
 ghost use Rattle.choice_map.specs.Choice.{choice_in, Clean};
 ghost use Rattle.selection.specs.Asked.{NumbersOf};

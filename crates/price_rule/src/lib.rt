@@ -1,5 +1,8 @@
 // The rule of rounds as a value, for a shift or for a hall: what does not depend on prices, a look at the prices, the
 // choice made from a list, how a round moves the prices, and the first change.
+
+#![tactic(auto)]
+
 ghost use Rattle.std.specs.Prelude.{◌≡◌, false, ◌≤◌, length, replicate};
 ghost use Rattle.turn.specs.Turn.{most_worth};
 ghost use Rattle.model.specs.Choice.{choose_each, chosen};

@@ -1,5 +1,7 @@
 // What a better board by rounds is, when it is refused, and what it promises; no code.
 
+#![tactic(auto)]
+
 // What the entry returns: a refusal, 0 if none; then how many bytes the board has, what it is worth, the lowest
 // limit seen and how many rounds were made, all 0 on a refusal.
 #[repr(C)]

@@ -1,5 +1,8 @@
 // The numbers of refusals, in document order; 0 is none. After each of 1 to
 // 18 stands the trade's word.
+
+#![tactic(auto)]
+
 ghost use Rattle.std.specs.Prelude.{◌≡◌};
 ghost use Rattle.refusal.specs.Written.{write_refused};
 

@@ -1,5 +1,8 @@
 // What rounds are made of, whatever their rule: the turns by worth, the list that a choice is made from, the
 // lowest limit, the change, what a choice is worth.
+
+#![tactic(auto)]
+
 mod change;
 mod lowest;
 mod ranking;

@@ -1,5 +1,8 @@
 // A choice of turns, held in a choice map: whether a turn fits beside it, what the rules ask of it, and choosing by the
 // steps: going back over them, then filling. It knows turns only as rows in columns.
+
+#![tactic(auto)]
+
 mod asking;
 mod choosing;
 mod gathered;

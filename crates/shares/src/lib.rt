@@ -1,6 +1,9 @@
 // A step by shares, as a hall's small windows have it. Of a row the slope is the vehicle and the groomer the
 // draw. The step takes its amount from the windows of its own vehicle, and from those that share a minute
 // with it a part of the amount, by their draws.
+
+#![tactic(auto)]
+
 ghost use Rattle.std.specs.Prelude.{◌≡◌, ◌*◌, ◌≤◌, ◌<◌};
 ghost use Rattle.turn.specs.Turn.{most_worth};
 ghost use Rattle.model.specs.Steps.{after_step_by};

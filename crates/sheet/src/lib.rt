@@ -1,4 +1,7 @@
 // The sheet: kinds of sheet, and a record read from its bytes.
+
+#![tactic(auto)]
+
 mod answer;
 mod header;
 mod kind;

@@ -1,4 +1,7 @@
 // The reader: a sheet of any kind into a turn table.
+
+#![tactic(auto)]
+
 mod header;
 mod kind;
 mod reading;

@@ -1,4 +1,7 @@
 // The short reader: a shift's, with a smaller limit on turns.
+
+#![tactic(auto)]
+
 ghost use Rattle.std.specs.Prelude.{◌≡◌};
 ghost use Rattle.sheet.specs.Short.{short_sheet, read_short_of};
 ghost use Rattle.refusal.specs.Outcome.{beside};

@@ -1,4 +1,7 @@
 // What turns pay and count for at some prices, and the best sets of the groomers at these counts.
+
+#![tactic(auto)]
+
 mod counts;
 mod driverless;
 mod looking;

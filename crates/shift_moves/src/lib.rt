@@ -1,6 +1,9 @@
 // How a round moves the prices of a shift: each by how many turns of the relaxed set pay it. The payers of a
 // slope are the turns with its number. A turn pays for a run of places in the drivers' order: it is counted
 // where the run starts and where it ends, and sums along the order give the payers at each place.
+
+#![tactic(auto)]
+
 ghost use Rattle.std.specs.Prelude.{◌≡◌, cond, ◌+◌, ◌-◌, ◌*◌, ◌≤◌, ◌<◌, ltb, length, get_or, set, replicate};
 ghost use Rattle.limit_spec.specs.Prices.{most_price};
 ghost use Rattle.turn.specs.Turn.{most_worth};

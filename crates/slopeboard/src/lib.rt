@@ -1,5 +1,8 @@
 // The C ABI: each exported function has the contract of the entry after it; the steps, which cannot
 // leave as a part of a slice, have their place and length.
+
+#![tactic(auto)]
+
 ghost use Rattle.std.specs.Prelude.{◌≡◌, take, drop};
 ghost use Rattle.turn.specs.Turn.{counts_of};
 ghost use Rattle.sheet.specs.Read.{read_of};

@@ -1,4 +1,7 @@
 // Plans the sheet that comes on standard input; prints the drivers' listing, or the line of a refusal.
+
+#![tactic(auto)]
+
 ghost use Rattle.std.specs.Prelude.{◌≡◌, ◌≤◌, length, take};
 ghost use Rattle.list_spec.specs.Limits.{input_bytes, listing_bytes};
 ghost use Rattle.slopes.specs.Printed.{printed};

@@ -1,5 +1,8 @@
 // Text into lent bytes, one piece after another. Each function returns the place after what it
 // put; a byte for which there is no place is counted, not written.
+
+#![tactic(auto)]
+
 ghost use Rattle.std.specs.Prelude.{◌≡◌, [], ◌∷◌, ◌+◌, ◌-◌, ◌≤◌, ◌<◌, length, take, drop};
 ghost use Rattle.wire.specs.Number.{puts};
 ghost use Rattle.text.specs.Decimal.{most_digits, decimal};

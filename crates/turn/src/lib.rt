@@ -1,4 +1,7 @@
 // A turn: one groomer on one slope for some minutes, what that is worth, and who drives.
+
+#![tactic(auto)]
+
 ghost use Rattle.std.specs.Prelude.{◌≡◌, ◌+◌, ◌*◌, ◌≤◌, length};
 ghost use Rattle.refusal.specs.Cause.{first_of};
 ghost use Rattle.turn.specs.Turn.{row_numbers, turn_in, outside_range, past_shift, turn_causes};

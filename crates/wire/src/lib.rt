@@ -1,4 +1,7 @@
 // Numbers as bytes, high byte first, and the opening marks.
+
+#![tactic(auto)]
+
 ghost use Rattle.std.specs.Prelude.{◌≡◌, ◌+◌, ◌≤◌, ◌<◌, length};
 ghost use Rattle.wire.specs.Number.{value_at, bytes_of, bytes_at, puts};
 ghost use Rattle.wire.specs.Mark.{opens_with};

@@ -1,0 +1,12 @@
+-- Invariant: the first i bytes are put down; with the rest after them all would be. Measure: the bytes left.
+use Prim.Native.Nat.{◌+◌, ◌-◌, ◌≤◌}
+use mathlib.Core.Path.{◌≡◌}
+use lib.ListN.{length, drop}
+use Rattle.wire.specs.Number.{puts}
+use Rattle.wire.proofs.put_bytes.Given as goal
+
+abbrev pub invariant-loop-i : goal.invariant-loop-i
+invariant-loop-i l = (l.i ≤ length l.bytes) × (length l.out ≡ length l.initial.out) × (puts l.out (l.at + l.i) (drop l.i l.bytes) ≡ puts l.initial.out l.at l.bytes)
+
+abbrev pub decreases-loop-i : goal.decreases-loop-i
+decreases-loop-i l = length l.bytes - l.i

@@ -1,0 +1,7 @@
+-- put_quad: a number as four bytes from a place on.
+use Rattle.wire.proofs.Puts.{put_cases}
+use borrow.Author.Rules.{rules}
+use Rattle.wire.proofs.put_quad.Goals as goal
+
+pub returns : goal.returns
+returns c = search (rules, put_cases)
