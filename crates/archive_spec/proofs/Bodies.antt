@@ -21,7 +21,7 @@ use Rattle.sheet.specs.Layout.{record_of}
 use Rattle.sheet.specs.Accepted.{Records}
 use Rattle.sheet.specs.Accepted as sheet
 use Rattle.sheet.proofs.SoundKinds.{shift_sheet_sound}
-use Rattle.sheet.proofs.Maps.{good_map_iff}
+use Rattle.sheet.proofs.MapLaws.{good_map_iff}
 use Rattle.sheet.proofs.Fields.{drop_front, record_length}
 use Rattle.write_spec.specs.Write.{turns_causes}
 use Rattle.archive_spec.specs.Column.{slopes, groomers, starts, lengths, worths, drivers, values_of, column_of, column_size, widths, columns_of, Columns, turn_across, turns_across}

@@ -22,7 +22,7 @@ use Rattle.sheet.specs.Kind.{shift_sheet}
 use Rattle.sheet.specs.Record.{bad_map_for, cursor_after, first_cursor}
 use Rattle.sheet.specs.Read.{counts_in, count_causes, header_causes, causes_for}
 use Rattle.sheet.specs.Accepted.{CauseFor, WrongMap, cursor_of, Accepted}
-use Rattle.sheet.proofs.Maps.{bad_map_iff}
+use Rattle.sheet.proofs.MapLaws.{bad_map_iff}
 use Rattle.sheet.proofs.Accepting.{lent_accepted_iff}
 use Rattle.sheet.proofs.Causes.{cause_there_for, there_cause_for}
 use Rattle.sheet.proofs.ReadCauses.{lent_tell}

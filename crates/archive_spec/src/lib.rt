@@ -3,7 +3,7 @@
 #![tactic(auto)]
 
 // A field of a record: its place in a turn's row, what its bit counts for in a map, and its bytes.
-#[derive(Drop)]
+#[derive(Clone, Copy)]
 pub struct Field {
     pub place: usize,
     pub unit: u8,

@@ -15,7 +15,7 @@ use numbers::lesser_u16;
 const NO_MINUTE: u16 = 65535;
 
 // The groomers that have got a turn: how many, and a minute before which none of them is free.
-#[derive(Drop)]
+#[derive(Clone, Copy)]
 pub struct Groomers {
     pub used: usize,
     pub earliest: u16,

@@ -5,7 +5,7 @@ use Prim.Native.Nat.{ℕ, zero, suc, ◌+◌, ◌≤◌, ◌<◌}
 use native.Mathlib.Omega.{arith}
 use native.Mathlib.Decide.{dec_lt, ℕ_discrete}
 use lib.Dec.{eqb}
-use borrow.Author.Tests.{eqb-true, eq-eqb, not_false, not_true}
+use borrow.Author.Tests.{eqb-true, eq-eqb, not-false, not-true}
 use Rattle.lists.specs.Lists.{every, sum_over, below}
 use Rattle.lists.proofs.Bools.{and_1, and_2, and_of, not_both, every_at, every_not}
 use Rattle.lists.proofs.Sums.{sum_mono, sum_zero, sum_swap, sum_ones, sum_point, at_most_one, all_below, all_of}
@@ -65,7 +65,7 @@ module _ (f : ℕ → ℕ) where
       go true e ih = (t, omega arith, e, refl)
       go false e ih =
           let (u, h, q) = every_not (λ u. not (eqb (f u) (f t))) t e in
-          let same = eqb-true (f u) (f t) (not_false (eqb (f u) (f t)) q) in
+          let same = eqb-true (f u) (f t) (not-false (eqb (f u) (f t)) q) in
           let (r, k, n, g) = ih u (omega arith) in
           (r, omega arith, n, sym same ∙ g)
 
@@ -73,7 +73,7 @@ module _ (f : ℕ → ℕ) where
   new_alone u v a b e = go (ℕ_discrete u v) (dec_lt u v)
     where
       never : (x y : ℕ) → x < y → new y ≡ true → f x ≡ f y → ⊥
-      never x y l n q = not_both (eq-eqb (f x) (f y) q) (not_true (eqb (f x) (f y)) (every_at (λ u. not (eqb (f u) (f y))) y n x l))
+      never x y l n q = not_both (eq-eqb (f x) (f y) q) (not-true (eqb (f x) (f y)) (every_at (λ u. not (eqb (f u) (f y))) y n x l))
 
       go : Dec (u ≡ v) → Dec (u < v) → u ≡ v
       go (yes q) d = q

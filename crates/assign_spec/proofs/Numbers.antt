@@ -8,7 +8,7 @@ use native.Mathlib.Decide.{dec_lt, ℕ_discrete}
 use lib.Dec.{eqb}
 use lib.ListN.{length, set, replicate, length-set, length-replicate, get_or-replicate, get_or-eq_default}
 use lib.Seq.{get_or-set_same, get_or-set_other}
-use borrow.Author.Tests.{eqb-true, eq-eqb, ne_eqb, not_true, not_false}
+use borrow.Author.Tests.{eqb-true, eq-eqb, ne_eqb, not-true, not-false}
 use Rattle.lists.proofs.Bools.{and_1, and_2, and_of, not_both, fails, every_at, every_of, every_not}
 use Rattle.model.specs.Turns.{Turns, PositiveLengths, overlap}
 use Rattle.model.proofs.Conflicts.{overlap_sym}
@@ -32,7 +32,7 @@ module _ (T : Turns) (numbers : List ℕ) (t k : ℕ) where
       fails (overlap T u t)
       (λ o.
       not_both (and_of (eqb (number_in numbers u) k) (overlap T u t) (eq-eqb (number_in numbers u) k h) o)
-      (not_true (eqb (number_in numbers u) k && overlap T u t) (every_at (λ u. not (eqb (number_in numbers u) k && overlap T u t)) T.count e u l)))
+      (not-true (eqb (number_in numbers u) k && overlap T u t) (every_at (λ u. not (eqb (number_in numbers u) k && overlap T u t)) T.count e u l)))
 
   pub apart_free : ((u : ℕ) → u < T.count → number_in numbers u ≡ k → overlap T u t ≡ false) → free_for T numbers t k ≡ true
   unfolding free_for
@@ -46,7 +46,7 @@ module _ (T : Turns) (numbers : List ℕ) (t k : ℕ) where
   unfolding free_for
   not_free e =
       let (u, l, q) = every_not (λ u. not (eqb (number_in numbers u) k && overlap T u t)) T.count e in
-      let o = not_false (eqb (number_in numbers u) k && overlap T u t) q in
+      let o = not-false (eqb (number_in numbers u) k && overlap T u t) q in
       (u, l, eqb-true (number_in numbers u) k (and_1 (eqb (number_in numbers u) k) (overlap T u t) o), and_2 (eqb (number_in numbers u) k) (overlap T u t) o)
 
 -- ---- the next turn gets its number

@@ -5,7 +5,7 @@
 
 // What comes back: a refusal, 0 if none, and how many groomers are used, 0 on a refusal.
 #[repr(C)]
-#[derive(Drop)]
+#[derive(Clone, Copy)]
 pub struct AssignAnswer {
     pub refusal: u8,
     pub groomers: u16,

@@ -7,7 +7,7 @@ use mathlib.Core.Bool.{Bool, true, false, not, ◌&&◌}
 use native.Mathlib.Omega.{arith}
 use lib.Dec.{eqb}
 use lib.ListN.{length}
-use borrow.Author.Tests.{eqb-true, eq-eqb, not_true, not_false}
+use borrow.Author.Tests.{eqb-true, eq-eqb, not-true, not-false}
 use Rattle.lists.specs.Lists.{every}
 use Rattle.lists.proofs.Bools.{not_both, every_not, fails}
 use Rattle.refusal.specs.Number.{not_single_turns}
@@ -42,7 +42,7 @@ module _ (T : Turns) where
       go true a f = names_driver x h (λ d. not_both (eq-eqb (T.driver x) 0 d) f)
       go false a f =
           let (u, l, q) = every_not (λ u. not (eqb (T.slope x) (T.slope u))) x a in
-          two_turns x u h (omega arith) (λ d. omega arith) (eqb-true (T.slope x) (T.slope u) (not_false (eqb (T.slope x) (T.slope u)) q))
+          two_turns x u h (omega arith) (λ d. omega arith) (eqb-true (T.slope x) (T.slope u) (not-false (eqb (T.slope x) (T.slope u)) q))
 
   shows : single_turns T ≡ false → NotSingle T
   unfolding single_turns
@@ -54,7 +54,7 @@ module _ (T : Turns) where
   refutes (names_driver t h d) q = d (single_driverless T q t h)
 
   not_single_iff : (not (single_turns T) ≡ true) ↔ NotSingle T
-  not_single_iff = (λ e. shows (not_true (single_turns T) e), λ w. rw (fails (single_turns T) (refutes w)))
+  not_single_iff = (λ e. shows (not-true (single_turns T) e), λ w. rw (fails (single_turns T) (refutes w)))
 
 -- ---- the entry's number
 
@@ -97,7 +97,7 @@ module _ (s lent : List ℕ) where
   clear_iff =
       let room = enough_iff (single_causes s) (length lent) (map_bytes (turn_count s)) (single_numbered s) in
       let last = clear_last (sheet_causes s) not_single_turns (not (single_turns (sheet_turns s))) (sheet_numbered s) (omega arith) in (
-        λ e. let (a, l) = room.0 e in let (z, n) = last.0 a in (z, not_false (single_turns (sheet_turns s)) n, l),
+        λ e. let (a, l) = room.0 e in let (z, n) = last.0 a in (z, not-false (single_turns (sheet_turns s)) n, l),
         λ (z, q, l). room.1 (last.1 (z, rw q), l),
       )
 

@@ -5,7 +5,7 @@
 
 // What the entry returns: a refusal, 0 if none, and the best worth, 0 on a refusal.
 #[repr(C)]
-#[derive(Drop)]
+#[derive(Clone, Copy)]
 pub struct BestAnswer {
     pub refusal: u8,
     pub worth: u32,

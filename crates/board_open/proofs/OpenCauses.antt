@@ -7,7 +7,7 @@ use mathlib.Core.Bool.{Bool, true, false, not, ◌||◌}
 use native.Mathlib.Omega.{arith}
 use lib.Dec.{ltb, eqb}
 use lib.ListN.{length}
-use borrow.Author.Tests.{eq-eqb, eqb-true, eqb-false, lt-ltb, le-ltb, ltb-true, not_true, not_false}
+use borrow.Author.Tests.{eq-eqb, eqb-true, eqb-false, lt-ltb, le-ltb, ltb-true, not-true, not-false}
 use Rattle.refusal.specs.Number.{malformed_board}
 use Rattle.refusal.specs.Cause.{Cause, ◌when◌, first_of, There, here, later, First}
 use Rattle.refusal.proofs.Order.{numbered, first_iff, none_given}
@@ -89,18 +89,19 @@ module _ (b : List ℕ) where
 
   bit_cause : not (clear_past (board_turns b) (board_map b)) ≡ true → OpenCause b malformed_board 4
   unfolding clear_past
-  bit_cause e = found (every_not _ (8 * map_bytes (board_turns b) - board_turns b) (not_true (clear_past (board_turns b) (board_map b)) e))
+  bit_cause e = found (every_not _ (8 * map_bytes (board_turns b) - board_turns b) (not-true (clear_past (board_turns b) (board_map b)) e))
     where
       found : (k : ℕ) × (k < 8 * map_bytes (board_turns b) - board_turns b) × (not (chosen_in (board_map b) (board_turns b + k)) ≡ false) → OpenCause b malformed_board 4
-      found (k, l, f) = bit_past (board_turns b + k) (omega arith) (omega arith) (not_false (chosen_in (board_map b) (board_turns b + k)) f)
+      found (k, l, f) = bit_past (board_turns b + k) (omega arith) (omega arith) (not-false (chosen_in (board_map b) (board_turns b + k)) f)
 
   test_cause : {k r : ℕ} → There (tests b) k r → OpenCause b k r
   unfolding tests
   test_cause (here e) = short_header (ltb-true (length b) board_header e)
-  test_cause (later (here e)) = other_mark (λ q. not_both ((board_mark_iff b).1 q) (not_true (opens_with board_mark b) e))
+  test_cause (later (here e)) = other_mark (λ q. not_both ((board_mark_iff b).1 q) (not-true (opens_with board_mark b) e))
   test_cause (later (later (here e))) = more_steps (ltb-true (board_turns b) (board_steps b) e)
-  test_cause (later (later (later (here e)))) = other_length (eqb-false (length b) (board_length (board_turns b) (board_steps b)) (not_true (eqb (length b) (board_length (board_turns b) (board_steps b))) e))
+  test_cause (later (later (later (here e)))) = other_length (eqb-false (length b) (board_length (board_turns b) (board_steps b)) (not-true (eqb (length b) (board_length (board_turns b) (board_steps b))) e))
   test_cause (later (later (later (later (here e))))) = bit_cause e
+  test_cause {k = k} (later (later (later (later (later {r = r} x25))))) = elim x25 [ ]
 
   cause_test : {k r : ℕ} → OpenCause b k r → There (tests b) k r
   unfolding tests

@@ -7,7 +7,7 @@ use native.Mathlib.Omega.{arith}
 use lib.ListN.{length, take, drop, length-drop}
 use lib.Seq.{take_all, length-take-le}
 use lib.Dec.{ltb, eqb}
-use borrow.Author.Tests.{eq-eqb, ne_eqb, lt-ltb, le-ltb, ltb-false, eqb-true, not_false}
+use borrow.Author.Tests.{eq-eqb, ne_eqb, lt-ltb, le-ltb, ltb-false, eqb-true, not-false}
 use Rattle.refusal.specs.Number.{malformed_board}
 use Rattle.refusal.specs.Cause.{◌when◌, first_of}
 use Rattle.wire.specs.Mark.{board_mark, opens_with}
@@ -94,7 +94,7 @@ module _ (b : List ℕ) (e : malformed b ≡ false) where
 
   pub formed_mark : opens_with board_mark b ≡ true
   unfolding malformed
-  formed_mark = not_false (opens_with board_mark b) (or_false_1 (not (opens_with board_mark b)) (bad_sizes b) (or_false_2 (ltb (length b) board_header) (not (opens_with board_mark b) || bad_sizes b) e))
+  formed_mark = not-false (opens_with board_mark b) (or_false_1 (not (opens_with board_mark b)) (bad_sizes b) (or_false_2 (ltb (length b) board_header) (not (opens_with board_mark b) || bad_sizes b) e))
 
   pub formed_steps : board_steps b ≤ board_turns b
   unfolding bad_sizes
@@ -105,10 +105,10 @@ module _ (b : List ℕ) (e : malformed b ≡ false) where
   formed_rest = let f = formed_sizes in or_false_2 (ltb (board_turns b) (board_steps b)) _ f
 
   pub formed_length : length b ≡ board_length (board_turns b) (board_steps b)
-  formed_length = eqb-true (length b) (board_length (board_turns b) (board_steps b)) (not_false (eqb (length b) (board_length (board_turns b) (board_steps b))) (or_false_1 _ (not (clear_past (board_turns b) (board_map b))) formed_rest))
+  formed_length = eqb-true (length b) (board_length (board_turns b) (board_steps b)) (not-false (eqb (length b) (board_length (board_turns b) (board_steps b))) (or_false_1 _ (not (clear_past (board_turns b) (board_map b))) formed_rest))
 
   pub formed_clear : clear_past (board_turns b) (board_map b) ≡ true
-  formed_clear = not_false (clear_past (board_turns b) (board_map b)) (or_false_2 (not (eqb (length b) (board_length (board_turns b) (board_steps b)))) _ formed_rest)
+  formed_clear = not-false (clear_past (board_turns b) (board_map b)) (or_false_2 (not (eqb (length b) (board_length (board_turns b) (board_steps b)))) _ formed_rest)
 
   pub formed_map : length (board_map b) ≡ map_bytes (board_turns b)
   unfolding board_map

@@ -11,4 +11,4 @@ steps_part_at b = cond (malformed b) (record { start = 0; length = 0 }) (record 
 
 -- a part of a slice lies in the slice's own memory, from this place of it on: it is no copy, and no other bytes that are the same
 abbrev pub LiesAt : Bor (List ℕ) → Bor (List ℕ) → ℕ → Type 0
-LiesAt part whole place = (part.ptr.0 ≡ whole.ptr.0) × (part.ptr.1 ≡ whole.ptr.1 + place)
+LiesAt part whole place = (part.ref_ptr.0 ≡ whole.ref_ptr.0) × (part.ref_ptr.1 ≡ whole.ref_ptr.1 + place)

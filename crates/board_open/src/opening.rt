@@ -11,7 +11,7 @@ use choice_map::{clear_past, count_chosen, is_chosen};
 
 // What counting returns: a refusal, 0 if none, and the number of chosen turns, 0 on a refusal.
 #[repr(C)]
-#[derive(Drop)]
+#[derive(Clone, Copy)]
 pub struct CountAnswer {
     pub refusal: u8,
     pub turns: u32,

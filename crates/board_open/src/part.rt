@@ -7,7 +7,7 @@ use super::opening::{open, steps};
 
 // A part of the caller's own bytes: where it starts, and its length.
 #[repr(C)]
-#[derive(Drop)]
+#[derive(Clone, Copy)]
 pub struct Part {
     pub start: usize,
     pub length: usize,

@@ -7,7 +7,7 @@ use native.Mathlib.Omega.{arith}
 use native.Mathlib.Numerals.{add-one}
 use lib.ListN.{length, get_or, set, take, drop, replicate, take-append-drop, length-drop}
 use lib.Seq.{drop-cons, drop-length, take-suc-set, take-set-le, take_all, get_or-take, get_or-drop, length-take-le}
-use borrow.Author.Tests.{not_false}
+use borrow.Author.Tests.{not-false}
 use Rattle.lists.proofs.Bools.{and_1, and_2, every_not, every_fails, and_false}
 use Rattle.model.specs.Choice.{has, choose, choose_each}
 use Rattle.model.proofs.Choices.{put_keeps, choose_not, each_kept, each_both}
@@ -139,7 +139,7 @@ module _ (H : Hall) where
   unfolding vehicle_free
   taken_more S j t e =
       let (u, l, g) = every_not (λ u. not (has S u && same_vehicle H u t)) (window_count H) e in
-      let both : (has S u && same_vehicle H u t) ≡ true = not_false (has S u && same_vehicle H u t) g in
+      let both : (has S u && same_vehicle H u t) ≡ true = not-false (has S u && same_vehicle H u t) g in
       let here : has (set S j true) u ≡ true = put_keeps S j u (and_1 (has S u) (same_vehicle H u t) both) in
       let same : same_vehicle H u t ≡ true = and_2 (has S u) (same_vehicle H u t) both in
       every_fails (λ u. not (has (set S j true) u && same_vehicle H u t)) (window_count H) u l (rw (here, same))

@@ -12,7 +12,7 @@ use lib.ListN.{length, get_or, set, replicate, length-set, length-replicate}
 use lib.Seq.{get_or-set_same, get_or-set_other}
 use mir.Syntax.{w8}
 use mir.Val.{Fits}
-use borrow.Author.Tests.{le-leb, lt-leb, leb-true, not_true, not_false}
+use borrow.Author.Tests.{le-leb, lt-leb, leb-true, not-true, not-false}
 use Rattle.lists.proofs.Places.{put_more}
 use Rattle.lists.specs.Lists.{every}
 use Rattle.lists.proofs.Bools.{and_2, fails, every_of, every_at, every_not, every_fails, every_same}
@@ -89,11 +89,11 @@ module _ (used : List ℕ) (start room : ℕ) where
 
   module _ (end m : ℕ) (h : start ≤ m) {b : Bool} where
     pub long_not : {last : ℕ} → last ≡ end - part_minutes → start + part_minutes ≤ end → m < last → b ≡ lasts_for used m room part_minutes → not b ≡ true → false ≡ lasts_for used start room (end - start)
-    long_not o w l e f = sym (part_short m part_minutes end h (omega arith) (sym e ∙ not_true b f))
+    long_not o w l e f = sym (part_short m part_minutes end h (omega arith) (sym e ∙ not-true b f))
 
     module _ (g : lasts_for used start room (m - start) ≡ true) where
       pub long_more : b ≡ lasts_for used m room part_minutes → not b ≡ false → lasts_for used start room (m + part_minutes - start) ≡ true
-      long_more e f = part_joined m m part_minutes (m + part_minutes) h (omega arith) (omega arith) g (sym e ∙ not_false b f)
+      long_more e f = part_joined m m part_minutes (m + part_minutes) h (omega arith) (omega arith) g (sym e ∙ not-false b f)
 
       pub long_done : (last : ℕ) → last ≡ end - part_minutes → start + part_minutes ≤ end → last ≤ m → b ≡ lasts_for used last room part_minutes → b ≡ lasts_for used start room (end - start)
       long_done last o w l e = go b refl

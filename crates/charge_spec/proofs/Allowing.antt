@@ -9,7 +9,7 @@ use native.Mathlib.Decide.{dec_lt}
 use lib.Dec.{leb}
 use lib.ListN.{length, set, replicate, length-set, length-replicate}
 use lib.Seq.{get_or-set_same}
-use borrow.Author.Tests.{leb-true, leb-false, not_false}
+use borrow.Author.Tests.{leb-true, leb-false, not-false}
 use Rattle.lists.specs.Lists.{sum_over, All, more}
 use Rattle.model.specs.Steps.{Step}
 use Rattle.model.specs.Choice.{has, chosen, members, back, fill, choose_each}
@@ -79,7 +79,7 @@ module _ (H : Hall) where
       by_vehicle : vehicle_free H S j ≡ false → Short S j
       by_vehicle f =
           let (t, l, g) = every_not (λ t. not (has S t && same_vehicle H t j)) (window_count H) f in
-          let both : (has S t && same_vehicle H t j) ≡ true = not_false (has S t && same_vehicle H t j) g in
+          let both : (has S t && same_vehicle H t j) ≡ true = not-false (has S t && same_vehicle H t j) g in
           same_vehicle_lem t l (and_1 (has S t) (same_vehicle H t j) both) (and_2 (has S t) (same_vehicle H t j) both)
 
       by_supply : supply_lasts H S j ≡ false → Short S j

@@ -6,7 +6,7 @@ use Prim.Native.Nat.{ℕ, ◌+◌, ◌*◌, ◌≤◌, ◌<◌}
 use native.Mathlib.Omega.{arith}
 use lib.Dec.{ltb, leb}
 use lib.IntN.{ℤ}
-use borrow.Author.Tests.{ltb-true, ltb-false, lt-ltb, leb-true, le-leb, eqb-true, eq-eqb, not_true}
+use borrow.Author.Tests.{ltb-true, ltb-false, lt-ltb, leb-true, le-leb, eqb-true, eq-eqb, not-true}
 use Rattle.model.specs.Turns.{Turns, overlapping, conflict, PositiveLengths, NoDrivers}
 use Rattle.model.specs.Steps.{Step, is_open}
 use Rattle.model.specs.Rules.{Right}
@@ -81,7 +81,7 @@ module _ (H : Hall) where
 
   pub small_is : (t : ℕ) → is_small H t ≡ true → 2 * draw H t ≤ H.units
   unfolding is_small is_wide wide_draw
-  small_is t e = ltb-false H.units (2 * draw H t) (not_true (ltb H.units (2 * draw H t)) e)
+  small_is t e = ltb-false H.units (2 * draw H t) (not-true (ltb H.units (2 * draw H t)) e)
 
   -- ---- the windows of a kind as one groomer's turns
 

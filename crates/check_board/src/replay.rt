@@ -17,7 +17,7 @@ ghost use Rattle.check_board.specs.Moves.{moves_in};
 use instance::{MOST_TURNS, PLACES, Size};
 
 // Whether each of several steps is right where it stands, and what right ones count for.
-#[derive(Drop)]
+#[derive(Clone, Copy)]
 pub struct Replayed {
     pub right: bool,
     pub cost: u32,
@@ -25,7 +25,7 @@ pub struct Replayed {
 
 // Whether one step is right where it stands, what it counts for, and how many turns at the front are closed
 // after it.
-#[derive(Drop)]
+#[derive(Clone, Copy)]
 pub struct StepReplayed {
     pub right: bool,
     pub cost: u32,
@@ -33,14 +33,14 @@ pub struct StepReplayed {
 }
 
 // A written step: the place of its turn, and its amount.
-#[derive(Drop)]
+#[derive(Clone, Copy)]
 pub struct Move {
     pub place: usize,
     pub amount: u16,
 }
 
 // The number of the first cause to refuse a board, 0 if none, and the ceiling of its steps, 0 on a refusal.
-#[derive(Drop)]
+#[derive(Clone, Copy)]
 pub struct Judgement {
     pub fault: u8,
     pub ceiling: u32,

@@ -9,7 +9,7 @@ use native.Mathlib.Decide.{ℕ_discrete, dec_lt}
 use lib.Dec.{eqb}
 use lib.IntN.{ℤ}
 use lib.ListN.{length, get_or}
-use borrow.Author.Tests.{eqb-false, ne_eqb, not_true, not_false}
+use borrow.Author.Tests.{eqb-false, ne_eqb, not-true, not-false}
 use Rattle.refusal.specs.Cause.{first_of, There, here, later}
 use Rattle.refusal.proofs.Order.{first_goes}
 use Rattle.wire.specs.Number.{Bytes}
@@ -104,7 +104,7 @@ module _ (T : Turns) (lengths : PositiveLengths T) (b : List ℕ) where
     where
       go : (malformed b ≡ true) ⊎ (not (eqb (board_turns b) T.count) ≡ true) → BoardCause T b 12 0
       go (inl m) = no_board ((open_refused_iff b).0 (sym (open_refused b (sym m) refl))).1
-      go (inr n) = other_count (eqb-false (board_turns b) T.count (not_true (eqb (board_turns b) T.count) n))
+      go (inr n) = other_count (eqb-false (board_turns b) T.count (not-true (eqb (board_turns b) T.count) n))
 
   cause_opens : {r : ℕ} → OpenCause b malformed_board r → (malformed b || not (eqb (board_turns b) T.count)) ≡ true
   cause_opens {r} c = or_1 (malformed b) (not (eqb (board_turns b) T.count)) (shut b refl (λ z. omega (arith, sym z ∙ (open_refused_iff b).1 (r, c))))
@@ -114,14 +114,14 @@ module _ (T : Turns) (lengths : PositiveLengths T) (b : List ℕ) where
 
   conflict_cause : not (independent T (board_choice b)) ≡ true → BoardCause T b 13 1
   unfolding independent
-  conflict_cause e = outer (every_not _ T.count (not_true (independent T (board_choice b)) e))
+  conflict_cause e = outer (every_not _ T.count (not-true (independent T (board_choice b)) e))
     where
       S : List Bool
       S = board_choice b
 
       inner : (x : ℕ) → x < T.count → (y : ℕ) → y < x → not (has S x && has S y && conflict T x y) ≡ false → BoardCause T b 13 1
       inner x l y m f =
-          let g : (has S x && has S y && conflict T x y) ≡ true = not_false (has S x && has S y && conflict T x y) f in
+          let g : (has S x && has S y && conflict T x y) ≡ true = not-false (has S x && has S y && conflict T x y) f in
           let h : (has S x && has S y) ≡ true = and_1 (has S x && has S y) (conflict T x y) g in
           two_conflict x y l (omega arith) (λ q. omega arith) (and_1 (has S x) (has S y) h) (and_2 (has S x) (has S y) h) ((conflict_is T lengths x y l (omega arith)).0 (and_2 (has S x && has S y) (conflict T x y) g))
 
@@ -130,19 +130,19 @@ module _ (T : Turns) (lengths : PositiveLengths T) (b : List ℕ) where
 
   room_cause : not (maximal T (board_choice b)) ≡ true → BoardCause T b 14 2
   unfolding maximal
-  room_cause e = outer (every_not _ T.count (not_true (maximal T (board_choice b)) e))
+  room_cause e = outer (every_not _ T.count (not-true (maximal T (board_choice b)) e))
     where
       S : List Bool
       S = board_choice b
 
       outer : (t : ℕ) × (t < T.count) × ((has S t || not (fits T S t)) ≡ false) → BoardCause T b 14 2
       outer (t, l, f) =
-          let g : fits T S t ≡ true = not_false (fits T S t) (or_false_2 (has S t) (not (fits T S t)) f) in
+          let g : fits T S t ≡ true = not-false (fits T S t) (or_false_2 (has S t) (not (fits T S t)) f) in
           room_left t l (or_false_1 (has S t) (not (fits T S t)) f) (λ u m h c. not_both ((conflict_is T lengths u t m l).1 c) (fits_apart T S t g u m h))
 
   open_cause : not (none_open T (after_right T (initial T) (written_steps b))) ≡ true → BoardCause T b 16 4
   unfolding none_open
-  open_cause e = outer (every_not _ T.count (not_true (none_open T (after_right T (initial T) (written_steps b))) e))
+  open_cause e = outer (every_not _ T.count (not-true (none_open T (after_right T (initial T) (written_steps b))) e))
     where
       w : TakingFrom T (initial T) (written_steps b)
       w = taking_from T (initial T) (written_steps b)
@@ -150,14 +150,14 @@ module _ (T : Turns) (lengths : PositiveLengths T) (b : List ℕ) where
       outer : (t : ℕ) × (t < T.count) × (not (is_open (after_right T (initial T) (written_steps b)) t) ≡ false) → BoardCause T b 16 4
       outer (t, l, f) =
           turn_open w.taking (record { rest = w.rest; steps = w.steps; taking_right = w.taking_right; stops = w.stops }) t l
-          (rw w.after at (not_false (is_open (after_right T (initial T) (written_steps b)) t) f))
+          (rw w.after at (not-false (is_open (after_right T (initial T) (written_steps b)) t) f))
 
   cause_open : (taking : List Step) → UntilWrong T (written_steps b) taking → after_right T (initial T) (written_steps b) ≡ after_steps T (initial T) taking
   cause_open taking w = ap (after_right T (initial T)) w.steps ∙ taking_only T (initial T) taking w.rest w.taking_right w.stops
 
   wrong_cause : not (all_right T (initial T) (written_steps b)) ≡ true → BoardCause T b 15 3
   wrong_cause e =
-      let w = one_wrong T (initial T) (written_steps b) (not_true (all_right T (initial T) (written_steps b)) e) in
+      let w = one_wrong T (initial T) (written_steps b) (not-true (all_right T (initial T) (written_steps b)) e) in
       step_wrong (record { before = w.before; wrong = w.wrong; behind = w.behind; steps = w.steps; before_right = w.before_right; not_right = w.not_right })
 
   cause_wrong : OneWrong T (written_steps b) → all_right T (initial T) (written_steps b) ≡ true → ⊥
@@ -170,7 +170,7 @@ module _ (T : Turns) (lengths : PositiveLengths T) (b : List ℕ) where
       go (no p) q r = sums_differ (inl p)
       go (yes p) (no q) r = sums_differ (inr (inl q))
       go (yes p) (yes q) (yes r) = sums_differ (inr (inr r))
-      go (yes p) (yes q) (no r) = absurd (not_both ((sums_is T (board_choice b) (written_steps b) (board_tally b) (board_worth b)).1 (p, q, omega arith)) (not_true _ e))
+      go (yes p) (yes q) (no r) = absurd (not_both ((sums_is T (board_choice b) (written_steps b) (board_tally b) (board_worth b)).1 (p, q, omega arith)) (not-true _ e))
 
   -- ---- the causes are those of the list
 
@@ -182,6 +182,7 @@ module _ (T : Turns) (lengths : PositiveLengths T) (b : List ℕ) where
   board_cause (later (later (later (here e)))) = wrong_cause e
   board_cause (later (later (later (later (here e))))) = open_cause e
   board_cause (later (later (later (later (later (here e)))))) = sums_cause e
+  board_cause {k = k} (later (later (later (later (later (later {r = r} x30)))))) = elim x30 [ ]
 
   pub cause_board : {k r : ℕ} → BoardCause T b k r → There (board_causes T b) k r
   unfolding board_causes rule_causes choice_causes step_causes sum_causes

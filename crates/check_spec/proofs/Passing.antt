@@ -7,7 +7,7 @@ use mathlib.Core.Bool.{true, false, not}
 use native.Mathlib.Omega.{arith}
 use lib.Dec.{eqb}
 use lib.IntN.{ℤ}
-use borrow.Author.Tests.{eqb-true, eq-eqb, not_false}
+use borrow.Author.Tests.{eqb-true, eq-eqb, not-false}
 use Rattle.refusal.specs.Cause.{first_of}
 use Rattle.refusal.proofs.Order.{numbered, numbered_append, first_goes, clear_cons, clear_append}
 use Rattle.wire.specs.Number.{Bytes}
@@ -85,12 +85,12 @@ module _ (T : Turns) (b : List ℕ) where
       let c₆ = clear_cons _ _ (λ z. omega arith) c₅.1 in
       record {
         formed = or_false_1 (malformed b) (not (eqb (board_turns b) T.count)) c₁.0;
-        counted = eqb-true (board_turns b) T.count (not_false (eqb (board_turns b) T.count) (or_false_2 (malformed b) (not (eqb (board_turns b) T.count)) c₁.0));
-        apart = not_false (independent T (board_choice b)) c₂.0;
-        full = not_false (maximal T (board_choice b)) c₃.0;
-        all_right_lem = not_false (all_right T (initial T) (written_steps b)) c₄.0;
-        closed = rw (after_right_lem T (initial T) (written_steps b) (not_false (all_right T (initial T) (written_steps b)) c₄.0)) at (not_false (none_open T (after_right T (initial T) (written_steps b))) c₅.0);
-        summed = not_false (sums T (board_choice b) (written_steps b) (board_tally b) (board_worth b)) c₆.0;
+        counted = eqb-true (board_turns b) T.count (not-false (eqb (board_turns b) T.count) (or_false_2 (malformed b) (not (eqb (board_turns b) T.count)) c₁.0));
+        apart = not-false (independent T (board_choice b)) c₂.0;
+        full = not-false (maximal T (board_choice b)) c₃.0;
+        all_right_lem = not-false (all_right T (initial T) (written_steps b)) c₄.0;
+        closed = rw (after_right_lem T (initial T) (written_steps b) (not-false (all_right T (initial T) (written_steps b)) c₄.0)) at (not-false (none_open T (after_right T (initial T) (written_steps b))) c₅.0);
+        summed = not-false (sums T (board_choice b) (written_steps b) (board_tally b) (board_worth b)) c₆.0;
       }
 
   pub clear_board : Clear T b → first_of (board_causes T b) ≡ 0

@@ -4,7 +4,7 @@
 
 // What the check returns: a refusal, 0 if none, and the board's tally, worth and ceiling, 0 on a refusal.
 #[repr(C)]
-#[derive(Drop)]
+#[derive(Clone, Copy)]
 pub struct CheckAnswer {
     pub refusal: u8,
     pub tally: u32,

@@ -8,7 +8,7 @@ use native.Mathlib.Decide.{dec_lt, ℕ_discrete}
 use lib.Dec.{eqb}
 use lib.ListN.{length, get_or, set, take, drop, replicate, length-set, length-replicate, get_or-replicate, get_or-eq_default}
 use lib.Seq.{get_or-set_same, get_or-set_other, ext_get_or}
-use borrow.Author.Tests.{eq-eqb, ne_eqb, not_true}
+use borrow.Author.Tests.{eq-eqb, ne_eqb, not-true}
 use Rattle.wire.specs.Number.{Bytes, none, more}
 use Rattle.wire.proofs.Numbers.{byte_below}
 use Rattle.lists.specs.Lists.{tab}
@@ -33,7 +33,7 @@ pub clear_bits : (n : ℕ) (map : List ℕ) → clear_past n map ≡ true → (t
 unfolding clear_past
 clear_bits n map e t l h =
     let z : n + (t - n) ≡ t = omega arith in
-    not_true (chosen_in map t) (rw z at (every_at (λ k. not (chosen_in map (n + k))) (8 * map_bytes n - n) e (t - n) (omega arith)))
+    not-true (chosen_in map t) (rw z at (every_at (λ k. not (chosen_in map (n + k))) (8 * map_bytes n - n) e (t - n) (omega arith)))
 
 pub bits_clear : (n : ℕ) (map : List ℕ) → ((t : ℕ) → n ≤ t → t < 8 * map_bytes n → chosen_in map t ≡ false) → clear_past n map ≡ true
 unfolding clear_past

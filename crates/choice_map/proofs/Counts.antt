@@ -5,7 +5,7 @@ use mathlib.Core.Bool.{Bool, true, not, cond}
 use mathlib.Core.List.{List, [], ◌∷◌}
 use native.Mathlib.Omega.{arith}
 use lib.ListN.{length}
-use borrow.Author.Tests.{not_true}
+use borrow.Author.Tests.{not-true}
 use Rattle.lists.specs.Lists.{sum_over, below}
 use Rattle.model.specs.Choice.{has, chosen}
 use Rattle.lists.proofs.Bools.{every_at}
@@ -42,6 +42,6 @@ pub ones_turns : (n : ℕ) (map : List ℕ) → length map ≡ map_bytes n → c
 unfolding chosen clear_past
 ones_turns n map s c =
     let k : 8 * length map ≡ n + (8 * map_bytes n - n) = omega arith in
-    let past : sum_over (λ u. one (chosen_in map (n + u))) (below (8 * map_bytes n - n)) ≡ 0 = sum_zero _ (all_below (8 * map_bytes n - n) (λ u h. ap one (not_true (chosen_in map (n + u)) (every_at (λ k. not (chosen_in map (n + k))) (8 * map_bytes n - n) c u h)))) in
+    let past : sum_over (λ u. one (chosen_in map (n + u))) (below (8 * map_bytes n - n)) ≡ 0 = sum_zero _ (all_below (8 * map_bytes n - n) (λ u h. ap one (not-true (chosen_in map (n + u)) (every_at (λ k. not (chosen_in map (n + k))) (8 * map_bytes n - n) c u h)))) in
     let inside : sum_over (λ t. one (has (choice_in n map) t)) (below n) ≡ sum_over (λ t. one (chosen_in map t)) (below n) = sum_same _ _ n (λ t h. ap one (choice_has n map t h)) in
     ones_bits map ∙ rw k (omega (arith, past, inside, sum_split (λ t. one (chosen_in map t)) n (8 * map_bytes n - n)))

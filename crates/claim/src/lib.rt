@@ -8,7 +8,7 @@ ghost use Rattle.claim.specs.Confirm.{confirmed, confirm_of};
 use check_spec::CheckAnswer;
 use refusal::WriteAnswer;
 
-#[derive(Drop)]
+#[derive(Clone, Copy)]
 pub struct Confirmed {
     pub plan: WriteAnswer,
     pub check: CheckAnswer,

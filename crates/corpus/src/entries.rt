@@ -33,7 +33,7 @@ const ASKED: usize = 20;
 const MOST_TABLE: usize = 2412;
 
 // What a line says of a call: the refusal, and the further values that the entry returns.
-#[derive(Drop)]
+#[derive(Clone, Copy)]
 pub enum Line {
     Nothing,
     One(u8, u64),

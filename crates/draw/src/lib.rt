@@ -41,7 +41,7 @@ const DRAWN_STARTS: u32 = 841;
 const LENGTH_PLACES: u32 = 100;
 
 // A drawn turn, and the last of its draws.
-#[derive(Drop)]
+#[derive(Clone, Copy)]
 pub struct Drawn {
     pub turn: Turn,
     pub last: u32,

@@ -8,7 +8,7 @@ use mathlib.Core.List.{List}
 use lib.ListN.{length, take, drop}
 use lib.Seq.{take-append_seam}
 use lib.Dec.{ltb}
-use borrow.Author.Tests.{lt-ltb, ltb-true, not_true}
+use borrow.Author.Tests.{lt-ltb, ltb-true, not-true}
 use native.Mathlib.Decide.{dec_lt, ℕ_discrete}
 use Rattle.lists.proofs.Bools.{and_1, and_2}
 use Rattle.refusal.specs.Written.{wrote, written_part}
@@ -470,7 +470,7 @@ chosen_bit b t =
     let inside = ltb t (board_turns b) in
     let bit = chosen_in (board_map b) t in (
       λ e. let f = and_2 (not (malformed b)) (inside && bit) e in
-          ((open_accepted_iff b).1 (formed_board b (not_true (malformed b) (and_1 (not (malformed b)) (inside && bit) e))), ltb-true t (board_turns b) (and_1 inside bit f), and_2 inside bit f),
+          ((open_accepted_iff b).1 (formed_board b (not-true (malformed b) (and_1 (not (malformed b)) (inside && bit) e))), ltb-true t (board_turns b) (and_1 inside bit f), and_2 inside bit f),
       λ (z, l, c). rw (opened b refl z, lt-ltb t (board_turns b) l, c),
     )
 

@@ -6,7 +6,7 @@
 // What the rounds return: a refusal, 0 if none; then what the set is worth, the lowest limit seen and how many
 // rounds were made, all 0 on a refusal.
 #[repr(C)]
-#[derive(Drop)]
+#[derive(Clone, Copy)]
 pub struct ChargeRefineAnswer {
     pub refusal: u8,
     pub worth: u32,

@@ -12,7 +12,7 @@ pub use relaxed::look_at;
 pub use sums::MINUTES;
 
 // The units of a hall's supply, its vehicles, and how many windows it has.
-#[derive(Drop)]
+#[derive(Clone, Copy)]
 pub struct HallSize {
     pub units: u16,
     pub vehicles: u16,

@@ -1,3 +1,3 @@
-pub mod OneKind
+pub mod OneKindLaws
 pub mod Planned
 pub mod Written

@@ -10,7 +10,7 @@ use local_ratio::value_if;
 use numbers::as_u32;
 
 // The hall's units, how many windows it has, and which of them are meant: the wide ones, or the small.
-#[derive(Drop)]
+#[derive(Clone, Copy)]
 pub struct OneKind {
     pub units: u16,
     pub size: Size,

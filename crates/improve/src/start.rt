@@ -8,7 +8,7 @@ use super::words::word_of;
 use instance::{PLACES, Size};
 
 // The board's worth, its ceiling, and its set as a word.
-#[derive(Drop)]
+#[derive(Clone, Copy)]
 pub struct Start {
     pub worth: u32,
     pub ceiling: u32,

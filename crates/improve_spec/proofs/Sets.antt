@@ -87,6 +87,7 @@ module _ (T : Turns) where
   one_listed : (t : ℕ) (S U : List Bool) → ListedSet U (sets_from T 0 t S) → U ≡ S
   unfolding sets_from
   one_listed t S U here = refl
+  one_listed t S U (there x3) = elim x3 [ ]
 
   sets_grown : (left t : ℕ) (S U : List Bool) → Root t S → ListedSet U (sets_from T left t S) → Grown left t S U
   sets_grown zero t S U r h =

@@ -6,7 +6,7 @@
 // What the entry returns: a refusal, 0 if none, and else whether the search ran whole, the worth of the best
 // set found, what the ceiling of the planned steps exceeds it by, and the visits.
 #[repr(C)]
-#[derive(Drop)]
+#[derive(Clone, Copy)]
 pub struct ImproveAnswer {
     pub refusal: u8,
     pub whole: bool,

@@ -10,7 +10,7 @@ use native.Mathlib.Decide.{ℕ_discrete}
 use lib.Dec.{eqb}
 use lib.ListN.{length, get_or, set, replicate, length-set, length-replicate, get_or-replicate}
 use lib.Seq.{get_or-set_same, get_or-set_other}
-use borrow.Author.Tests.{eq-eqb, ne_eqb, not_false}
+use borrow.Author.Tests.{eq-eqb, ne_eqb, not-false}
 use Rattle.lists.specs.Lists.{every}
 use Rattle.lists.proofs.Bools.{every_of, every_at, every_not, every_fails, second_fails, not_two, and_1, and_2}
 use Rattle.model.specs.Turns.{Turns}
@@ -69,7 +69,7 @@ module _ (T : Turns) (old new : ℕ → Bool) (x y j : ℕ) (flags : List ℕ) (
           same true e = sym (every_of (λ u. not (new u && eqb m (T.slope u))) y (λ t l. not_two (new t) (eqb m (T.slope t)) (λ p. newer e t (only t l p))))
           same false e =
               let (t, l, f) = every_not (λ u. not (old u && eqb m (T.slope u))) x e in
-              let both : (old t && eqb m (T.slope t)) ≡ true = not_false (old t && eqb m (T.slope t)) f in
+              let both : (old t && eqb m (T.slope t)) ≡ true = not-false (old t && eqb m (T.slope t)) f in
               let (l', n') = stays t l (and_1 (old t) (eqb m (T.slope t)) both) in
               sym (every_fails (λ u. not (new u && eqb m (T.slope u))) y t l' (rw (n', and_2 (old t) (eqb m (T.slope t)) both)))
 

@@ -29,7 +29,7 @@ const WORTHS: usize = 4 * MOST_TURNS;
 const DRIVERS: usize = 5 * MOST_TURNS;
 
 // How many turns there are, and the free minutes that a groomer or a driver needs between two turns.
-#[derive(Drop)]
+#[derive(Clone, Copy)]
 pub struct Size {
     pub count: usize,
     pub gap: u16,

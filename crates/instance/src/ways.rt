@@ -8,7 +8,7 @@ ghost use Rattle.instance.specs.Ways.{shared_of, ways_of, conflicting};
 use numbers::as_u32;
 
 // What the engine asks of a turn. Driver 0 stands for none.
-#[derive(Drop)]
+#[derive(Clone, Copy)]
 pub struct Row {
     pub slope: u16,
     pub groomer: u16,
@@ -19,7 +19,7 @@ pub struct Row {
 }
 
 // For each way in which two turns can conflict, whether it is there.
-#[derive(Drop)]
+#[derive(Clone, Copy)]
 pub struct Ways {
     pub slope: bool,
     pub groomer: bool,

@@ -7,7 +7,7 @@ use mathlib.Core.Bool.{true, not}
 use native.Mathlib.Omega.{arith}
 use lib.Dec.{eqb}
 use lib.ListN.{length}
-use borrow.Author.Tests.{eqb-true, eq-eqb, ne_eqb, not_true, not_false, eqb-false}
+use borrow.Author.Tests.{eqb-true, eq-eqb, ne_eqb, not-true, not-false, eqb-false}
 use Rattle.refusal.specs.Number.{bad_prices}
 use Rattle.refusal.specs.Cause.{first_of, Cause, ◌when◌}
 use Rattle.refusal.proofs.Order.{clear_last, numbered}
@@ -23,12 +23,12 @@ use Rattle.limit_spec.specs.declared.LimitAnswer.{LimitAnswer}
 
 -- two numbers that are not to differ: the test in words, and as the last cause
 pub other_iff : (a b : ℕ) → (not (eqb a b) ≡ true) ↔ (a ≢ b)
-other_iff a b = (λ t. eqb-false a b (not_true (eqb a b) t), λ d. rw (ne_eqb a b d))
+other_iff a b = (λ t. eqb-false a b (not-true (eqb a b) t), λ d. rw (ne_eqb a b d))
 
 pub clear_exact : (cs : List Cause) (a b : ℕ) → numbered cs ≡ true → (first_of (cs ++ (bad_prices when not (eqb a b) ∷ [])) ≡ 0) ↔ ((first_of cs ≡ 0) × (a ≡ b))
 clear_exact cs a b n =
     let last = clear_last cs bad_prices (not (eqb a b)) n (omega arith) in (
-      λ e. let (z, q) = last.0 e in (z, eqb-true a b (not_false (eqb a b) q)),
+      λ e. let (z, q) = last.0 e in (z, eqb-true a b (not-false (eqb a b) q)),
       λ (z, l). last.1 (z, rw (eq-eqb a b l)),
     )
 

@@ -4,7 +4,7 @@
 
 // What the entry returns: a refusal, 0 if none, and the limit, 0 on a refusal.
 #[repr(C)]
-#[derive(Drop)]
+#[derive(Clone, Copy)]
 pub struct LimitAnswer {
     pub refusal: u8,
     pub limit: u32,

@@ -3,7 +3,7 @@
 #![tactic(auto)]
 
 // What the last line says.
-#[derive(Drop)]
+#[derive(Clone, Copy)]
 pub struct Sums {
     pub worth: u32,
     pub tally: u32,

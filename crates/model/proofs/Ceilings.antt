@@ -9,7 +9,7 @@ use native.Mathlib.Nat.{mul-le-mul_right}
 use lib.Dec.{eqb}
 use lib.IntN.{ℤ}
 use lib.ListN.{length}
-use borrow.Author.Tests.{eq-eqb, not_false}
+use borrow.Author.Tests.{eq-eqb, not-false}
 use Rattle.lists.specs.Lists.{sum_over, All}
 use Rattle.model.specs.Turns.{Turns, PositiveLengths, NoDrivers, by_slope, by_groomer, by_driver, conflict}
 use Rattle.model.specs.Steps.{Step, touches, taken, initial, after_step, after_steps, total, tally}
@@ -29,7 +29,7 @@ use Rattle.model.proofs.Residuals.{Closed, RightSteps}
 module _ (T : Turns) (s : List ℤ) (j : ℕ) where
   pub holds_all : (G : Groups) → hold_all T s j G ≡ true → HoldAll T s j G
   unfolding hold_all
-  holds_all G e t l h = not_false (in_groups T G j t) (second_fails (touches T s j t) (not (in_groups T G j t)) (every_at (λ t. not (touches T s j t && not (in_groups T G j t))) T.count e t l) h)
+  holds_all G e t l h = not-false (in_groups T G j t) (second_fails (touches T s j t) (not (in_groups T G j t)) (every_at (λ t. not (touches T s j t && not (in_groups T G j t))) T.count e t l) h)
 
   pub all_held : (G : Groups) → HoldAll T s j G → hold_all T s j G ≡ true
   unfolding hold_all

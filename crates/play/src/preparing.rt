@@ -15,7 +15,7 @@ use instance::{PLACES, Size};
 
 // What is known before the first minute: the answer, and how many minutes are played of how many groomers, none
 // on a refusal.
-#[derive(Drop)]
+#[derive(Clone, Copy)]
 pub struct Prepared {
     pub refusal: u8,
     pub groomers: u16,
@@ -24,7 +24,7 @@ pub struct Prepared {
 }
 
 // How many standings are wanted, and how many places the caller lends for them.
-#[derive(Drop)]
+#[derive(Clone, Copy)]
 pub struct Lent {
     pub groomers: u16,
     pub places: usize,

@@ -8,7 +8,7 @@ use native.Mathlib.Omega.{arith}
 use native.Mathlib.Decide.{ℕ_discrete, dec_lt}
 use lib.Dec.{eqb, ltb}
 use lib.ListN.{length, drop}
-use borrow.Author.Tests.{eqb-true, ltb-false, not_false, eq-eqb, lt-ltb, le-ltb, not_true}
+use borrow.Author.Tests.{eqb-true, ltb-false, not-false, eq-eqb, lt-ltb, le-ltb, not-true}
 use Rattle.lists.proofs.Bools.{fails, and_1, and_2, and_of, every_not}
 use Rattle.refusal.specs.Number.{buffer_too_small, bad_delays}
 use Rattle.refusal.specs.Cause.{◌when◌, first_of}
@@ -64,7 +64,7 @@ module _ (s b delays : List ℕ) where
   fail (long_delay u l m) t = let w = serves_iff.0 t in omega (arith, w.within u (omega (arith, w.each)), m)
 
   fails_iff : (not (serves_for (turn_count s) delays) ≡ true) ↔ DelaysFail s delays
-  fails_iff = (λ e. not_served (not_true (serves_for (turn_count s) delays) e), λ w. rw (fails (serves_for (turn_count s) delays) (fail w)))
+  fails_iff = (λ e. not_served (not-true (serves_for (turn_count s) delays) e), λ w. rw (fails (serves_for (turn_count s) delays) (fail w)))
 
   -- the words tell what the lists give
   lent_tells : (places : ℕ) → Tells (LentPlayCause s delays places) (lent_causes (counts_in s).groomers (turn_count s) delays places)
@@ -90,7 +90,7 @@ module _ (s b delays : List ℕ) (lent : List Standing) where
       let r = clear_append (check_causes s b) _ (check_numbered s b) (sym (play_number s b delays lent) ∙ z) in
       let (x, l) = (enough_iff (bad_delays when not (serves_for (turn_count s) delays) ∷ []) (length lent) (counts_in s).groomers refl).0 r.1 in
       let y = clear_cons (bad_delays when not (serves_for (turn_count s) delays)) [] (λ n. omega (arith, n)) x in
-      (check_number s b ∙ r.0, (serves_iff s b delays).0 (not_false (serves_for (turn_count s) delays) y.0), l)
+      (check_number s b ∙ r.0, (serves_iff s b delays).0 (not-false (serves_for (turn_count s) delays) y.0), l)
 
   -- of bytes, nothing is refused exactly where the sheet is accepted, the board keeps the rules, the delays serve, and there is a place for each groomer
   pub play_accepted_iff : Bytes s → ((play_of s b delays lent).answer.refusal ≡ 0) ↔ (Accepted s × BoardKeeps s b × DelaysServe s delays × ((counts_in s).groomers ≤ length lent))

@@ -4,7 +4,7 @@
 #![tactic(auto)]
 
 // A turn as it is worked: from which minute on, and until which.
-#[derive(Drop)]
+#[derive(Clone, Copy)]
 pub struct Stint {
     pub turn: u16,
     pub begin: u16,
@@ -13,7 +13,7 @@ pub struct Stint {
 
 // How many minutes a groomer has worked, driven over and stood so far, and the turn that it has in hand.
 #[repr(C)]
-#[derive(Drop)]
+#[derive(Clone, Copy)]
 pub struct Standing {
     pub working: u16,
     pub driving: u16,
@@ -23,7 +23,7 @@ pub struct Standing {
 
 // What comes back: a refusal, 0 if none, and how many groomers the sheet has, 0 on a refusal.
 #[repr(C)]
-#[derive(Drop)]
+#[derive(Clone, Copy)]
 pub struct PlayAnswer {
     pub refusal: u8,
     pub groomers: u16,

@@ -25,14 +25,14 @@ const MOST_PRICES: usize = MINUTES;
 const NO_LIMIT: u32 = 4294967295;
 
 // The most rounds, and the worth of the choice to start from.
-#[derive(Drop)]
+#[derive(Clone, Copy)]
 pub struct Start {
     pub rounds: u32,
     pub worth: u32,
 }
 
 // The rule beside them.
-#[derive(Drop)]
+#[derive(Clone, Copy)]
 pub struct Task {
     pub rule: RuleFor,
     pub rounds: u32,
@@ -40,7 +40,7 @@ pub struct Task {
 }
 
 // What the rounds came to, beside price list and choice.
-#[derive(Drop)]
+#[derive(Clone, Copy)]
 pub struct Reached {
     pub limit: u32,
     pub worth: u32,

@@ -22,7 +22,7 @@ use instance::{PLACES, Size};
 use round_parts::greatest_worth;
 use shift_look::{Extent, ORDERS};
 
-#[derive(Drop)]
+#[derive(Clone, Copy)]
 pub enum RuleFor {
     Shift(Extent),
     Hall(HallSize),

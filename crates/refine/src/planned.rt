@@ -11,7 +11,7 @@ ghost use Rattle.refine.specs.PlannedBoard.{PlannedIn};
 use instance::{PLACES, Size};
 
 // The bytes of a planned board, and its worth.
-#[derive(Drop)]
+#[derive(Clone, Copy)]
 pub struct Planned {
     pub bytes: u32,
     pub worth: u32,

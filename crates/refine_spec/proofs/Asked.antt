@@ -9,7 +9,7 @@ use native.Mathlib.Decide.{ℕ_discrete}
 use lib.Dec.{eqb}
 use lib.ListN.{length, set, replicate, length-replicate}
 use lib.Seq.{get_or-set_same, get_or-set_other, set-get_or, ext_get_or}
-use borrow.Author.Tests.{eqb-true, eq-eqb, not_true}
+use borrow.Author.Tests.{eqb-true, eq-eqb, not-true}
 use Rattle.lists.specs.Lists.{tab, below, All, none, more, keep}
 use Rattle.lists.specs.Sorting.{insert_by, sort_by}
 use Rattle.lists.proofs.Bools.{not_both, fails, refuted, same_tests, and_1, and_2, and_of, and_false, or_1, or_2, or_false_1, or_false_2}
@@ -253,7 +253,7 @@ module _ (T : Turns) where
         go false = refl
 
     richer_words : (u t : ℕ) → has relaxed u ≡ has relaxed t → richer u t ≡ true → AskedBefore T relaxed u t
-    richer_words u t s e = go (first_poorer T t u (and_1 (poorer_first T t u) (not (eqb t u)) e)) (λ q. not_both (eq-eqb t u q) (not_true (eqb t u) (and_2 (poorer_first T t u) (not (eqb t u)) e)))
+    richer_words u t s e = go (first_poorer T t u (and_1 (poorer_first T t u) (not (eqb t u)) e)) (λ q. not_both (eq-eqb t u q) (not-true (eqb t u) (and_2 (poorer_first T t u) (not (eqb t u)) e)))
       where
         go : Poorer T t u → (t ≡ u → ⊥) → AskedBefore T relaxed u t
         go (by_worth_lem h) d = worth_more s h
@@ -355,9 +355,9 @@ module _ (test : List Bool → ℕ → Bool) (shut : (S : List Bool) (j t : ℕ)
   list_asked : Asked (others ++ relaxed_ones)
   list_asked =
       both_asked
-      (kept_asked (λ t. not (has relaxed t)) false (λ t e. not_true (has relaxed t) e) (worth_ranked T) (worth_range T))
+      (kept_asked (λ t. not (has relaxed t)) false (λ t e. not-true (has relaxed t) e) (worth_ranked T) (worth_range T))
       (kept_asked (has relaxed) true (λ t e. e) (worth_ranked T) (worth_range T))
-      (all_map (λ t e. not_true (has relaxed t) e) (keep_holds (λ t. not (has relaxed t)) (by_worth T)))
+      (all_map (λ t e. not-true (has relaxed t) e) (keep_holds (λ t. not (has relaxed t)) (by_worth T)))
       (keep_holds (has relaxed) (by_worth T))
 
   made_at : (t : ℕ) → t < T.count → has (choice_from test T relaxed) t ≡ test (asked_earlier T relaxed (choice_from test T relaxed) t) t

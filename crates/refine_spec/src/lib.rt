@@ -5,7 +5,7 @@
 // What the entry returns: a refusal, 0 if none; then how many bytes the board has, what it is worth, the lowest
 // limit seen and how many rounds were made, all 0 on a refusal.
 #[repr(C)]
-#[derive(Drop)]
+#[derive(Clone, Copy)]
 pub struct RefineAnswer {
     pub refusal: u8,
     pub bytes: u32,

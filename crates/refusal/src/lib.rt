@@ -61,7 +61,7 @@ pub const BAD_PRICES: u8 = 26; // a price list of another length than is due: sl
 // What an entry returns that writes bytes into a lent place: a refusal, 0 if none, and the bytes written, 0 on a
 // refusal.
 #[repr(C)]
-#[derive(Drop)]
+#[derive(Clone, Copy)]
 pub struct WriteAnswer {
     pub refusal: u8,
     pub bytes: u32,

@@ -24,7 +24,7 @@ pub const HALL_GAP: u16 = 0;
 const SHARES: usize = 25;
 
 // A step on a window for an amount, in a hall of so many units.
-#[derive(Drop)]
+#[derive(Clone, Copy)]
 pub struct Share {
     pub turn: usize,
     pub amount: u16,

@@ -7,7 +7,7 @@ use mathlib.Core.Logic.{⊎_elim, ◌↔◌, ◌≢◌}
 use native.Mathlib.Omega.{arith}
 use native.Mathlib.Nat.{zero-add}
 use lib.ListN.{length, take}
-use borrow.Author.Tests.{ltb-true, lt-ltb, leb-true, le-leb, not_true}
+use borrow.Author.Tests.{ltb-true, lt-ltb, leb-true, le-leb, not-true}
 use Rattle.refusal.specs.Cause.{There, first_of, FirstAmong}
 use Rattle.refusal.proofs.Places.{cause_at, there_at, at_there, there_left, there_right, there_split}
 use Rattle.wire.specs.Mark.{opens_with}
@@ -18,12 +18,12 @@ use Rattle.sheet.specs.Kind.{shift_sheet, ThreeBytes}
 use Rattle.sheet.specs.Record.{width_of, end_at, first_cursor, record_causes}
 use Rattle.sheet.specs.Read.{header_bytes, counts_in, turn_count, count_causes, header_causes, records_causes, causes_for, sheet_causes}
 use Rattle.sheet.proofs.SoundKinds.{shift_sheet_sound, mark_iff}
-use Rattle.sheet.proofs.Maps.{bad_map_iff}
+use Rattle.sheet.proofs.MapLaws.{bad_map_iff}
 use Rattle.sheet.specs.Accepted.{cursor_of, record_map, turn_of, place_of, CauseFor, short_header, other_mark, groomer_count, slope_count, turn_count_cause, no_map, wrong_map, short_fields, slope, groomer, time, worth, driver, bytes_behind, FirstCause}
 use Rattle.refusal.proofs.Order.{first_same}
 
 other_mark_iff : {mark : List ℕ} → ThreeBytes mark → (s : List ℕ) → (not (opens_with mark s) ≡ true) ↔ (take 3 s ≢ mark)
-other_mark_iff {mark} b s = (λ e m. true≢false (sym ((mark_iff b s).1 m) ∙ not_true (opens_with mark s) e), λ n. go (opens_with mark s) refl n)
+other_mark_iff {mark} b s = (λ e m. true≢false (sym ((mark_iff b s).1 m) ∙ not-true (opens_with mark s) e), λ n. go (opens_with mark s) refl n)
   where
     go : (t : Bool) → opens_with mark s ≡ t → take 3 s ≢ mark → not t ≡ true
     go true q n = absurd (n ((mark_iff b s).0 q))

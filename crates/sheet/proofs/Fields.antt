@@ -23,7 +23,7 @@ use Rattle.sheet.specs.declared.record.Cursor.{Cursor}
 use Rattle.sheet.specs.Record.{width_of, record_bytes, field, turn_from, bad_map_for, map_at, end_at, turn_at, record_causes}
 use Rattle.sheet.specs.Layout.{field_bytes, record_of}
 use Rattle.sheet.specs.Accepted.{GoodMap, Carried}
-use Rattle.sheet.proofs.Maps.{good_map_iff}
+use Rattle.sheet.proofs.MapLaws.{good_map_iff}
 use Rattle.sheet.proofs.Records.{field_carried}
 
 -- after what stands at a place

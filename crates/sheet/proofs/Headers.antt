@@ -6,7 +6,7 @@ use mathlib.Core.List.{List, []}
 use native.Mathlib.Omega.{arith}
 use lib.ListN.{length}
 use lib.Dec.{ltb}
-use borrow.Author.Tests.{eq-eqb, ne_eqb, lt-ltb, le-ltb, ltb-false, not_false}
+use borrow.Author.Tests.{eq-eqb, ne_eqb, lt-ltb, le-ltb, ltb-false, not-false}
 use Rattle.refusal.specs.Number.{truncated, bad_magic}
 use Rattle.refusal.specs.Cause.{◌when◌, first_of}
 use Rattle.refusal.proofs.Order.{numbered, clear_cons}
@@ -115,7 +115,7 @@ module _ (K : Kind) (numbers : Numbered K.refusals) (s : List ℕ) where
   header_fine e =
       let p = clear_cons (truncated when ltb (length s) header_bytes) _ (omega arith) e in
       let q = clear_cons (bad_magic when not (opens_with K.mark s)) _ (omega arith) p.1 in
-      record { whole = ltb-false (length s) header_bytes p.0; mark = not_false (opens_with K.mark s) q.0; legal = counts_legal K (counts_in s) (turn_count s) numbers q.1 }
+      record { whole = ltb-false (length s) header_bytes p.0; mark = not-false (opens_with K.mark s) q.0; legal = counts_legal K (counts_in s) (turn_count s) numbers q.1 }
 
   -- it has no more turns than a sheet of this kind may have
   pub header_few : first_of (header_causes K s) ≡ 0 → turn_count s ≤ K.most.turns

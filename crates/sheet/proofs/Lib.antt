@@ -1,5 +1,5 @@
 pub mod SoundKinds
-pub mod Maps
+pub mod MapLaws
 pub mod Records
 pub mod Headers
 pub mod Scans

@@ -2,7 +2,7 @@
 
 // What the reader returns: a refusal, 0 if none, and the header's counts, all 0 on a refusal.
 #[repr(C)]
-#[derive(Drop)]
+#[derive(Clone, Copy)]
 pub struct ReadAnswer {
     pub refusal: u8,
     pub groomers: u16,

@@ -3,7 +3,7 @@ use turn::Counts;
 
 pub const HEADER_BYTES: usize = 7;
 
-#[derive(Drop)]
+#[derive(Clone, Copy)]
 pub enum Header {
     Found(Counts, u16),
     Refused(u8),

@@ -17,7 +17,7 @@ pub const MOST_TURNS: u16 = 400;
 pub const TABLE_PLACES: usize = turn::ROW_NUMBERS * (MOST_TURNS as usize);
 
 // The greatest counts that a header may name.
-#[derive(Drop)]
+#[derive(Clone, Copy)]
 pub struct Most {
     pub groomers: u16,
     pub slopes: u16,
@@ -26,14 +26,14 @@ pub struct Most {
 
 // The map with every field, and the least map of a first record. A first record has one of the two,
 // a later one none above the full map.
-#[derive(Drop)]
+#[derive(Clone, Copy)]
 pub struct Maps {
     pub first: u8,
     pub full: u8,
 }
 
 // What opens a sheet, what its header and its maps may be, and the refusals that are its own.
-#[derive(Drop)]
+#[derive(Clone, Copy)]
 pub struct Kind {
     pub mark: [u8; 3],
     pub most: Most,

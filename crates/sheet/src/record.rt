@@ -6,14 +6,14 @@ use super::kind::{Kind, Maps};
 use turn::{Counts, Turn};
 
 // Where the next record starts, and the turn before it.
-#[derive(Drop)]
+#[derive(Clone, Copy)]
 pub struct Cursor {
     pub at: usize,
     pub first: bool,
     pub prev: Turn,
 }
 
-#[derive(Drop)]
+#[derive(Clone, Copy)]
 pub enum Next {
     Read(Turn, Cursor),
     Refused(u8),

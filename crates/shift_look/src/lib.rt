@@ -20,7 +20,7 @@ pub use runs::{DRIVERS, FROMS, TOS};
 pub const ORDERS: usize = 5 * MOST_TURNS;
 
 // How many turns and slopes there are, and the gap.
-#[derive(Drop)]
+#[derive(Clone, Copy)]
 pub struct Extent {
     pub size: Size,
     pub slopes: usize,

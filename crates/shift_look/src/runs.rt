@@ -20,7 +20,7 @@ pub const FROMS: usize = 3 * MOST_TURNS;
 pub const TOS: usize = 4 * MOST_TURNS;
 
 // Places of the drivers' order, from one to before another.
-#[derive(Drop)]
+#[derive(Clone, Copy)]
 struct Run {
     from: u16,
     to: u16,

@@ -17,7 +17,7 @@ pub const MOST_DRIVER: u16 = 40;
 // Numbers a turn in a table.
 pub const ROW_NUMBERS: usize = 6;
 
-#[derive(Drop)]
+#[derive(Clone, Copy)]
 pub struct Turn {
     pub slope: u16,
     pub groomer: u16,
@@ -28,7 +28,7 @@ pub struct Turn {
 }
 
 // How many groomers and slopes a sheet has.
-#[derive(Drop)]
+#[derive(Clone, Copy)]
 pub struct Counts {
     pub groomers: u16,
     pub slopes: u16,
@@ -36,7 +36,7 @@ pub struct Counts {
 
 // The refusals that go by the kind of sheet: of its counts, of too many turns, of a turn's slope and
 // of its groomer.
-#[derive(Drop)]
+#[derive(Clone, Copy)]
 pub struct Refusals {
     pub counts: u8,
     pub turns: u8,

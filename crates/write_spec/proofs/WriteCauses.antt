@@ -8,7 +8,7 @@ use native.Mathlib.Omega.{arith}
 use native.Mathlib.Nat.{zero-add, add-zero}
 use lib.Dec.{eqb}
 use lib.ListN.{length}
-use borrow.Author.Tests.{ltb-true, lt-ltb, eqb-false, ne_eqb, not_true}
+use borrow.Author.Tests.{ltb-true, lt-ltb, eqb-false, ne_eqb, not-true}
 use Rattle.refusal.specs.Number.{partial_turn}
 use Rattle.refusal.specs.Cause.{Cause, ◌when◌, There}
 use Rattle.refusal.proofs.Places.{cause_at, there_at, at_there, there_left, there_right, there_split}
@@ -26,7 +26,7 @@ use Rattle.refusal.specs.Written.{kept}
 use Rattle.refusal.proofs.Written.{written_iff, written_not}
 
 partial_iff : (n : ℕ) → (not (eqb n 0) ≡ true) ↔ (n ≢ 0)
-partial_iff n = (λ e. eqb-false n 0 (not_true (eqb n 0) e), λ h. rw (ne_eqb n 0 h))
+partial_iff n = (λ e. eqb-false n 0 (not-true (eqb n 0) e), λ h. rw (ne_eqb n 0 h))
 
 module _ (counts : Counts) (table : List ℕ) where
   -- the length and the counts

@@ -1,5 +1,5 @@
 -- is_of_kind: whether a window with this draw is of the kind that is meant.
-use Rattle.hall_steps.proofs.OneKind.{row_cases}
+use Rattle.hall_steps.proofs.OneKindLaws.{row_cases}
 use borrow.Author.Rules.{rules}
 use Rattle.hall_steps.proofs.one_kind.is_of_kind.Statement.{statement}
 use Rattle.hall_steps.proofs.one_kind.is_of_kind.Tie as tie

@@ -4,7 +4,7 @@ use lib.ListN.{length}
 use mathlib.Core.Path.{◌≡◌}
 use Prim.Native.Nat.{◌-◌, ◌≤◌}
 use borrow.Author.Rules.{rules}
-use Rattle.hall_steps.proofs.OneKind.{KindRows, one_kind_cases}
+use Rattle.hall_steps.proofs.OneKindLaws.{KindRows, one_kind_cases}
 use Rattle.hall_steps.proofs.one_kind.put_kind.Statement.{statement}
 use Rattle.hall_steps.proofs.one_kind.put_kind.Tie as tie
 

@@ -1,0 +1,7 @@
+-- put_row: puts a row at place i.
+use Rattle.instance.proofs.Rows.{row_cases}
+use borrow.Author.Rules.{rules}
+use Rattle.instance.proofs.columns.put_row.Goals as goal
+
+pub returns : goal.returns
+returns c = search (rules, row_cases)

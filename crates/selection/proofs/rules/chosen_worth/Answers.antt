@@ -1,0 +1,14 @@
+-- chosen_worth: the goals that the laws of the crate answer.
+use borrow.Author.Rules.{rules}
+use Rattle.selection.proofs.Chosen.{all_cases}
+use Prim.Native.Nat.{◌-◌}
+use Rattle.selection.proofs.rules.chosen_worth.Goals as goal
+
+pub loop-t-init : goal.loop-t-init
+loop-t-init c = (search rules, search rules, search all_cases)
+
+pub loop-t-preserved : goal.loop-t-preserved
+loop-t-preserved c = (search rules, search rules, search all_cases)
+
+pub returns : goal.returns
+returns c = search all_cases
