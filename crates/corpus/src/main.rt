@@ -16,7 +16,8 @@ ghost use Rattle.std.specs.Prelude.{◌≤◌, length};
 mod entries;
 
 use entries::Line;
-use libc::{STDIN_FILENO, STDOUT_FILENO};
+use std::io;
+use std::io::Read;
 
 // Bytes before a case's name.
 const HEAD: usize = 10;
@@ -55,80 +56,92 @@ fn run_entry(entry: u8, front: &[u8], rest: &[u8], numbers: &mut [u16], bytes: &
     }
 }
 
-fn text(bytes: &[u8]) {
-    io::write_all(STDOUT_FILENO, bytes);
+fn text(rt: &impl Print, bytes: &[u8]) -> io::Result<()> {
+    rt.write_all(bytes)
 }
 
 // A value, with a space before it.
-fn value(x: u64) {
-    text(b" ");
-    io::print_decimal(STDOUT_FILENO, x);
+fn value(rt: &impl Print, x: u64) -> io::Result<()> {
+    text(rt, b" ")?;
+    rt.print(x)
 }
 
 // A refusal, and the value that comes with it.
-fn pair(refusal: u8, x: u64) {
-    value(refusal as u64);
-    value(x);
+fn pair(rt: &impl Print, refusal: u8, x: u64) -> io::Result<()> {
+    value(rt, refusal as u64)?;
+    value(rt, x)
 }
 
-fn print(line: Line) {
+fn print(rt: &impl Print, line: Line) -> io::Result<()> {
     match line {
-        Line::Nothing => {}
-        Line::One(refusal, a) => pair(refusal, a),
+        Line::Nothing => Ok(()),
+        Line::One(refusal, a) => pair(rt, refusal, a),
         Line::Two(refusal, a, b) => {
-            pair(refusal, a);
-            value(b);
+            pair(rt, refusal, a)?;
+            value(rt, b)
         }
         Line::Three(refusal, a, b, c) => {
-            pair(refusal, a);
-            value(b);
-            value(c);
+            pair(rt, refusal, a)?;
+            value(rt, b)?;
+            value(rt, c)
         }
         Line::Four(refusal, a, b, c, d) => {
-            pair(refusal, a);
-            value(b);
-            value(c);
-            value(d);
+            pair(rt, refusal, a)?;
+            value(rt, b)?;
+            value(rt, c)?;
+            value(rt, d)
         }
     }
 }
 
-fn number(x: u16) {
-    value(x as u64);
+fn number(rt: &impl Print, x: u16) -> io::Result<()> {
+    value(rt, x as u64)
 }
 
 // A byte in hexadecimal, with a space before it.
-fn byte(x: u8) {
-    text(b" ");
-    io::print_hex(STDOUT_FILENO, x as u64, 2);
+fn byte(rt: &impl Print, x: u8) -> io::Result<()> {
+    print!(rt; " {x:02x}")
 }
 
 // Numbers after a bar.
-fn print_numbers(numbers: &[u16]) {
-    text(b" |");
+fn print_numbers(rt: &impl Print, numbers: &[u16]) -> io::Result<()> {
+    text(rt, b" |")?;
     let mut i = 0;
     while i < numbers.len() {
-        number(numbers[i]);
+        number(rt, numbers[i])?;
         i += 1;
     }
+    Ok(())
 }
 
 // Bytes after a bar.
-fn print_bytes(bytes: &[u8]) {
-    text(b" |");
+fn print_bytes(rt: &impl Print, bytes: &[u8]) -> io::Result<()> {
+    text(rt, b" |")?;
     let mut i = 0;
     while i < bytes.len() {
-        byte(bytes[i]);
+        byte(rt, bytes[i])?;
         i += 1;
     }
+    Ok(())
 }
 
 // What the entry's line says, and the steps of a board where it was opened.
-fn print_call(entry: u8, front: &[u8], rest: &[u8], numbers: &mut [u16], bytes: &mut [u8]) {
-    print(run_entry(entry, front, rest, &mut *numbers, &mut *bytes));
+fn print_call(
+    rt: &impl Print,
+    entry: u8,
+    front: &[u8],
+    rest: &[u8],
+    numbers: &mut [u16],
+    bytes: &mut [u8],
+) -> io::Result<()> {
+    print(
+        rt,
+        run_entry(entry, front, rest, &mut *numbers, &mut *bytes),
+    )?;
     if entry == OPEN {
-        print_bytes(board_open::steps(front));
+        print_bytes(rt, board_open::steps(front))?;
     }
+    Ok(())
 }
 
 // How many bytes of name and input follow a case's head.
@@ -140,85 +153,110 @@ fn input_size(head: &[u8; HEAD]) -> usize {
 
 // Prints the line of a case with this name.
 fn print_line(
+    rt: &impl Print,
     entry: u8,
     name: &[u8],
     input: &[u8],
     cut: usize,
     numbers: &mut [u16],
     bytes: &mut [u8],
-)
+) -> io::Result<()>
     requires { cut ≤ length input.now }
 {
-    text(name);
+    text(rt, name)?;
     print_call(
+        rt,
         entry,
         &input[..cut],
         &input[cut..],
         &mut *numbers,
         &mut *bytes,
-    );
-    print_numbers(&*numbers);
-    print_bytes(&*bytes);
-    text(b"\n");
+    )?;
+    print_numbers(rt, &*numbers)?;
+    print_bytes(rt, &*bytes)?;
+    text(rt, b"\n")
 }
 
 // Runs a case, which is lent so many of the numbers and bytes here; false where it asks for more.
-fn run_case(head: &[u8; HEAD], input: &[u8], numbers: &mut [u16], bytes: &mut [u8]) -> bool {
+fn run_case(
+    rt: &impl Print,
+    head: &[u8; HEAD],
+    input: &[u8],
+    numbers: &mut [u16],
+    bytes: &mut [u8],
+) -> io::Result<bool> {
     let name = wire::byte_at(head, 1) as usize;
     let places = wire::word_at(head, 2) as usize;
     let lent = wire::word_at(head, 4) as usize;
     let cut = wire::word_at(head, 6) as usize;
     let end = name + cut + wire::word_at(head, 8) as usize;
     if input.len() < end {
-        return false;
+        return Ok(false);
     }
     if numbers.len() < places {
-        return false;
+        return Ok(false);
     }
     if bytes.len() < lent {
-        return false;
+        return Ok(false);
     }
     let entry = head[0];
     print_line(
+        rt,
         entry,
         &input[..name],
         &input[name..end],
         cut,
         &mut numbers[..places],
         &mut bytes[..lent],
-    );
-    true
+    )?;
+    Ok(true)
+}
+
+// Reads until these are full, the input ends or a read fails; returns how many bytes came to the front.
+fn read_full(input: &mut impl Read, bytes: &mut [u8]) -> usize
+    ensures { result ≤ length bytes.new }
+{
+    let mut done = 0;
+    while done < bytes.len() {
+        let more = input.read(&mut bytes[done..]).unwrap_or(0);
+        if more == 0 {
+            break;
+        }
+        done += more;
+    }
+    done
 }
 
 // Fetches so many bytes of standard input to the front; false where they are not there, or do not fit.
-fn fetch(buffer: &mut [u8], count: usize) -> bool {
+fn fetch(rt: &impl Input, buffer: &mut [u8], count: usize) -> bool {
     if buffer.len() < count {
         return false;
     }
-    io::read_full(STDIN_FILENO, &mut buffer[..count]) == count
+    read_full(&mut rt.reader(), &mut buffer[..count]) == count
 }
 
 // Fetches and runs the next case; false where standard input ends, or where the case does not fit.
-fn next_case() -> bool {
+fn next_case(rt: &(impl Input + Print)) -> io::Result<bool> {
     let mut head = [0u8; HEAD];
-    let whole = fetch(&mut head, HEAD);
+    let whole = fetch(rt, &mut head, HEAD);
     if !whole {
-        return false;
+        return Ok(false);
     }
     let mut input = [0u8; MOST_INPUT];
-    let there = fetch(&mut input, input_size(&head));
+    let there = fetch(rt, &mut input, input_size(&head));
     if !there {
-        return false;
+        return Ok(false);
     }
     let mut numbers = [NUMBER_BEFORE; MOST_LENT];
     let mut bytes = [BYTE_BEFORE; MOST_LENT];
-    run_case(&head, &input, &mut numbers, &mut bytes)
+    run_case(rt, &head, &input, &mut numbers, &mut bytes)
 }
 
 // The loop has to end, and nothing says that the input does: so it counts down.
-fn main() {
+fn main(rt: HostRuntime) -> io::Result<()> {
     let mut left: u32 = 1000000;
-    while 0 < left && next_case() {
+    while 0 < left && next_case(&rt)? {
         left -= 1;
     }
+    Ok(())
 }

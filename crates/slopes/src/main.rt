@@ -6,8 +6,9 @@ ghost use Rattle.std.specs.Prelude.{◌≡◌, ◌≤◌, length, take};
 ghost use Rattle.list_spec.specs.Limits.{input_bytes, listing_bytes};
 ghost use Rattle.slopes.specs.Printed.{printed};
 
-use libc::{STDIN_FILENO, STDOUT_FILENO};
 use list::LISTING_BYTES;
+use std::io;
+use std::io::Read;
 
 // One byte more than the longest sheet has: what is after it changes no answer.
 const INPUT_BYTES: usize = 4008;
@@ -24,19 +25,28 @@ fn answer(sheet: &[u8], text: &mut [u8]) -> usize
     list::refused_line(&mut *text, a.refusal)
 }
 
-// Bytes of standard input to the front of these, by io::read_full; returns how many came, no more than there is place for.
+// Bytes of standard input to the front of these, until they are full, the input ends or a read fails; returns how many came, no more than there is place for.
 // What a read gives no contract can say.
-fn gather(sheet: &mut [u8]) -> usize
+fn gather(rt: &impl Input, sheet: &mut [u8]) -> usize
     requires { length sheet.old ≡ input_bytes }
     ensures { result ≤ length sheet.new }
 {
-    io::read_full(STDIN_FILENO, &mut *sheet)
+    let mut input = rt.reader();
+    let mut got = 0;
+    while got < sheet.len() {
+        let more = input.read(&mut sheet[got..]).unwrap_or(0);
+        if more == 0 {
+            break;
+        }
+        got += more;
+    }
+    got
 }
 
-fn main() {
+fn main(rt: HostRuntime) -> io::Result<()> {
     let mut sheet = [0u8; INPUT_BYTES];
-    let got = gather(&mut sheet);
+    let got = gather(&rt, &mut sheet);
     let mut text = [0u8; LISTING_BYTES];
     let bytes = answer(&sheet[..got], &mut text);
-    io::write_all(STDOUT_FILENO, &text[..bytes]);
+    rt.write_all(&text[..bytes])
 }

@@ -17,8 +17,11 @@ slice_bounds-table-end c = whole_room_for _ _ c.read_table-read.ensures.0 (searc
 pub slice_bounds-keep_turns-end : goal.slice_bounds-keep_turns-end
 slice_bounds-keep_turns-end c = sym (whole_rows_for _ _ c.read_table-read.ensures.0 (search rules) _ c.read_table-read.ensures.1)
 
-pub keep_turns-requires : goal.keep_turns-requires
-keep_turns-requires c = ((whole_few _ c.read_table-read.ensures.0 (search rules), keep_header c.args.sheet.now c.args.kept.now c.read_table-read.ensures.0 (search rules), search (rules, whole_rows_for _ _ c.read_table-read.ensures.0 (search rules) _ c.read_table-read.ensures.1)), (keep_whole c.args.sheet.now c.args.kept.now c.read_table-read.ensures.0 (search rules), search rules))
+pub keep_turns-requires-clause-n_in_bounds : goal.keep_turns-requires-clause-n_in_bounds
+keep_turns-requires-clause-n_in_bounds c = (whole_few _ c.read_table-read.ensures.0 (search rules), keep_header c.args.sheet.now c.args.kept.now c.read_table-read.ensures.0 (search rules), search (rules, whole_rows_for _ _ c.read_table-read.ensures.0 (search rules) _ c.read_table-read.ensures.1))
+
+pub keep_turns-requires-clause-header_bytes_in_bounds : goal.keep_turns-requires-clause-header_bytes_in_bounds
+keep_turns-requires-clause-header_bytes_in_bounds c = (keep_whole c.args.sheet.now c.args.kept.now c.read_table-read.ensures.0 (search rules), search rules)
 
 pub overflow_cast-result : goal.overflow_cast-result
 overflow_cast-result c = search (rules, keep_bytes c.args.sheet.now c.args.kept.now c.read_table-read.ensures.0 (search rules))

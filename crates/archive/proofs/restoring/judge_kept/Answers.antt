@@ -6,8 +6,14 @@ use Rattle.archive.proofs.restoring.judge_kept.Goals as goal
 pub judge_form-requires : goal.judge_form-requires
 judge_form-requires c = (search rules, search (rules, kept_count), search (rules, kept_few), search (rules, kept_limits), search rules)
 
-pub returns-in-Refused : goal.returns-in-Refused
-returns-in-Refused c = (search (rules, kept_header), search (rules, kept_header_stops))
+pub returns-in-Refused-clause-value : goal.returns-in-Refused-clause-value
+returns-in-Refused-clause-value c = search (rules, kept_header)
 
-pub returns-in-Found : goal.returns-in-Found
-returns-in-Found c = (search (rules, kept_rest), λ z. c.judge_form.ensures.1 z)
+pub returns-in-Refused-clause-table_after : goal.returns-in-Refused-clause-table_after
+returns-in-Refused-clause-table_after c = search (rules, kept_header_stops)
+
+pub returns-in-Found-clause-value : goal.returns-in-Found-clause-value
+returns-in-Found-clause-value c = search (rules, kept_rest)
+
+pub returns-in-Found-clause-table_after : goal.returns-in-Found-clause-table_after
+returns-in-Found-clause-table_after c = λ z. c.judge_form.ensures.table_after z

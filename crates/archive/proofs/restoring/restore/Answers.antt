@@ -4,19 +4,22 @@ use borrow.Author.Rules.{rules}
 use Rattle.archive.proofs.restoring.restore.Goals as goal
 
 pub returns-then-fault-ne0 : goal.returns-then-fault-ne0
-returns-then-fault-ne0 c = restore_fault c.args.kept.now c.args.sheet.now c.judge_kept-fault.ensures.0 (search rules) c.refused.ensures
+returns-then-fault-ne0 c = restore_fault c.args.kept.now c.args.sheet.now c.judge_kept-fault.ensures.value (search rules) c.refused.ensures
 
 pub returns-then-sheet-kept : goal.returns-then-sheet-kept
-returns-then-sheet-kept c = restore_small c.args.kept.now c.args.sheet.now c.judge_kept-fault.ensures.0 (search rules) (search rules) c.refused-then-sheet-kept.ensures
+returns-then-sheet-kept c = restore_small c.args.kept.now c.args.sheet.now c.judge_kept-fault.ensures.value (search rules) (search rules) c.refused-then-sheet-kept.ensures
 
 pub word_at-n-requires : goal.word_at-n-requires
-word_at-n-requires c = restore_header c.args.kept.now c.args.sheet.now c.judge_kept-fault.ensures.0 (search rules)
+word_at-n-requires c = restore_header c.args.kept.now c.args.sheet.now c.judge_kept-fault.ensures.value (search rules)
 
-pub put_sheet-requires : goal.put_sheet-requires
-put_sheet-requires c = ((c.word_at-n.ensures, restore_whole c.args.kept.now c.args.sheet.now c.judge_kept-fault.ensures.0 (search rules), search (rules, restore_few c.args.kept.now c.args.sheet.now c.judge_kept-fault.ensures.0 (search rules))), search (rules, restore_end c.args.kept.now c.args.sheet.now c.judge_kept-fault.ensures.0 (search rules)))
+pub put_sheet-requires-clause-n_value : goal.put_sheet-requires-clause-n_value
+put_sheet-requires-clause-n_value c = (c.word_at-n.ensures, restore_whole c.args.kept.now c.args.sheet.now c.judge_kept-fault.ensures.value (search rules), search (rules, restore_few c.args.kept.now c.args.sheet.now c.judge_kept-fault.ensures.value (search rules)))
+
+pub put_sheet-requires-clause-k_in_bounds : goal.put_sheet-requires-clause-k_in_bounds
+put_sheet-requires-clause-k_in_bounds c = search (rules, restore_end c.args.kept.now c.args.sheet.now c.judge_kept-fault.ensures.value (search rules))
 
 pub overflow_cast-result : goal.overflow_cast-result
-overflow_cast-result c = search (rules, restore_bytes c.args.kept.now c.args.sheet.now c.judge_kept-fault.ensures.0 (search rules))
+overflow_cast-result c = search (rules, restore_bytes c.args.kept.now c.args.sheet.now c.judge_kept-fault.ensures.value (search rules))
 
 pub returns : goal.returns
-returns c = restore_done c.args.kept.now c.args.sheet.now c.judge_kept-fault.ensures.0 (search rules) _ c.word_at-n.ensures c.judge_kept-fault.ensures.1 (search rules) c.put_sheet.ensures
+returns c = restore_done c.args.kept.now c.args.sheet.now c.judge_kept-fault.ensures.value (search rules) _ c.word_at-n.ensures c.judge_kept-fault.ensures.table_after (search rules) c.put_sheet.ensures

@@ -1,0 +1,19 @@
+-- best: reads any bytes as a sheet, finds the best worth, and writes the map of the set that earns it into any lent bytes.
+use Rattle.best.proofs.AnswerCases.{best_cases}
+use borrow.Author.Rules.{rules}
+use Rattle.best.proofs.best.Goals as goal
+
+pub returns-then-fault-ne0 : goal.returns-then-fault-ne0
+returns-then-fault-ne0 c = search (rules, best_cases)
+
+pub is_single-requires : goal.is_single-requires
+is_single-requires c = search (rules, best_cases)
+
+pub answer-requires : goal.answer-requires
+answer-requires c = search (rules, best_cases)
+
+pub returns-then-is_single : goal.returns-then-is_single
+returns-then-is_single c = search (rules, best_cases)
+
+pub returns : goal.returns
+returns c = search (rules, best_cases)
