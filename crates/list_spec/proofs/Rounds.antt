@@ -50,6 +50,8 @@ rising_append (round.more a h) k (more b c) = round.more (all_append a b) (risin
 -- a list of turn i where b holds, else of none
 in_one : (b : Bool) {u i : ℕ} → In u (cond b (i ∷ []) []) → (b ≡ true) × (u ≡ i)
 in_one true here = (refl, refl)
+in_one true {u = u} {i = i} (later x5) = elim x5 [ ]
+in_one false {u = u} {i = i} x' = elim x' [ ]
 
 -- ---- those that start in one minute
 
@@ -87,6 +89,7 @@ module _ (T : Turns) (S : List Bool) (h : ℕ) where
       go : In u (starts_below T S h minute i) ⊎ In u (cond (starts_at T S h minute i) (i ∷ []) []) → (In u (starts_below T S h minute i) → Below minute i u) → Below minute (suc i) u
       go (inl k) ih = let r : Below minute i u = ih k in (omega (arith, r.0), r.1)
       go (inr k) ih = let r : (starts_at T S h minute i ≡ true) × (u ≡ i) = in_one (starts_at T S h minute i) k in (omega (arith, r.1), ap (starts_at T S h minute) r.1 ∙ r.0)
+  below_all minute zero u m = elim m [ ]
 
   below_of : (minute i u : ℕ) → u < i → starts_at T S h minute u ≡ true → In u (starts_below T S h minute i)
   unfolding starts_below
@@ -134,6 +137,7 @@ module _ (T : Turns) (S : List Bool) (h : ℕ) where
       go (inr k) ih =
           let r : Since (minute + 1) u = ih k in
           (r.0, r.1, r.2, omega (arith, r.3))
+  from_all zero minute u m = elim m [ ]
 
   from_of : (d minute u : ℕ) → u < T.count → has S u ≡ true → T.groomer u ≡ h → minute ≤ T.start u → T.start u < minute + d → In u (round_from T S h d minute)
   unfolding round_from

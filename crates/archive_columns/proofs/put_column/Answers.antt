@@ -2,7 +2,6 @@
 use Rattle.archive_spec.proofs.ColumnCases.{size_more, put_more}
 use borrow.Author.Rules.{rules}
 use Rattle.archive_spec.proofs.ColumnCases.{column_cases}
-use Prim.Native.Nat.{◌-◌}
 use Rattle.archive_columns.proofs.put_column.Goals as goal
 
 pub loop-i-init : goal.loop-i-init

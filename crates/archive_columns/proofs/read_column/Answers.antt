@@ -1,7 +1,6 @@
 -- read_column: the goals that the laws of the crate answer.
 use borrow.Author.Rules.{rules}
 use Rattle.archive_spec.proofs.ColumnCases.{column_cases}
-use Prim.Native.Nat.{◌-◌}
 use Rattle.archive_columns.proofs.read_column.Goals as goal
 
 pub loop-i-init : goal.loop-i-init

@@ -1,6 +1,5 @@
 -- clear: the goals that the laws of the crate answer.
 use borrow.Author.Rules.{rules}
-use Prim.Native.Nat.{◌-◌}
 use Rattle.lists.proofs.Places.{clear_cases}
 use Rattle.best.proofs.clear.Goals as goal
 

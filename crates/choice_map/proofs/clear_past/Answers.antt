@@ -1,6 +1,5 @@
 -- clear_past: the goals that the laws of the crate answer.
 use Rattle.choice_map.proofs.Maps.{clear_more, clear_cases}
-use Prim.Native.Nat.{◌-◌}
 use borrow.Author.Rules.{rules}
 use Rattle.choice_map.proofs.clear_past.Goals as goal
 

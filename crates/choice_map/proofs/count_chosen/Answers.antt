@@ -1,6 +1,5 @@
 -- count_chosen: the goals that the laws of the crate answer.
 use Rattle.choice_map.proofs.Maps.{ones_cases}
-use Prim.Native.Nat.{◌-◌}
 use borrow.Author.Rules.{rules}
 use Rattle.choice_map.proofs.count_chosen.Goals as goal
 

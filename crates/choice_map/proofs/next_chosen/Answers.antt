@@ -1,6 +1,5 @@
 -- next_chosen: the goals that the laws of the crate answer.
 use Rattle.choice_map.proofs.Next.{next_cases}
-use Prim.Native.Nat.{◌-◌}
 use borrow.Author.Rules.{rules}
 use Rattle.choice_map.proofs.next_chosen.Goals as goal
 

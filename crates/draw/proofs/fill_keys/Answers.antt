@@ -1,5 +1,4 @@
 -- fill_keys: the goals that the laws of the crate answer.
-use Prim.Native.Nat.{◌-◌}
 use Rattle.draw.proofs.Drawings.{drawn_keys_cases}
 use borrow.Author.Rules.{rules}
 use Rattle.draw.proofs.fill_keys.Goals as goal

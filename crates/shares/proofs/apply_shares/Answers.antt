@@ -1,6 +1,5 @@
 -- apply_shares: the goals that the laws of the crate answer.
 use Rattle.shares.proofs.Shares.{shares_cases, shares_more}
-use Prim.Native.Nat.{◌-◌}
 use borrow.Author.Rules.{rules}
 use Rattle.shares.proofs.apply_shares.Goals as goal
 

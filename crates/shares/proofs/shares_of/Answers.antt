@@ -1,6 +1,5 @@
 -- shares_of: the goals that the laws of the crate answer.
 use Rattle.shares.proofs.Shares.{table_cases}
-use Prim.Native.Nat.{◌-◌}
 use borrow.Author.Rules.{rules}
 use Rattle.shares.proofs.shares_of.Goals as goal
 

@@ -1,6 +1,5 @@
 -- count_numbers: the goals that the laws of the crate answer.
 use borrow.Author.Rules.{rules}
-use Prim.Native.Nat.{◌-◌}
 use Rattle.shift_moves.proofs.PayerCases.{times_cases}
 use Rattle.shift_moves.proofs.count_numbers.Goals as goal
 

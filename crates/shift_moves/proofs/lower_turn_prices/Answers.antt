@@ -1,6 +1,5 @@
 -- lower_turn_prices: the goals that the laws of the crate answer.
 use borrow.Author.Rules.{rules}
-use Prim.Native.Nat.{◌-◌}
 use Rattle.shift_moves.proofs.MoveCases.{lowered_cases}
 use Rattle.shift_moves.proofs.lower_turn_prices.Goals as goal
 

@@ -1,7 +1,6 @@
 -- move_slope_prices: the goals that the laws of the crate answer.
 use borrow.Author.Rules.{rules}
 use Rattle.shift_moves.proofs.MoveCases.{slopes_moved_cases}
-use Prim.Native.Nat.{◌-◌}
 use Rattle.shift_moves.proofs.move_slope_prices.Goals as goal
 
 pub loop-k-init : goal.loop-k-init

@@ -1,7 +1,6 @@
 -- move_turn_prices: the goals that the laws of the crate answer.
 use borrow.Author.Rules.{rules}
 use Rattle.shift_moves.proofs.MoveCases.{turns_moved_cases}
-use Prim.Native.Nat.{◌-◌}
 use Rattle.shift_moves.proofs.move_turn_prices.Goals as goal
 
 pub loop-u-init : goal.loop-u-init

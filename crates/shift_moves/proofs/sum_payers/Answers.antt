@@ -1,7 +1,6 @@
 -- sum_payers: the goals that the laws of the crate answer.
 use borrow.Author.Rules.{rules}
 use Rattle.shift_moves.proofs.PayerCases.{along_cases}
-use Prim.Native.Nat.{◌-◌}
 use Rattle.shift_moves.proofs.sum_payers.Goals as goal
 
 pub loop-j-init : goal.loop-j-init

@@ -1,7 +1,6 @@
 -- put_text: the goals that the laws of the crate answer.
 use borrow.Author.Rules.{rules}
 use Rattle.text.proofs.Puts.{text_cases}
-use Prim.Native.Nat.{◌-◌}
 use Rattle.text.proofs.put_text.Goals as goal
 
 pub loop-i-init : goal.loop-i-init

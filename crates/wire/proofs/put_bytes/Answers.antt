@@ -1,5 +1,4 @@
 -- put_bytes: the goals that the laws of the crate answer.
-use Prim.Native.Nat.{◌-◌}
 use Rattle.wire.proofs.Puts.{copy_cases}
 use borrow.Author.Rules.{rules}
 use Rattle.wire.proofs.put_bytes.Goals as goal

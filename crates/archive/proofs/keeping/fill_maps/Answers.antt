@@ -1,6 +1,5 @@
 -- fill_maps: the goals that the laws of the crate answer.
 use Rattle.archive.proofs.KeepCases.{fill_cases}
-use Prim.Native.Nat.{◌-◌}
 use borrow.Author.Rules.{rules}
 use Rattle.archive.proofs.keeping.fill_maps.Goals as goal
 

@@ -1,6 +1,5 @@
 -- fields_width: the goals that the laws of the crate answer.
 use Rattle.archive.proofs.RestoreCases.{width_cases}
-use Prim.Native.Nat.{◌-◌}
 use borrow.Author.Rules.{rules}
 use Rattle.archive.proofs.restoring.fields_width.Goals as goal
 

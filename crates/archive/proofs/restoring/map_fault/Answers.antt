@@ -1,6 +1,5 @@
 -- map_fault: the goals that the laws of the crate answer.
 use Rattle.archive.proofs.RestoreCases.{map_fault_cases}
-use Prim.Native.Nat.{◌-◌}
 use borrow.Author.Rules.{rules}
 use Rattle.archive.proofs.restoring.map_fault.Goals as goal
 

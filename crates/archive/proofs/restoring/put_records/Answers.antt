@@ -1,6 +1,5 @@
 -- put_records: the goals that the laws of the crate answer.
 use Rattle.archive.proofs.RestoreCases.{records_cases}
-use Prim.Native.Nat.{◌-◌}
 use borrow.Author.Rules.{rules}
 use Rattle.archive.proofs.restoring.put_records.Goals as goal
 

@@ -1,5 +1,4 @@
 -- clear: the goals that the laws of the crate answer.
-use Prim.Native.Nat.{◌-◌}
 use borrow.Author.Rules.{rules}
 use Rattle.lists.proofs.Places.{clear_cases}
 use Rattle.assign.proofs.assigning.clear.Goals as goal

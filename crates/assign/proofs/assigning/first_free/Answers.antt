@@ -1,5 +1,4 @@
 -- first_free: the goals that the laws of the crate answer.
-use Prim.Native.Nat.{◌-◌}
 use Rattle.assign.proofs.Serving.{free_cases}
 use borrow.Author.Rules.{rules}
 use Rattle.assign.proofs.assigning.first_free.Goals as goal

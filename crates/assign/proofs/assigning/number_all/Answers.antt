@@ -1,5 +1,4 @@
 -- number_all: the goals that the laws of the crate answer.
-use Prim.Native.Nat.{◌-◌}
 use Rattle.assign.proofs.Places.{serving_cases}
 use borrow.Author.Rules.{rules}
 use Rattle.assign.proofs.assigning.number_all.Goals as goal

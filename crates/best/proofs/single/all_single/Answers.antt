@@ -1,6 +1,5 @@
 -- all_single: the goals that the laws of the crate answer.
 use Rattle.best.proofs.SingleCases.{flags_cases, single_cases}
-use Prim.Native.Nat.{◌-◌}
 use borrow.Author.Rules.{rules}
 use Rattle.best.proofs.single.all_single.Goals as goal
 

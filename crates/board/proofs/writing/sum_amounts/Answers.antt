@@ -1,5 +1,4 @@
 -- sum_amounts: the goals that the laws of the crate answer.
-use Prim.Native.Nat.{◌-◌}
 use Rattle.board.proofs.StepBytes.{amounts_cases}
 use borrow.Author.Rules.{rules}
 use Rattle.board.proofs.writing.sum_amounts.Goals as goal

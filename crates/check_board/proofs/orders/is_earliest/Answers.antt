@@ -1,7 +1,6 @@
 -- is_earliest: the goals that the laws of the crate answer.
 use borrow.Author.Rules.{rules}
 use Rattle.check_board.proofs.Order.{earliest_cases}
-use Prim.Native.Nat.{◌-◌}
 use Rattle.check_board.proofs.orders.is_earliest.Goals as goal
 
 pub loop-t-init : goal.loop-t-init

@@ -2,7 +2,6 @@
 use borrow.Author.Rules.{rules}
 use Rattle.lists.proofs.Bools.{never}
 use Rattle.check_board.proofs.Replays.{replay_cases}
-use Prim.Native.Nat.{◌-◌}
 use Rattle.check_board.proofs.replay.replay.Goals as goal
 
 pub loop-i-init : goal.loop-i-init

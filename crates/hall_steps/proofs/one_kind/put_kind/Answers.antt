@@ -1,5 +1,4 @@
 -- put_kind: the goals that the laws of the crate answer.
-use Prim.Native.Nat.{◌-◌}
 use borrow.Author.Rules.{rules}
 use Rattle.hall_steps.proofs.OneKindLaws.{one_kind_cases}
 use Rattle.hall_steps.proofs.one_kind.put_kind.Goals as goal

@@ -1,7 +1,6 @@
 -- put_places: the goals that the laws of the crate answer.
 use borrow.Author.Rules.{rules}
 use Rattle.instance.proofs.Orders.{places_cases}
-use Prim.Native.Nat.{◌-◌}
 use Rattle.instance.proofs.by_end.put_places.Goals as goal
 
 pub loop-i-init : goal.loop-i-init

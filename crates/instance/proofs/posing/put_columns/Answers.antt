@@ -1,7 +1,6 @@
 -- put_columns: the goals that the laws of the crate answer.
 use borrow.Author.Rules.{rules}
 use Rattle.instance.proofs.Copying.{columns_copied}
-use Prim.Native.Nat.{◌-◌}
 use Rattle.instance.proofs.posing.put_columns.Goals as goal
 
 pub loop-k-init : goal.loop-k-init

@@ -1,7 +1,6 @@
 -- put_ends: the goals that the laws of the crate answer.
 use borrow.Author.Rules.{rules}
 use Rattle.instance.proofs.Copying.{ends_cases}
-use Prim.Native.Nat.{◌-◌}
 use Rattle.instance.proofs.posing.put_ends.Goals as goal
 
 pub loop-t-init : goal.loop-t-init

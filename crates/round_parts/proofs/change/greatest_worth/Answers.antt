@@ -1,7 +1,6 @@
 -- greatest_worth: the goals that the laws of the crate answer.
 use borrow.Author.Rules.{rules}
 use Rattle.round_parts.proofs.ChangeCases.{greatest_cases}
-use Prim.Native.Nat.{◌-◌}
 use Rattle.round_parts.proofs.change.greatest_worth.Goals as goal
 
 pub loop-t-init : goal.loop-t-init

@@ -1,5 +1,4 @@
 -- copy_numbers: the goals that the laws of the crate answer.
-use Prim.Native.Nat.{◌-◌}
 use Rattle.round_parts.proofs.RankCases.{front_cases}
 use borrow.Author.Rules.{rules}
 use Rattle.round_parts.proofs.ranking.copy_numbers.Goals as goal

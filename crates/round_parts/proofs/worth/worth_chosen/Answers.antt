@@ -1,7 +1,6 @@
 -- worth_chosen: the goals that the laws of the crate answer.
 use borrow.Author.Rules.{rules}
 use Rattle.round_parts.proofs.WorthCases.{worth_cases}
-use Prim.Native.Nat.{◌-◌}
 use Rattle.round_parts.proofs.worth.worth_chosen.Goals as goal
 
 pub next_chosen-t-requires : goal.next_chosen-t-requires

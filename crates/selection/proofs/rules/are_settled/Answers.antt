@@ -1,7 +1,6 @@
 -- are_settled: the goals that the laws of the crate answer.
 use borrow.Author.Rules.{rules}
 use Rattle.selection.proofs.Chosen.{lent_cases, all_cases, next_cases}
-use Prim.Native.Nat.{◌-◌}
 use Rattle.selection.proofs.rules.are_settled.Goals as goal
 
 pub loop-t-init : goal.loop-t-init

@@ -1,7 +1,6 @@
 -- chosen_worth: the goals that the laws of the crate answer.
 use borrow.Author.Rules.{rules}
 use Rattle.selection.proofs.Chosen.{all_cases}
-use Prim.Native.Nat.{◌-◌}
 use Rattle.selection.proofs.rules.chosen_worth.Goals as goal
 
 pub loop-t-init : goal.loop-t-init

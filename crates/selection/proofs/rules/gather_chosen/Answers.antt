@@ -1,7 +1,6 @@
 -- gather_chosen: the goals that the laws of the crate answer.
 use borrow.Author.Rules.{rules}
 use Rattle.selection.proofs.Chosen.{take_next, lent_cases, one_cases, all_cases}
-use Prim.Native.Nat.{◌-◌}
 use Rattle.selection.proofs.rules.gather_chosen.Goals as goal
 
 pub loop-x-init : goal.loop-x-init

@@ -1,9 +1,7 @@
 -- is_independent: the goals that the laws of the crate answer.
-use borrow.Author.Tests.{not-true, not-false}
 use borrow.Author.Rules.{rules}
 use Rattle.selection.proofs.Chosen.{take_fit, independent_next, independent_ends, taken_places, lent_cases, one_cases, all_cases, next_cases}
 use mathlib.Core.Bool.{true}
-use Prim.Native.Nat.{◌-◌}
 use Rattle.selection.proofs.rules.is_independent.Goals as goal
 
 pub loop-x-init : goal.loop-x-init

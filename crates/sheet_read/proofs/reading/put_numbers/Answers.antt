@@ -1,6 +1,5 @@
 -- put_numbers: the goals that the laws of the crate answer.
 use borrow.Author.Rules.{rules}
-use Prim.Native.Nat.{◌-◌}
 use Rattle.sheet.proofs.Whole.{front_cases}
 use Rattle.sheet_read.proofs.reading.put_numbers.Goals as goal
 

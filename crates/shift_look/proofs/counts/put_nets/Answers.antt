@@ -1,7 +1,6 @@
 -- put_nets: the goals that the laws of the crate answer.
 use borrow.Author.Rules.{rules}
 use Rattle.shift_look.proofs.CountCases.{numbers_cases, left_few}
-use Prim.Native.Nat.{◌-◌}
 use Rattle.shift_look.proofs.counts.put_nets.Goals as goal
 
 pub loop-t-init : goal.loop-t-init

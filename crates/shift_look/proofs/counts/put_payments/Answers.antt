@@ -1,7 +1,6 @@
 -- put_payments: the goals that the laws of the crate answer.
 use borrow.Author.Rules.{rules}
 use Rattle.shift_look.proofs.CountCases.{numbers_cases}
-use Prim.Native.Nat.{◌-◌}
 use Rattle.shift_look.proofs.counts.put_payments.Goals as goal
 
 pub loop-t-init : goal.loop-t-init

@@ -1,6 +1,5 @@
 -- greatest_driver: the goals that the laws of the crate answer.
 use Rattle.shift_look.proofs.DriverlessCases.{greatest_cases}
-use Prim.Native.Nat.{◌-◌}
 use borrow.Author.Rules.{rules}
 use Rattle.shift_look.proofs.driverless.greatest_driver.Goals as goal
 

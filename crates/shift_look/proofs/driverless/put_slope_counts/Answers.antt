@@ -1,6 +1,5 @@
 -- put_slope_counts: the goals that the laws of the crate answer.
 use Rattle.shift_look.proofs.CountCases.{numbers_cases}
-use Prim.Native.Nat.{◌-◌}
 use borrow.Author.Rules.{rules}
 use Rattle.shift_look.proofs.driverless.put_slope_counts.Goals as goal
 

@@ -1,7 +1,6 @@
 -- put_drivers_as_groomers: the goals that the laws of the crate answer.
 use borrow.Author.Rules.{rules}
 use Rattle.shift_look.proofs.RunCases.{drivers_cases}
-use Prim.Native.Nat.{◌-◌}
 use Rattle.shift_look.proofs.orders.put_drivers_as_groomers.Goals as goal
 
 pub loop-t-init : goal.loop-t-init

@@ -1,7 +1,6 @@
 -- put_runs: the goals that the laws of the crate answer.
 use borrow.Author.Rules.{rules}
 use Rattle.shift_look.proofs.RunCases.{runs_cases, runs_more, before_more}
-use Prim.Native.Nat.{◌-◌}
 use Rattle.shift_look.proofs.runs.put_runs.Goals as goal
 
 pub loop-i-init : goal.loop-i-init

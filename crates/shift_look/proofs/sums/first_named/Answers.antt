@@ -1,6 +1,5 @@
 -- first_named: the goals that the laws of the crate answer.
 use Rattle.shift_look.proofs.SumCases.{named_cases}
-use Prim.Native.Nat.{◌-◌}
 use Rattle.shift_look.proofs.sums.first_named.Goals as goal
 
 pub loop-j-init : goal.loop-j-init

@@ -1,7 +1,6 @@
 -- put_sums: the goals that the laws of the crate answer.
 use borrow.Author.Rules.{rules}
 use Rattle.shift_look.proofs.SumCases.{sums_cases, price_cases}
-use Prim.Native.Nat.{◌-◌}
 use Rattle.shift_look.proofs.sums.put_sums.Goals as goal
 
 pub loop-j-init : goal.loop-j-init

@@ -1,7 +1,6 @@
 -- slope_prices: the goals that the laws of the crate answer.
 use borrow.Author.Rules.{rules}
 use Rattle.shift_look.proofs.SumCases.{slopes_cases}
-use Prim.Native.Nat.{◌-◌}
 use Rattle.shift_look.proofs.sums.slope_prices.Goals as goal
 
 pub loop-k-init : goal.loop-k-init

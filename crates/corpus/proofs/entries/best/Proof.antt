@@ -1,8 +1,0 @@
--- best: the line and the lent buffer are those of the entry's definition.
-use Rattle.corpus.proofs.LineCases.{line_cases}
-use borrow.Author.Rules.{rules}
-use Rattle.corpus.proofs.entries.best.Statement.{statement}
-use Rattle.corpus.proofs.entries.best.Tie as tie
-
-pub best_spec : {M : Type 1} → statement M
-best_spec = tie.close (tie.spec (λ c κs. search rules) (λ c. search rules) (λ c. search rules) (λ c. search line_cases))

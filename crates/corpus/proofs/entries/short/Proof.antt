@@ -1,8 +1,0 @@
--- short: the line and the lent buffer are those of the entry's definition.
-use Rattle.corpus.proofs.LineCases.{line_cases}
-use borrow.Author.Rules.{rules}
-use Rattle.corpus.proofs.entries.short.Statement.{statement}
-use Rattle.corpus.proofs.entries.short.Tie as tie
-
-pub short_spec : {M : Type 1} → statement M
-short_spec = tie.close (tie.spec (λ c κs. search rules) (λ c. search rules) (λ c. search rules) (λ c. search rules) (λ c. search rules) (λ c. search line_cases))
