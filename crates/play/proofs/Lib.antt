@@ -1,5 +1,3 @@
 pub mod Rows
 pub mod Steps
-pub mod Again
-pub mod Whole
 pub mod Answers

@@ -1,5 +1,4 @@
 -- delays_fit: the goals that the laws of the crate answer.
-use Prim.Native.Nat.{◌-◌}
 use Rattle.play.proofs.Rows.{fit_cases}
 use borrow.Author.Rules.{rules}
 use Rattle.play.proofs.days.delays_fit.Goals as goal

@@ -1,5 +1,4 @@
 -- put_turns: the goals that the laws of the crate answer.
-use Prim.Native.Nat.{◌-◌}
 use Rattle.play.proofs.Rows.{loop_cases}
 use borrow.Author.Rules.{rules}
 use Rattle.play.proofs.days.put_turns.Goals as goal
