@@ -28,13 +28,13 @@
  *   not disturb each other if none uses a lent buffer of another.
  * - All working space is on the caller's stack: at most SLOPEBOARD_STACK_.. bytes, given for each function below. No
  *   function calls itself but the search of slopeboard_improve, one level deeper for each of at most 64 turns.
- * - Times, measured and not proved, in microseconds: one call on the slowest sheets known, the best of many rounds
- *   over 64 sheets (reference/bench), on one core of an AMD EPYC server that others used too. slopeboard_charge 148,
- *   slopeboard_list 139, slopeboard_plan 121, slopeboard_play 88, slopeboard_check 61, slopeboard_assign 16,
- *   slopeboard_limit 13, slopeboard_keep 12, slopeboard_draw 14, slopeboard_write 10 (some 30 on a table made to be
- *   slow to sort), slopeboard_charge_limit 6.0, slopeboard_restore 9.4, slopeboard_read 2.5, slopeboard_best 2.5;
- *   slopeboard_improve 51 for 10,000 visits; slopeboard_refine 273 and slopeboard_charge_refine 460 for 50 rounds. A
- *   slower sheet may exist.
+ * - Times, measured with an older kit's archive and not proved, in microseconds: one call on the slowest sheets known,
+ *   the best of many rounds over 64 sheets (reference/bench), on one core of an AMD EPYC server that others used too.
+ *   slopeboard_charge 148, slopeboard_list 139, slopeboard_plan 121, slopeboard_play 88, slopeboard_check 61,
+ *   slopeboard_assign 16, slopeboard_limit 13, slopeboard_keep 12, slopeboard_draw 14, slopeboard_write 10 (some 30 on
+ *   a table made to be slow to sort), slopeboard_charge_limit 6.0, slopeboard_restore 9.4, slopeboard_read 2.5,
+ *   slopeboard_best 2.5; slopeboard_improve 51 for 10,000 visits; slopeboard_refine 273 and slopeboard_charge_refine
+ *   460 for 50 rounds. A slower sheet may exist.
  */
 #ifndef SLOPEBOARD_H
 #define SLOPEBOARD_H

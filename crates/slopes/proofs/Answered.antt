@@ -57,7 +57,7 @@ module _ (s lent : List ℕ) (room : listing_bytes ≤ length lent) where
 
       pub answer_listing : take a.bytes text ≡ printed s
       unfolding printed
-      answer_listing = rw text_is (take_at (sheet_listing s) (drop (length (sheet_listing s)) lent) a.bytes (sym bytes_are)) ∙ sym (unless_none (sheet_causes s) (sheet_listing s) refused_line (accepted f))
+      answer_listing = rw text_is (take_at (sheet_listing s) (drop (length (sheet_listing s)) lent) a.bytes (sym bytes_are)) ∙ sym (unless_none (sheet_causes s) (sheet_listing s) _ (accepted f))
 
     module _ (f : a.refusal ≡ 0 → ⊥) where
       refused : first_of (sheet_causes s) ≡ 0 → ⊥
