@@ -1,5 +1,5 @@
 -- Invariant: i is within the numbers. Measure: the numbers left.
-use Rattle.std.proofs.Common.{length, ◌-◌, ◌≤◌, ◌≡◌}
+use Rattle.std.proofs.Common.{length, ◌-◌, ◌≤◌}
 use Rattle.corpus.proofs.print_numbers.Given as goal
 
 abbrev pub invariant-loop-i : goal.invariant-loop-i

@@ -1,5 +1,4 @@
 -- choices: the goals that the laws of the crate answer.
-use Prim.Native.Nat.{◌-◌}
 use Rattle.corpus.proofs.LineCases.{filled_cases}
 use borrow.Author.Rules.{rules}
 use Rattle.corpus.proofs.entries.choices.Goals as goal

@@ -1,5 +1,4 @@
 -- unpack: the goals that the laws of the crate answer.
-use Prim.Native.Nat.{◌-◌}
 use Rattle.corpus.proofs.LineCases.{filled_cases}
 use borrow.Author.Rules.{rules}
 use Rattle.corpus.proofs.entries.unpack.Goals as goal
