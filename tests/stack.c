@@ -19,8 +19,8 @@ static uint8_t stack[STACK_BYTES] __attribute__((aligned(64)));
 static ucontext_t here, there;
 
 static uint8_t sheet[SLOPEBOARD_MOST_SHEET_BYTES], small[SLOPEBOARD_MOST_SHEET_BYTES], hall[SLOPEBOARD_MOST_SHEET_BYTES];
-static uint8_t single[SLOPEBOARD_MOST_SHEET_BYTES], apart[SLOPEBOARD_MOST_SHEET_BYTES], board[SLOPEBOARD_MOST_BOARD_BYTES], kept[SLOPEBOARD_MOST_SHEET_BYTES];
-static size_t sheet_len, small_len, hall_len, single_len, apart_len, board_len, kept_len;
+static uint8_t single[SLOPEBOARD_MOST_SHEET_BYTES], few[SLOPEBOARD_MOST_SHEET_BYTES], board[SLOPEBOARD_MOST_BOARD_BYTES], kept[SLOPEBOARD_MOST_SHEET_BYTES];
+static size_t sheet_len, small_len, hall_len, single_len, few_len, board_len, kept_len;
 static uint16_t table[SLOPEBOARD_MOST_NUMBERS], delays[TURNS], prices[SLOPEBOARD_MOST_SLOPES + TURNS], minutes[SLOPEBOARD_MINUTES];
 static uint8_t bytes[SLOPEBOARD_MOST_SHEET_BYTES + SLOPEBOARD_MOST_TEXT_BYTES];
 static uint16_t numbers[SLOPEBOARD_MOST_NUMBERS];
@@ -40,7 +40,7 @@ static void call_check(void) { refusal = slopeboard_check(sheet, sheet_len, boar
 static void call_list(void) { refusal = slopeboard_list(sheet, sheet_len, bytes, sizeof bytes).refusal; }
 static void call_assign(void) { refusal = slopeboard_assign(sheet, sheet_len, numbers, SLOPEBOARD_MOST_NUMBERS).refusal; }
 static void call_best(void) { refusal = slopeboard_best(single, single_len, bytes, sizeof bytes).refusal; }
-static void call_improve(void) { refusal = slopeboard_improve(apart, apart_len, 1000000, bytes, sizeof bytes).refusal; }
+static void call_improve(void) { refusal = slopeboard_improve(few, few_len, 1000000, bytes, sizeof bytes).refusal; }
 static void call_draw(void) { refusal = slopeboard_draw(1, 16, 120, TURNS, bytes, sizeof bytes).refusal; }
 static void call_keep(void) { refusal = slopeboard_keep(sheet, sheet_len, bytes, sizeof bytes).refusal; }
 static void call_restore(void) { refusal = slopeboard_restore(kept, kept_len, bytes, sizeof bytes).refusal; }
@@ -84,7 +84,8 @@ static size_t all_apart(uint8_t *place) {
 static void prepare(uint64_t seed) {
     sheet_len = drawn(seed, 120, TURNS, sheet);
     small_len = drawn(seed, 120, SLOPEBOARD_MOST_SHORT_TURNS, small);
-    apart_len = all_apart(apart);
+    /* The search goes deepest on turns that are all apart, the planner before it on drawn ones. */
+    few_len = seed % 2 == 0 ? all_apart(few) : drawn(seed, 120, SLOPEBOARD_MOST_SEARCHED_TURNS, few);
     slopeboard_read(sheet, sheet_len, table, SLOPEBOARD_MOST_NUMBERS);
     for (int place = 0; place < SLOPEBOARD_MOST_SLOPES + TURNS; place++) prices[place] = seed * 977 * place % 1000;
     for (int place = 0; place < SLOPEBOARD_MINUTES; place++) minutes[place] = seed * 977 * place % 300;
@@ -122,7 +123,7 @@ struct entry {
 
 /* The rounds of shifts and halls are compiled as one function. What goes deepest below it, through the frame of
  * shift_look's put_orders, is for shifts alone: a hall's rounds leave as much unused as this frame has. */
-#define ONLY_FOR_SHIFTS 1728
+#define ONLY_FOR_SHIFTS 1696
 
 int main(void) {
     struct entry entries[] = {

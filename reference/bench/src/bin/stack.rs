@@ -46,9 +46,8 @@ fn taken(line: &str) -> usize {
     }
 }
 
-/// The bytes that a loop takes from the stack page by page, beside the page that
-/// its own instruction names: a large frame, down to where `%r11` was put by this
-/// instruction and the one before it.
+/// The bytes that a loop takes from the stack page by page: a large frame, down to
+/// where `%r11` was put by this instruction and the one before it.
 fn taken_by_pages(before: &str, line: &str) -> usize {
     let operands = |line: &str, word: &str| {
         let mut words = line.split_whitespace().skip(1);
@@ -60,7 +59,7 @@ fn taken_by_pages(before: &str, line: &str) -> usize {
     operands(line, "sub")
         .and_then(|both| Some(both.strip_suffix(",%r11")?.strip_prefix("$0x")?.to_string()))
         .and_then(|digits| usize::from_str_radix(&digits, 16).ok())
-        .map_or(0, |bytes| bytes - 0x1000)
+        .unwrap_or(0)
 }
 
 /// The bytes below the stack pointer that an instruction uses.
@@ -112,12 +111,19 @@ fn functions(listing: &str) -> Result<BTreeMap<String, Function>, String> {
     let mut found: BTreeMap<String, Function> = BTreeMap::new();
     let mut name = String::new();
     let mut before = "";
+    let mut by_pages = false;
     for line in listing.lines() {
         if let Some(next) = begun(line) {
             name = next.to_string();
             found.entry(name.clone()).or_default().frame = 8;
         } else if let Some(function) = found.get_mut(&name) {
-            function.frame += taken(line) + taken_by_pages(before, line);
+            // What the loop's own instruction takes is a part of what it takes in all.
+            if taken(line) == 0 || !std::mem::take(&mut by_pages) {
+                function.frame += taken(line);
+            }
+            let pages = taken_by_pages(before, line);
+            function.frame += pages;
+            by_pages |= pages > 0;
             function.below = function.below.max(used_below(line));
             function.callees.extend(named(line));
             match target(line) {
