@@ -1,3 +1,5 @@
 pub mod Rows
 pub mod Steps
+pub mod Again
+pub mod Whole
 pub mod Answers
