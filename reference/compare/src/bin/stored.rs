@@ -3,9 +3,8 @@
 //! How a case is laid out, and what its line says, stands at the head of
 //! `reference/src/bin/corpus.rs`.
 //!
-//! The program `corpus` of the library's own tests has the other entries. It is
-//! proved, and a proved program lends no list of structs unless its proof is
-//! walked by hand.
+//! The program `corpus` of the library's own tests has the other entries. It
+//! lends no list of structs.
 
 use std::io::{self, Read};
 use std::process::ExitCode;
