@@ -3,9 +3,9 @@
  * of one turn a slope, the shift played, the kept form, a charging hall and a drawn sheet. examples/expected has what
  * it prints, as the independent reference version works it out.
  *
- * With the library in crates/slopeboard/out (rt lib in crates/slopeboard), at the top of the repository:
+ * With the library in crates/slopeboard_c/out (rt lib in crates/slopeboard_c), at the top of the repository:
  *
- *     gcc -std=c99 -Wall -Wextra -Iinclude examples/shift.c crates/slopeboard/out/libslopeboard.a -o shift
+ *     gcc -std=c99 -Wall -Wextra -Iinclude examples/shift.c crates/slopeboard_c/out/libslopeboard.a -o shift
  */
 #include <stdio.h>
 #include <string.h>

@@ -2,7 +2,7 @@
 //! a table. It judges nothing: what differs is for the comparison to find.
 //!
 //! ```text
-//! SLOPEBOARD_LIB_DIR=$PWD/crates/slopeboard/out cargo run --release -p bench
+//! SLOPEBOARD_LIB_DIR=$PWD/crates/slopeboard_c/out cargo run --release -p bench
 //! ```
 //!
 //! With words behind it, only the entries so named are timed.

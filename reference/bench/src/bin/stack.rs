@@ -8,7 +8,7 @@
 //! at functions that call themselves to no depth given here.
 //!
 //! ```text
-//! SLOPEBOARD_LIB_DIR=$PWD/crates/slopeboard/out cargo run --release -p bench --bin stack
+//! SLOPEBOARD_LIB_DIR=$PWD/crates/slopeboard_c/out cargo run --release -p bench --bin stack
 //! ```
 
 use std::collections::{BTreeMap, BTreeSet};
@@ -243,7 +243,7 @@ fn lines(archive: &str) -> Result<Vec<String>, String> {
 }
 
 fn main() -> ExitCode {
-    let folder = env::var("SLOPEBOARD_LIB_DIR").unwrap_or_else(|_| "crates/slopeboard/out".to_string());
+    let folder = env::var("SLOPEBOARD_LIB_DIR").unwrap_or_else(|_| "crates/slopeboard_c/out".to_string());
     match lines(&format!("{folder}/libslopeboard.a")) {
         Ok(lines) => {
             lines.iter().for_each(|line| println!("{line}"));
