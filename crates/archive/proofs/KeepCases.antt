@@ -14,6 +14,7 @@ use Rattle.refusal.proofs.Order.{clear_cons, clear_append}
 use Rattle.refusal.proofs.Written.{kept_before, kept_small, wrote_enough}
 use Rattle.wire.specs.Number.{bytes_at, puts}
 use Rattle.wire.specs.Mark.{kept_mark}
+use Rattle.wire.proofs.Numbers.{bytes_at_part}
 use Rattle.wire.proofs.Puts.{puts_front, puts_append}
 use Rattle.turn.specs.declared.Turn.{Turn}
 use Rattle.turn.specs.declared.Counts.{Counts}
@@ -40,9 +41,8 @@ use Rattle.archive_spec.proofs.Bodies.{columns_length}
 
 -- ---- the front
 
-pub front_put : (l from mark : List ℕ) {l1 : List ℕ} → l1 ≡ puts l 0 (bytes_at mark 0 3)
-    → set (set (set (set l1 3 (get_or from 3 0)) 4 (get_or from 4 0)) 5 (get_or from 5 0)) 6 (get_or from 6 0) ≡ puts l 0 (bytes_at mark 0 3 ++ bytes_at from 3 4)
-front_put l from mark e = rw e
+pub front_put : (l from mark : List ℕ) {l1 l2 : List ℕ} → header_bytes ≤ length from → l1 ≡ puts l 0 (bytes_at mark 0 3) → l2 ≡ puts l1 3 (take 4 (drop 3 from)) → l2 ≡ puts l 0 (bytes_at mark 0 3 ++ bytes_at from 3 4)
+front_put l from mark h e f = f ∙ rw (e, ← bytes_at_part from 3 4 (omega arith)) (puts_append (bytes_at mark 0 3) (bytes_at from 3 4) l 0 3 refl)
 
 -- ---- the maps
 

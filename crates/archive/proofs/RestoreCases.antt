@@ -18,18 +18,14 @@ use Rattle.wire.specs.Mark.{sheet_mark, kept_mark}
 use Rattle.wire.proofs.Puts.{puts_front, puts_append}
 use Rattle.turn.specs.declared.Turn.{Turn}
 use Rattle.turn.specs.declared.Counts.{Counts}
-use Rattle.turn.specs.Turn.{turn_in, turns_of_table, Numbered}
+use Rattle.turn.specs.Turn.{turn_in, turns_of_table}
 use Rattle.turn.proofs.Rows.{turns_step}
-use Rattle.sheet.specs.declared.kind.Kind.{Kind}
 use Rattle.sheet.specs.declared.kind.Maps.{Maps}
-use Rattle.sheet.specs.declared.header.Header.{Header}
-use Rattle.sheet.specs.declared.header.Header.TheVariants.{Found, Refused}
-use Rattle.sheet.specs.Kind.{shift_sheet, most_turns}
+use Rattle.sheet.specs.Kind.{Kind, shift_sheet, most_turns}
 use Rattle.sheet.specs.Record.{width_of, record_bytes, bad_map_for}
-use Rattle.sheet.specs.Read.{header_bytes, counts_in, turn_count, header_causes, header_of}
+use Rattle.sheet.specs.Read.{header_bytes, counts_in, turn_count, header_causes}
 use Rattle.sheet.specs.Layout.{record_of}
 use Rattle.sheet.proofs.Headers.{header_numbered, header_few, header_fine}
-use Rattle.sheet.proofs.Readings.{header_found, header_refused}
 use Rattle.sheet.proofs.Fields.{width_most, record_length}
 use Rattle.refusal.specs.declared.WriteAnswer.{WriteAnswer}
 use Rattle.refusal.specs.Outcome.{beside}
@@ -150,10 +146,6 @@ module _ (k : List ℕ) {f : ℕ} (q : f ≡ first_of (form_causes k)) where
   pub judge_fault : (cs : List Cause) → (f ≡ 0 → ⊥) → f ≡ first_of (form_causes k ++ cs)
   judge_fault cs z = sym (first_stops (form_causes k) cs f (sym q) z)
 
-  -- where something is refused nothing is said of the table
-  pub judge_stops : {A : Type 0} → (f ≡ 0 → ⊥) → f ≡ 0 → A
-  judge_stops n z = absurd (n z)
-
   module _ (z : f ≡ 0) where
     fine : FineForm k
     fine = form_fine k (sym q ∙ z)
@@ -177,34 +169,23 @@ module _ (k : List ℕ) {f : ℕ} (q : f ≡ first_of (form_causes k)) where
           → g ≡ first_of (form_causes k ++ turns_causes archive.refusals (counts_in k) (kept_turns k))
       judge_values K limits a b c = c ∙ rw (a, b, judge_read) (sym (first_goes (form_causes k) _ (form_numbered k) (sym q ∙ z)))
 
-pub kind_numbered : {K : Kind} → K ≡ archive → Numbered K.refusals
-kind_numbered e = rw e archive_sound.numbers
-
 -- ---- the whole kept form
 
-module _ (k : List ℕ) (K : Kind) (a : K ≡ archive) {h : Header} where
-  pub kept_header : {f : ℕ} → h ≡ Refused f → h ≡ header_of K k → f ≡ first_of (kept_causes k)
+module _ (k : List ℕ) (K : Kind) (a : K ≡ archive) where
+  of_archive : {f : ℕ} → f ≡ first_of (header_causes K k) → first_of (header_causes archive k) ≡ f
+  of_archive e = sym (e ∙ ap (λ (x : Kind). first_of (header_causes x k)) a)
+
+  pub kept_header : {f : ℕ} → (f ≡ 0 → ⊥) → f ≡ first_of (header_causes K k) → f ≡ first_of (kept_causes k)
   unfolding kept_causes
-  kept_header {f} g e =
-      let n = header_refused archive k (e ∙ ap (λ (x : Kind). header_of x k) a) g in
-      sym (first_stops (header_causes archive k) _ f n.0 n.1)
+  kept_header {f} z e = sym (first_stops (header_causes archive k) _ f (of_archive e) z)
 
-  pub kept_header_stops : {f : ℕ} {t u : List Turn} → h ≡ Refused f → h ≡ header_of K k → f ≡ 0 → t ≡ u
-  kept_header_stops g e z = absurd ((header_refused archive k (e ∙ ap (λ (x : Kind). header_of x k) a) g).1 z)
-
-  module _ {limits : Counts} {n : ℕ} (g : h ≡ Found limits n) (e : h ≡ header_of K k) where
-    pub kept_count : n ≡ turn_count k
-    kept_count = (header_found archive k (e ∙ ap (λ (x : Kind). header_of x k) a) g).count_is
-
-    pub kept_limits : limits ≡ counts_in k
-    kept_limits = (header_found archive k (e ∙ ap (λ (x : Kind). header_of x k) a) g).limits_are
-
-    pub kept_few : n ≤ most_turns
-    kept_few = omega (arith, kept_count, header_few archive archive_sound.numbers k (header_found archive k (e ∙ ap (λ (x : Kind). header_of x k) a) g).header_fine, archive_sound.turns)
+  module _ (e : 0 ≡ first_of (header_causes K k)) where
+    pub kept_few : {n : ℕ} → n ≡ turn_count k → n ≤ most_turns
+    kept_few c = omega (arith, c, header_few archive archive_sound.numbers k (of_archive e), archive_sound.turns)
 
     pub kept_rest : {f : ℕ} → f ≡ first_of (form_causes k ++ turns_causes archive.refusals (counts_in k) (kept_turns k)) → f ≡ first_of (kept_causes k)
     unfolding kept_causes
-    kept_rest q = q ∙ sym (first_goes (header_causes archive k) _ (header_numbered archive archive_sound.numbers k) (header_found archive k (e ∙ ap (λ (x : Kind). header_of x k) a) g).header_fine)
+    kept_rest q = q ∙ sym (first_goes (header_causes archive k) _ (header_numbered archive archive_sound.numbers k) (of_archive e))
 
 -- ---- the records
 
@@ -291,10 +272,10 @@ module _ (k lent : List ℕ) {f : ℕ} (e : f ≡ first_of (kept_causes k)) wher
     unfolding restored_of
     own_sheet u t c w p = p ∙ rw (c, w)
 
-    pub restore_done : (t : List ℕ) {n : ℕ} {u : List ℕ} → n ≡ turn_count k → (f ≡ 0 → turns_of_table (turn_count k) t 0 ≡ kept_turns k) → length k ≤ length lent
+    pub restore_done : (t : List ℕ) {n : ℕ} {u : List ℕ} → n ≡ turn_count k → turns_of_table (turn_count k) t 0 ≡ kept_turns k → length k ≤ length lent
         → u ≡ puts lent 0 (form_with sheet_mark k (records_body (kept_maps k) (turns_of_table n t 0))) → beside (record { refusal = 0; bytes = length k }) u ≡ (restore_of k lent)
     unfolding restore_of restore_causes
     restore_done t {n} {u} c w h p =
-        let put = own_sheet u t c (w z) p in
+        let put = own_sheet u t c w p in
         let front : u ≡ restored_of k ++ drop (length (restored_of k)) lent = put ∙ puts_front (restored_of k) lent (omega (arith, restored_size)) in
         ap₂ (λ (b : ℕ) (l : List ℕ). beside {A = WriteAnswer} (record { refusal = 0; bytes = b }) l) (sym restored_size) front ∙ sym (wrote_enough (kept_causes k) (length k) (restored_of k) lent (kept_numbered k) (sym e ∙ z) h)

@@ -3,14 +3,13 @@ ghost use Rattle.std.specs.Prelude.{◌≡◌, ◌++◌, ◌≤◌, length};
 ghost use Rattle.wire.specs.Number.{bytes_at, puts};
 ghost use Rattle.sheet.specs.Read.{header_bytes};
 
+use sheet::HEADER_BYTES;
+
 // A mark, and after it bytes 3 to 6 of another form's header.
 pub fn put_front(out: &mut [u8], mark: [u8; 3], from: &[u8])
     requires { (header_bytes ≤ length out.old) × (header_bytes ≤ length from.now) }
     ensures { out.new ≡ puts out.old 0 (bytes_at mark 0 3 ++ bytes_at from.now 3 4) }
 {
     wire::put_mark(&mut *out, mark);
-    out[3] = from[3];
-    out[4] = from[4];
-    out[5] = from[5];
-    out[6] = from[6];
+    wire::put_bytes(&mut *out, 3, &from[3..HEADER_BYTES]);
 }

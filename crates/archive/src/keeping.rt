@@ -9,7 +9,7 @@ ghost use Rattle.archive_spec.specs.Kept.{form_size, maps_from, kept_table, kept
 ghost use Rattle.archive_spec.specs.Archive.{keep_of};
 
 use super::form::put_front;
-use refusal::{WriteAnswer, refused};
+use refusal::{Refusal, WriteAnswer, refused};
 use sheet::{HEADER_BYTES, MOST_TURNS, TABLE_PLACES, width};
 use turn::ROW_NUMBERS;
 
@@ -19,12 +19,10 @@ fn fill_maps(s: &[u8], maps: &mut [u8])
     ensures { maps.new ≡ maps_from (length maps.old) s.now header_bytes }
 {
     let mut at = HEADER_BYTES;
-    let mut i = 0;
-    while i < maps.len() {
+    for i in 0..maps.len() {
         let m = s[at];
         maps[i] = m;
         at = at + 1 + width(m);
-        i += 1;
     }
 }
 
@@ -61,7 +59,7 @@ pub fn keep(sheet: &[u8], kept: &mut [u8]) -> WriteAnswer
         return refused(read.refusal);
     }
     if kept.len() < sheet.len() {
-        return refused(refusal::BUFFER_TOO_SMALL);
+        return refused(Refusal::BufferTooSmall as u8);
     }
     let n = read.turns as usize;
     let end = ROW_NUMBERS * n;

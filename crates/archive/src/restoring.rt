@@ -1,9 +1,10 @@
 // From a kept form to its sheet.
-ghost use Rattle.std.specs.Prelude.{◌≡◌, true, ◌++◌, ◌+◌, ◌*◌, ◌≤◌, length};
+ghost use Rattle.std.specs.Prelude.{◌≡◌, true, ◌++◌, ◌+◌, ◌*◌, ◌≤◌, length, OnOk};
 ghost use Rattle.refusal.specs.Cause.{first_of};
+ghost use Rattle.refusal.specs.Failure.{failure};
 ghost use Rattle.wire.specs.Number.{puts};
 ghost use Rattle.turn.specs.Turn.{row_numbers};
-ghost use Rattle.sheet.specs.Kind.{most_turns, table_places};
+ghost use Rattle.sheet.specs.Kind.{most_turns, table_places, kind_in_numbers};
 ghost use Rattle.sheet.specs.Record.{record_bytes};
 ghost use Rattle.sheet.specs.Read.{header_bytes, counts_in, turn_count};
 ghost use Rattle.write_spec.specs.Write.{turns_causes};
@@ -13,23 +14,17 @@ ghost use Rattle.archive_spec.specs.Kept.{form_size, archive, kept_maps, columns
 ghost use Rattle.archive_spec.specs.Archive.{maps_causes, form_causes, kept_causes, restore_of};
 
 use super::form::put_front;
-use refusal::{WriteAnswer, refused};
-use sheet::{HEADER_BYTES, Header, Kind, Maps, TABLE_PLACES, width};
+use refusal::{Refusal, WriteAnswer, refused};
+use sheet::{HEADER_BYTES, Kind, Maps, TABLE_PLACES, width};
 use turn::Counts;
 
 // A shift's sheet with the mark of a kept form.
 fn archive() -> Kind
-    ensures { result ≡ archive }
+    ensures { kind_in_numbers result ≡ archive }
 {
-    let shift = sheet_read::shift_sheet();
-    let most = shift.most;
-    let maps = shift.maps;
-    let refusals = shift.refusals;
     Kind {
         mark: wire::GRC,
-        most: most,
-        maps: maps,
-        refusals: refusals,
+        ..sheet_read::shift_sheet()
     }
 }
 
@@ -42,20 +37,18 @@ fn maps_of(k: &[u8], n: u16) -> &[u8]
     &rest[..n as usize]
 }
 
-// 5 where one of the maps is bad, the first by its own rule, else 0.
-fn map_fault(rule: Maps, maps: &[u8]) -> u8
-    ensures { result ≡ first_of (maps_causes rule true maps.now) }
+// The refusal of the first bad map, if any; the first of the maps goes by its own rule.
+fn map_fault(rule: Maps, maps: &[u8]) -> Result<(), Refusal>
+    ensures { failure result ≡ first_of (maps_causes rule true maps.now) }
 {
     let mut first = true;
-    let mut i = 0;
-    while i < maps.len() {
-        if sheet::bad_map_for(rule, first, maps[i]) {
-            return refusal::BAD_MAP;
+    for &m in maps {
+        if sheet::bad_map_for(rule, first, m) {
+            return Err(Refusal::BadMap);
         }
         first = false;
-        i += 1;
     }
-    0
+    Ok(())
 }
 
 // How many bytes the fields of all maps take.
@@ -64,67 +57,60 @@ fn fields_width(maps: &[u8]) -> usize
     ensures { (result ≡ widths maps.now) × (result ≤ record_bytes * most_turns) }
 {
     let mut sum = 0;
-    let mut i = 0;
-    while i < maps.len() {
-        sum += width(maps[i]);
-        i += 1;
+    for &m in maps {
+        sum += width(m);
     }
     sum
 }
 
-// The first thing wrong with a kept form between its header and its values, or 0.
-fn form_fault(rule: Maps, k: &[u8], n: u16) -> u8
+// The first thing wrong with a kept form between its header and its values, if any.
+fn form_fault(rule: Maps, k: &[u8], n: u16) -> Result<(), Refusal>
     requires { (rule ≡ archive.maps) × (n ≡ turn_count k.now) × (n ≤ most_turns) }
-    ensures { result ≡ first_of (form_causes k.now) }
+    ensures { failure result ≡ first_of (form_causes k.now) }
 {
     let from = HEADER_BYTES + n as usize;
     if k.len() < from {
-        return refusal::TRUNCATED;
+        return Err(Refusal::Truncated);
     }
     let maps = maps_of(k, n);
-    let fault = map_fault(rule, maps);
-    if fault != 0 {
-        return fault;
-    }
+    map_fault(rule, maps)?;
     let end = from + fields_width(maps);
     if k.len() < end {
-        return refusal::TRUNCATED;
+        return Err(Refusal::Truncated);
     }
     if end < k.len() {
-        return refusal::TRAILING_BYTES;
+        return Err(Refusal::TrailingBytes);
     }
-    0
+    Ok(())
 }
 
-// The first thing wrong with a kept form after its header, or 0; the turns then stand in the table.
-fn judge_form(kind: Kind, k: &[u8], n: u16, limits: Counts, table: &mut [u16]) -> u8
-    requires { (kind ≡ archive) × (n ≡ turn_count k.now) × (n ≤ most_turns) × (limits ≡ counts_in k.now) × (table_places ≤ length table.old) }
-    ensures value { result ≡ first_of (form_causes k.now ++ turns_causes archive.refusals (counts_in k.now) (kept_turns k.now)) }
-    ensures table_after { result ≡ 0 → first_turns (turn_count k.now) table.new ≡ kept_turns k.now }
+// The first thing wrong with a kept form after its header, if any; if none, the turns stand in the table.
+fn judge_form(
+    kind: Kind,
+    k: &[u8],
+    n: u16,
+    limits: Counts,
+    table: &mut [u16],
+) -> Result<(), Refusal>
+    requires { (kind_in_numbers kind ≡ archive) × (n ≡ turn_count k.now) × (n ≤ most_turns) × (limits ≡ counts_in k.now) × (table_places ≤ length table.old) }
+    ensures refused { failure result ≡ first_of (form_causes k.now ++ turns_causes archive.refusals (counts_in k.now) (kept_turns k.now)) }
+    ensures table_after { OnOk result (first_turns (turn_count k.now) table.new ≡ kept_turns k.now) }
 {
-    let rule = kind.maps;
-    let fault = form_fault(rule, k, n);
-    if fault != 0 {
-        return fault;
-    }
+    form_fault(kind.maps, k, n)?;
     let from = HEADER_BYTES + n as usize;
     archive_columns::read_columns(k, from, maps_of(k, n), &mut *table);
-    let refusals = kind.refusals;
-    write::judge_turns(table, n, limits, refusals)
+    write::judge_turns(table, n, limits, kind.refusals)
 }
 
-// The first thing wrong with any bytes as a kept form, or 0; the turns then stand in the table.
-fn judge_kept(k: &[u8], table: &mut [u16]) -> u8
+// The first thing wrong with any bytes as a kept form, if any; if none, the turns stand in the table.
+fn judge_kept(k: &[u8], table: &mut [u16]) -> Result<(), Refusal>
     requires { table_places ≤ length table.old }
-    ensures value { result ≡ first_of (kept_causes k.now) }
-    ensures table_after { result ≡ 0 → first_turns (turn_count k.now) table.new ≡ kept_turns k.now }
+    ensures refused { failure result ≡ first_of (kept_causes k.now) }
+    ensures table_after { OnOk result (first_turns (turn_count k.now) table.new ≡ kept_turns k.now) }
 {
     let kind = archive();
-    let h = sheet_read::read_header(kind, k);
-    match h {
-        Header::Refused(fault) => fault,
-        Header::Found(limits, n) => judge_form(kind, k, n, limits, &mut *table),
-    }
+    let (limits, n) = sheet_read::read_header(kind, k)?;
+    judge_form(kind, k, n, limits, &mut *table)
 }
 
 // The records of these maps and of the turns of a table, after the header.
@@ -133,11 +119,9 @@ fn put_records(maps: &[u8], table: &[u16], out: &mut [u8])
     ensures { out.new ≡ puts out.old header_bytes (table_records maps.now table.now) }
 {
     let mut at = HEADER_BYTES;
-    let mut i = 0;
-    while i < maps.len() {
+    for i in 0..maps.len() {
         let t = turn::turn_at(table, i);
         at = write::put_record(&mut *out, at, maps[i], t);
-        i += 1;
     }
 }
 
@@ -156,17 +140,18 @@ pub fn restore(kept: &[u8], sheet: &mut [u8]) -> WriteAnswer
     ensures { beside result sheet.new ≡ restore_of kept.now sheet.old }
 {
     let mut table = [0u16; TABLE_PLACES];
-    let fault = judge_kept(kept, &mut table);
-    if fault != 0 {
-        return refused(fault);
-    }
-    if sheet.len() < kept.len() {
-        return refused(refusal::BUFFER_TOO_SMALL);
-    }
-    let n = wire::word_at(kept, 5);
-    put_sheet(kept, n, &table, &mut *sheet);
-    WriteAnswer {
-        refusal: 0,
-        bytes: kept.len() as u32,
+    match judge_kept(kept, &mut table) {
+        Err(fault) => refused(u8::from(fault)),
+        Ok(()) => {
+            if sheet.len() < kept.len() {
+                return refused(Refusal::BufferTooSmall as u8);
+            }
+            let n = wire::word_at(kept, 5);
+            put_sheet(kept, n, &table, &mut *sheet);
+            WriteAnswer {
+                refusal: 0,
+                bytes: kept.len() as u32,
+            }
+        }
     }
 }

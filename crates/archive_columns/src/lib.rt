@@ -2,7 +2,7 @@
 
 #![tactic(auto)]
 
-ghost use Rattle.std.specs.Prelude.{◌≡◌, ◌+◌, ◌*◌, ◌≤◌, ◌<◌, length};
+ghost use Rattle.std.specs.Prelude.{◌≡◌, ◌+◌, ◌*◌, ◌≤◌, length};
 ghost use Rattle.wire.specs.Number.{puts};
 ghost use Rattle.turn.specs.Turn.{row_numbers};
 ghost use Rattle.archive_spec.specs.Column.{ColumnsLaid, size_in, field_in, field_value};
@@ -93,11 +93,9 @@ fn put_column(out: &mut [u8], from: usize, field: Field, maps: &[u8], table: &[u
     ensures out_after { out.new ≡ puts out.old from (table_column field maps.now table.now) }
 {
     let mut at = from;
-    let mut i = 0;
-    while i < maps.len() {
+    for i in 0..maps.len() {
         let x = table[i * ROW_NUMBERS + field.place];
         at = put_field(&mut *out, at, field, maps[i], x);
-        i += 1;
     }
     at
 }
@@ -110,14 +108,12 @@ fn read_column(k: &[u8], from: usize, field: Field, maps: &[u8], table: &mut [u1
 {
     let mut at = from;
     let mut old: u16 = 0;
-    let mut i = 0;
-    while i < maps.len() {
+    for i in 0..maps.len() {
         let m = maps[i];
         old = read_field(k, at, field, m, old);
         let cell = i * ROW_NUMBERS + field.place;
         table[cell] = old;
         at += size_in(field, m);
-        i += 1;
     }
     at
 }

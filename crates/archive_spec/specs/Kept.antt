@@ -3,8 +3,7 @@ use Rattle.std.specs.Prelude.{ℕ, zero, suc, ◌+◌, List, [], ◌∷◌, ◌+
 use Rattle.wire.specs.Number.{bytes_at}
 use Rattle.wire.specs.Mark.{sheet_mark, kept_mark}
 use Rattle.turn.specs.declared.Turn.{Turn}
-use Rattle.sheet.specs.declared.kind.Kind.{Kind}
-use Rattle.sheet.specs.Kind.{shift_sheet}
+use Rattle.sheet.specs.Kind.{Kind, shift_sheet}
 use Rattle.sheet.specs.Record.{width_of}
 use Rattle.sheet.specs.Read.{header_bytes, turn_count, turns_of}
 use Rattle.sheet.specs.Layout.{record_of}

@@ -1,12 +1,10 @@
 -- The entry's answer by its cases, each premise in the form in which the code's calls and tests leave it. Assumes nothing.
-use Prim.Native.Nat.{ℕ, ◌+◌, ◌<◌, ◌≤◌}
+use Prim.Native.Nat.{ℕ, ◌<◌, ◌≤◌}
 use mathlib.Core.Path.{◌≡◌, sym, ◌∙◌}
 use mathlib.Core.List.{List, ◌++◌}
 use native.Mathlib.Omega.{arith}
-use lib.ListN.{length, take, drop}
-use lib.Seq.{length-take-le}
+use lib.ListN.{length, drop}
 use Rattle.refusal.specs.Number.{buffer_too_small}
-use Rattle.turn.specs.Turn.{shift_minutes}
 use Rattle.sheet.specs.declared.answer.ReadAnswer.{ReadAnswer}
 use Rattle.sheet.specs.Read.{turn_count, sheet_causes}
 use Rattle.sheet.proofs.Readings.{sheet_numbered}
@@ -21,17 +19,9 @@ use Rattle.assign_spec.specs.Assign.{assign_causes, assign_refused, assign_of}
 use Rattle.assign_spec.proofs.Numbers.{numbers_places}
 use Rattle.refusal.proofs.Outcome.{room_stopped, room_short, room_enough}
 use Rattle.refusal.specs.Outcome.{beside}
-use Rattle.instance.proofs.Posed.{loaded_held, loaded_turns}
-use Rattle.lists.proofs.Places.{taken_length}
+use Rattle.instance.proofs.Posed.{loaded_turns}
 
 -- ---- as the code leaves it
-
--- the busy times fit
-pub assign_gap : (n : ℕ) {p : Size} → p ≡ shift_size n → shift_minutes + p.gap < 65536
-assign_gap n q = rw q (omega arith)
-
-pub assign_places : (n : ℕ) (lent : List ℕ) {p : Size} → p ≡ shift_size n → n ≤ length lent → length (take n lent) ≡ p.count
-assign_places n lent q h = rw q (length-take-le n lent h)
 
 module _ (s cols lent : List ℕ) {r : ReadAnswer} (e : Loaded s r cols) where
   pub assign_fault : {x : AssignAnswer} → (r.refusal ≡ 0 → ⊥) → x ≡ assign_refused r.refusal → beside x lent ≡ assign_of s lent
@@ -53,4 +43,4 @@ module _ (s cols lent : List ℕ) {r : ReadAnswer} (e : Loaded s r cols) where
         let size : length (numbers_of T) ≡ r.turns = numbers_places T ∙ sheet_count s sound ∙ sym count in
         rw (a, b, loaded_turns s cols e f q, ← size) (sym (room_enough (sheet_causes s) (turn_count s) (length lent) _ (λ k. beside (assign_refused k) lent) (sheet_numbered s) sound (omega (arith, count))))
 
-pub ruleset assign_cases = (assign_fault, assign_small, assign_gap, loaded_held, assign_places, taken_length, assign_done)
+pub ruleset assign_cases = (assign_fault, assign_small, assign_done)

@@ -5,11 +5,12 @@ use mathlib.Core.Bool.{true, false}
 use mathlib.Core.List.{List, [], ◌∷◌}
 use Prim.Native.Nat.{ℕ, zero, suc, ◌+◌, ◌≤◌, ◌<◌, max, min}
 use native.Mathlib.Omega.{arith}
+use Rattle.std.proofs.Math.Nat.{max_comm}
 use native.Mathlib.Numerals.{add-one}
 use native.Mathlib.Decide.{dec_lt, ℕ_discrete}
 use lib.ListN.{length, get_or, set, drop, replicate, length-set, length-replicate, drop_of_length-le, get_or-eq_default}
 use lib.Seq.{get_or-set_same, get_or-set_other, drop-cons}
-use Rattle.lists.proofs.Bools.{not_both, fails, up_to}
+use Rattle.lists.proofs.Bools.{not_both, fails}
 use Rattle.lists.proofs.Sums.{all_head}
 use Rattle.model.specs.Turns.{Turns, PositiveLengths, overlap}
 use Rattle.model.proofs.Conflicts.{overlap_lt, lt_overlap}
@@ -30,18 +31,6 @@ use Rattle.assign_spec.proofs.Numbers.{free_apart, apart_free, next_inside, next
 
 -- ---- the first groomer that is free
 
-pub free_at : (busy : List ℕ) (used start k : ℕ) → k < used → get_or busy k 0 ≤ start → ((j : ℕ) → j < k → start < get_or busy j 0) → FirstFree busy used start k
-free_at busy used start k l h b = record { known = omega arith; over = λ _. h; before = b }
-
-pub free_next : (busy : List ℕ) (used start k : ℕ) → used ≤ k → k ≤ used → ((j : ℕ) → j < k → start < get_or busy j 0) → FirstFree busy used start k
-free_next busy used start k l h b = record { known = h; over = λ m. absurd (omega arith); before = b }
-
-pub busy_none : (busy : List ℕ) (start : ℕ) → (j : ℕ) → j < 0 → start < get_or busy j 0
-busy_none busy start j l = absurd (omega arith)
-
-pub busy_more : (busy : List ℕ) (start k : ℕ) → start < get_or busy k 0 → ((j : ℕ) → j < k → start < get_or busy j 0) → (j : ℕ) → j < k + 1 → start < get_or busy j 0
-busy_more busy start k h b = rw add-one (up_to (λ j. start < get_or busy j 0) k b h)
-
 -- all are busy before the earliest minute
 pub free_none : (busy : List ℕ) (g : Groomers) (start : ℕ) → start < g.earliest → NoneBefore busy g → FirstFree busy g.used start g.used
 unfolding NoneBefore
@@ -61,15 +50,11 @@ module _ (busy : List ℕ) (g : Groomers) (start k until e : ℕ) (f : FirstFree
   each : (j : ℕ) → j < max (k + 1) g.used → e ≤ get_or (set busy k until) j 0
   each j l = elim (ℕ_discrete j k) [ yes d ↦ earliest_at j (inr d) l | no d ↦ earliest_at j (inl d) l ]
 
-  pub earliest_again : k < g.used → NoneBefore (set busy k until) (record { used = g.used; earliest = e })
+  pub earliest_then : {m : ℕ} → m ≡ max g.used (k + 1) → NoneBefore (set busy k until) (record { used = m; earliest = e })
   unfolding NoneBefore
-  earliest_again l j m = each j (omega arith)
+  earliest_then h j l = each j (omega (arith, h))
 
-  pub earliest_another : g.used ≤ k → NoneBefore (set busy k until) (record { used = k + 1; earliest = e })
-  unfolding NoneBefore
-  earliest_another l j m = each j (omega arith)
-
-pub ruleset free_cases = (free_at, free_next, busy_none, busy_more, free_none)
+pub ruleset free_cases = (free_none)
 
 -- ---- a turn gets its number
 
@@ -156,18 +141,12 @@ module _ (T : Turns) (numbers : List ℕ) (t used k : ℕ) (busy : List ℕ) (le
 
 -- as the code leaves it
 
-pub busy_places : (T : Turns) (numbers : List ℕ) (used : ℕ) (busy : List ℕ) → BusyUntil T numbers used busy → length busy ≡ most_turns
-busy_places T numbers used busy b = b.places
-
 module _ (p : Size) (cols numbers : List ℕ) (t : ℕ) (h : Held p cols) (n : NextIn (turns_by p cols) numbers t) where
   pub turn_inside : t < p.count
   turn_inside = omega (arith, n.inside, count_is p cols)
 
   pub turn_few : t < most_turns
   turn_few = omega (arith, turn_inside, h.few)
-
-  pub turn_place_lem : t < length numbers
-  turn_place_lem = omega (arith, n.inside, n.places)
 
   module _ (used : ℕ) (busy : List ℕ) (b : BusyUntil (turns_by p cols) numbers used busy) where
     count_few : (turns_by p cols).count ≤ most_turns
@@ -176,9 +155,6 @@ module _ (p : Size) (cols numbers : List ℕ) (t : ℕ) (h : Held p cols) (n : N
     pub used_least : used < most_turns
     used_least = omega (arith, used_few (turns_by p cols) numbers t used busy n b, count_few)
 
-    pub used_most : used ≤ most_turns
-    used_most = omega (arith, used_least)
-
     module _ {r : Row} (k : ℕ) (q : r ≡ row_in cols t) (f : FirstFree busy used r.start k) where
       first : FirstFree busy used ((turns_by p cols).start t) k
       first = rw (start_at p cols t turn_inside q) at f
@@ -186,19 +162,13 @@ module _ (p : Size) (cols numbers : List ℕ) (t : ℕ) (h : Held p cols) (n : N
       pub number_written : set numbers t (k + 1) ≡ set numbers t (number_for (turns_by p cols) numbers t)
       number_written = ap (set numbers t) (sym (number_is (turns_by p cols) numbers t used k busy (lengths_are p cols h) n b first))
 
-      then : BusyUntil (turns_by p cols) (set numbers t (k + 1)) (max (k + 1) used) (set busy k (r.end + p.gap))
-      then = let e : r.end + p.gap ≡ (turns_by p cols).end t + (turns_by p cols).gap = omega (arith, end_at p cols t turn_inside q, gap_is p cols) in rw e (busy_then (turns_by p cols) numbers t used k busy (lengths_are p cols h) n b first count_few)
-
-      pub turn_again : k < used → BusyUntil (turns_by p cols) (set numbers t (k + 1)) used (set busy k (r.end + p.gap))
-      turn_again l = let m : max (k + 1) used ≡ used = omega arith in rw m at then
-
-      pub turn_another : used ≤ k → BusyUntil (turns_by p cols) (set numbers t (k + 1)) (k + 1) (set busy k (r.end + p.gap))
-      turn_another l = let m : max (k + 1) used ≡ k + 1 = omega (arith, f.known) in rw m at then
+      pub turn_then : {m : ℕ} → m ≡ max used (k + 1) → BusyUntil (turns_by p cols) (set numbers t (k + 1)) m (set busy k (r.end + p.gap))
+      turn_then m = let e : r.end + p.gap ≡ (turns_by p cols).end t + (turns_by p cols).gap = omega (arith, end_at p cols t turn_inside q, gap_is p cols) in rw (m, max_comm used (k + 1), e) (busy_then (turns_by p cols) numbers t used k busy (lengths_are p cols h) n b first count_few)
 
   pub until_fits : {r : Row} → r ≡ row_in cols t → shift_minutes + p.gap < 65536 → r.end + p.gap < 65536
   until_fits q l = omega (arith, end_at p cols t turn_inside q, h.ends t turn_inside)
 
-pub ruleset numbering_cases = (busy_places, turn_inside, turn_few, turn_place_lem, used_least, used_most, number_written, turn_again, turn_another, until_fits, earliest_again, earliest_another)
+pub ruleset numbering_cases = (turn_few, number_written, turn_then, until_fits, earliest_then)
 
 -- ---- all turns
 
@@ -260,13 +230,13 @@ module _ (p : Size) (cols : List ℕ) where
       over : drop i (order_by_start T) ≡ []
       over = drop_of_length-le (order_by_start T) {i = i} (omega (arith, order_many))
 
-      pub serving_done : numbers ≡ numbers_of (turns_by p cols)
+      pub numbers_done : numbers ≡ numbers_of (turns_by p cols)
       unfolding number_all
-      serving_done = rw over at w.ahead
+      numbers_done = rw over at w.ahead
 
-      pub serving_used : used ≡ used_of (turns_by p cols)
+      pub used_done : used ≡ used_of (turns_by p cols)
       unfolding used_of
-      serving_used = w.groomers.many ∙ ap greatest serving_done
+      used_done = w.groomers.many ∙ ap greatest numbers_done
 
     pub serving_few : Held p cols → used ≤ most_turns
     serving_few h = omega (arith, w.groomers.many, greatest_to numbers most_turns (λ u. omega (arith, w.underway.few u, count_is p cols, h.few)))

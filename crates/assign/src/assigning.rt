@@ -1,6 +1,6 @@
 // Turns get their numbers one after another. Of each groomer it is enough to know until when it is busy
 // with its last turn.
-ghost use Rattle.std.specs.Prelude.{◌≡◌, ◌+◌, ◌≤◌, ◌<◌, length, set, replicate};
+ghost use Rattle.std.specs.Prelude.{◌≡◌, ◌+◌, ◌≤◌, ◌<◌, set, replicate};
 ghost use Rattle.turn.specs.Turn.{shift_minutes};
 ghost use Rattle.sheet.specs.Kind.{most_turns};
 ghost use Rattle.instance.specs.Columns.{turns_by, Held};
@@ -9,10 +9,6 @@ ghost use Rattle.assign_spec.specs.Numbering.{number_for, numbers_of, used_of};
 ghost use Rattle.assign.specs.Serving.{NextIn, BusyUntil, NoneBefore, FirstFree};
 
 use instance::{MOST_TURNS, PLACES, Size, row_at};
-use numbers::lesser_u16;
-
-// Later than every start: where there are no groomers yet, none is free.
-const NO_MINUTE: u16 = 65535;
 
 // The groomers that have got a turn: how many, and a minute before which none of them is free.
 #[derive(Clone, Copy)]
@@ -21,36 +17,21 @@ pub struct Groomers {
     pub earliest: u16,
 }
 
-// Sets all numbers to 0: no turn has one yet.
-pub fn clear(numbers: &mut [u16])
-    ensures { numbers.new ≡ replicate (length numbers.old) 0 }
-{
-    let mut t = 0;
-    while t < numbers.len() {
-        numbers[t] = 0;
-        t += 1;
-    }
-}
-
 // The first of the groomers used that is free at a start: its place, or the next one's if all are busy.
 fn first_free(busy: &[u16; MOST_TURNS], used: usize, start: u16) -> usize
-    requires { (used ≤ most_turns) × (length busy.now ≡ most_turns) }
+    requires { used ≤ most_turns }
     ensures { FirstFree busy.now used start result }
 {
-    let mut k = 0;
-    while k < used {
-        if busy[k] <= start {
-            return k;
-        }
-        k += 1;
-    }
-    k
+    busy[..used]
+        .iter()
+        .position(|&until| until <= start)
+        .unwrap_or(used)
 }
 
 // The first groomer that is free at a start, as first_free gives it; but where the earliest minute says that
 // all are busy, none is looked at.
 fn place_for(busy: &[u16; MOST_TURNS], g: Groomers, start: u16) -> usize
-    requires { (g.used ≤ most_turns) × (length busy.now ≡ most_turns) × NoneBefore busy.now g }
+    requires { (g.used ≤ most_turns) × NoneBefore busy.now g }
     ensures { FirstFree busy.now g.used start result }
 {
     if start < g.earliest {
@@ -78,16 +59,9 @@ fn number_turn(
     let until = row.end + p.gap;
     busy[k] = until;
     numbers[t] = (k + 1) as u16;
-    let earliest = lesser_u16(g.earliest, until);
-    if k < g.used {
-        return Groomers {
-            used: g.used,
-            earliest: earliest,
-        };
-    }
     Groomers {
-        used: k + 1,
-        earliest: earliest,
+        used: g.used.max(k + 1),
+        earliest: g.earliest.min(until),
     }
 }
 
@@ -99,15 +73,13 @@ pub fn number_all(p: Size, cols: &[u16; PLACES], order: &[u16], numbers: &mut [u
         × (result ≡ used_of (turns_by p cols.now)) × (result ≤ most_turns) }
 {
     let mut busy = [0u16; MOST_TURNS];
+    // No groomer is used yet, so none is free at any start.
     let mut g = Groomers {
         used: 0,
-        earliest: NO_MINUTE,
+        earliest: u16::MAX,
     };
-    let mut i = 0;
-    while i < p.count {
-        let t = order[i] as usize;
-        g = number_turn(p, cols, t, g, &mut busy, &mut *numbers);
-        i += 1;
+    for &t in order {
+        g = number_turn(p, cols, usize::from(t), g, &mut busy, &mut *numbers);
     }
     g.used
 }

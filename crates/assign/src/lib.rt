@@ -15,6 +15,7 @@ mod assigning;
 
 use assign_spec::AssignAnswer;
 use instance::{MOST_TURNS, PLACES, Size};
+use refusal::Refusal;
 
 // Writes each turn's number at its place, with lent places for the order; returns how many groomers are
 // used.
@@ -24,7 +25,8 @@ fn number_by_order(p: Size, cols: &[u16; PLACES], order: &mut [u16], numbers: &m
         × (result ≡ used_of (turns_by p cols.now)) × (result ≤ most_turns) }
 {
     instance::put_order(p, cols, &mut *order);
-    assigning::clear(&mut *numbers);
+    // No turn has a number yet.
+    numbers.fill(0);
     assigning::number_all(p, cols, &*order, &mut *numbers)
 }
 
@@ -34,9 +36,8 @@ fn number_turns(p: Size, cols: &[u16; PLACES], numbers: &mut [u16]) -> usize
     ensures { (numbers.new ≡ numbers_of (turns_by p cols.now))
         × (result ≡ used_of (turns_by p cols.now)) × (result ≤ most_turns) }
 {
-    let n = p.count;
     let mut order = [0u16; MOST_TURNS];
-    number_by_order(p, cols, &mut order[..n], &mut *numbers)
+    number_by_order(p, cols, &mut order[..p.count], &mut *numbers)
 }
 
 fn refused(k: u8) -> AssignAnswer
@@ -54,14 +55,12 @@ pub fn assign(s: &[u8], places: &mut [u16]) -> AssignAnswer
 {
     let mut cols = [0u16; PLACES];
     let r = instance::load(s, &mut cols);
-    let fault = r.refusal;
-    if fault != 0 {
-        return refused(fault);
+    if r.refusal != 0 {
+        return refused(r.refusal);
     }
-    let n = r.turns as usize;
-    let all = places.len();
-    if all < n {
-        return refused(refusal::BUFFER_TOO_SMALL);
+    let n = usize::from(r.turns);
+    if places.len() < n {
+        return refused(Refusal::BufferTooSmall as u8);
     }
     let used = number_turns(instance::shift_size(r.turns), &cols, &mut places[..n]);
     AssignAnswer {

@@ -4,8 +4,7 @@ use mathlib.Core.Path.{◌≡◌, refl, sym, ap, ◌∙◌}
 use mathlib.Core.Bool.{Bool, true, false, not}
 use mathlib.Core.List.{List, [], ◌∷◌, ◌++◌}
 use native.Mathlib.Omega.{arith}
-use lib.ListN.{length, drop, take, replicate}
-use lib.Seq.{length-take-le}
+use lib.ListN.{length, drop, replicate}
 use Rattle.refusal.specs.Number.{buffer_too_small, not_single_turns}
 use Rattle.refusal.specs.Cause.{Cause, ◌when◌, first_of}
 use Rattle.sheet.specs.declared.answer.ReadAnswer.{ReadAnswer}
@@ -49,9 +48,6 @@ module _ (p : Size) (cols lent : List ℕ) {size : ℕ} (m : size ≡ map_bytes 
   unfolding best_in turns_by first_of
   problem_small l h = rw h (sym (room_short [] (map_bytes p.count) (length lent) _ (λ k. beside (best_refused k) lent) refl refl (omega (arith, m))))
 
-  pub problem_room : size ≤ length lent → length (take size lent) ≡ map_bytes p.count
-  problem_room l = length-take-le size lent l ∙ m
-
   map_places : length (map_of (best_choice (turns_by p cols))) ≡ size
   map_places = map_length (best_choice (turns_by p cols)) ∙ ap map_bytes (best_length (turns_by p cols) ∙ count_is p cols) ∙ sym m
 
@@ -62,7 +58,7 @@ module _ (p : Size) (cols lent : List ℕ) {size : ℕ} (m : size ≡ map_bytes 
       let T = turns_by p cols in
       rw (h, k, ← map_places) (sym (room_enough [] (map_bytes T.count) (length lent) (found T lent) (λ k. beside (best_refused k) lent) refl refl (omega (arith, m, ap map_bytes (count_is p cols)))))
 
-pub ruleset problem_cases = (problem_small, problem_room, problem_done)
+pub ruleset problem_cases = (problem_small, problem_done)
 
 -- ---- the answer
 

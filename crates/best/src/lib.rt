@@ -3,7 +3,7 @@
 
 #![tactic(auto)]
 
-ghost use Rattle.std.specs.Prelude.{◌≡◌, length, replicate};
+ghost use Rattle.std.specs.Prelude.{◌≡◌, length};
 ghost use Rattle.choice_map.specs.Choice.{map_bytes, map_of};
 ghost use Rattle.instance.specs.Columns.{turns_by, Held};
 ghost use Rattle.best_spec.specs.Table.{best_worth, best_choice};
@@ -16,17 +16,8 @@ mod single;
 use best_spec::BestAnswer;
 use best_table::choose_best;
 use instance::{PLACES, Size};
+use refusal::Refusal;
 use single::is_single;
-
-fn clear(map: &mut [u8])
-    ensures { map.new ≡ replicate (length map.old) 0 }
-{
-    let mut i = 0;
-    while i < map.len() {
-        map[i] = 0;
-        i += 1;
-    }
-}
 
 // Writes the map of the best set of a problem; returns its worth.
 fn write_best(p: Size, cols: &[u16; PLACES], map: &mut [u8]) -> u32
@@ -34,8 +25,8 @@ fn write_best(p: Size, cols: &[u16; PLACES], map: &mut [u8]) -> u32
     ensures value { result ≡ best_worth (turns_by p cols.now) }
     ensures map_after { map.new ≡ map_of (best_choice (turns_by p cols.now)) }
 {
-    clear(&mut *map);
-    choose_best(p, cols, &mut *map)
+    map.fill(0);
+    choose_best(p, cols, map)
 }
 
 fn refused(k: u8) -> BestAnswer
@@ -54,13 +45,10 @@ fn answer(p: Size, cols: &[u16; PLACES], map: &mut [u8]) -> BestAnswer
 {
     let size = choice_map::map_bytes(p.count as u16);
     if map.len() < size {
-        return refused(refusal::BUFFER_TOO_SMALL);
+        return refused(Refusal::BufferTooSmall as u8);
     }
     let worth = write_best(p, cols, &mut map[..size]);
-    BestAnswer {
-        refusal: 0,
-        worth: worth,
-    }
+    BestAnswer { refusal: 0, worth }
 }
 
 // Reads any bytes as a sheet, finds the best worth, and writes the map of the set that earns it into any
@@ -70,13 +58,12 @@ pub fn best(s: &[u8], map: &mut [u8]) -> BestAnswer
 {
     let mut cols = [0u16; PLACES];
     let r = instance::load(s, &mut cols);
-    let fault = r.refusal;
-    if fault != 0 {
-        return refused(fault);
+    if r.refusal != 0 {
+        return refused(r.refusal);
     }
     let p = instance::shift_size(r.turns);
-    if is_single(p, &cols) {
-        return answer(p, &cols, &mut *map);
+    if !is_single(p, &cols) {
+        return refused(Refusal::NotSingleTurns as u8);
     }
-    refused(refusal::NOT_SINGLE_TURNS)
+    answer(p, &cols, map)
 }

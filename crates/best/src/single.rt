@@ -11,8 +11,8 @@ fn is_first(flags: &mut [u8; SLOPES], slope: u16) -> bool
     requires { slope < slope_places }
     ensures { (result ≡ clear_at flags.old slope) × (flags.new ≡ set flags.old slope 1) }
 {
-    let clear = is_clear(&*flags, slope);
-    set_flag(&mut *flags, slope);
+    let clear = is_clear(flags, slope);
+    set_flag(flags, slope);
     clear
 }
 
@@ -23,12 +23,9 @@ fn all_single(p: Size, cols: &[u16; PLACES], flags: &mut [u8; SLOPES]) -> bool
     ensures { result ≡ single_turns (turns_by p cols.now) }
 {
     let mut all = true;
-    let mut x = 0;
-    while x < p.count {
+    for x in 0..p.count {
         let row = row_at(cols, x);
-        let first = is_first(&mut *flags, row.slope);
-        all = (first & (row.driver == 0)) & all;
-        x += 1;
+        all &= is_first(flags, row.slope) & (row.driver == 0);
     }
     all
 }

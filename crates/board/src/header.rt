@@ -61,5 +61,5 @@ pub fn steps_place(n: u16) -> usize
 pub fn board_bytes(n: u16, m: u16) -> usize
     ensures { result ≡ board_length n m }
 {
-    steps_place(n) + STEP_SIZE * (m as usize)
+    steps_place(n) + STEP_SIZE * usize::from(m)
 }

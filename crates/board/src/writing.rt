@@ -1,5 +1,5 @@
 // Writing a board: its steps, its header, its map; and the steps read back.
-ghost use Rattle.std.specs.Prelude.{◌≡◌, [], ◌∷◌, ◌++◌, ◌+◌, ◌*◌, ◌≤◌, ◌<◌, length, drop};
+ghost use Rattle.std.specs.Prelude.{◌≡◌, [], ◌∷◌, ◌++◌, ◌+◌, ◌*◌, ◌≤◌, length, drop};
 ghost use Rattle.wire.specs.Number.{puts};
 ghost use Rattle.model.specs.Steps.{tally};
 ghost use Rattle.choice_map.specs.Choice.{map_bytes};
@@ -30,11 +30,9 @@ pub fn sum_amounts(steps: &[u8], m: u16) -> u32
     requires { step_size * m ≤ length steps.now }
     ensures { result ≡ tally (steps_in m steps.now) }
 {
-    let mut sum: u32 = 0;
-    let mut i: u16 = 0;
-    while i < m {
-        sum += step_amount(steps, i as usize) as u32;
-        i += 1;
+    let mut sum = 0;
+    for i in 0..usize::from(m) {
+        sum += u32::from(step_amount(steps, i));
     }
     sum
 }
@@ -45,9 +43,8 @@ pub fn put_step(steps: &mut [u8], i: usize, turn: u16, amount: u16)
     ensures { steps.new ≡ puts steps.old (step_size * i) (step_bytes (record { turn = turn; amount = amount } ∷ [])) }
 {
     let at = STEP_SIZE * i;
-    let next = at + 2;
-    wire::put_word(&mut *steps, at, turn);
-    wire::put_word(&mut *steps, next, amount);
+    wire::put_word(steps, at, turn);
+    wire::put_word(steps, at + 2, amount);
 }
 
 // The mark, the turns and the steps.
@@ -55,18 +52,18 @@ fn put_counts(out: &mut [u8], n: u16, m: u16)
     requires { board_header ≤ length out.old }
     ensures { out.new ≡ puts out.old 0 (count_bytes n m) }
 {
-    wire::put_mark(&mut *out, wire::GRB);
-    wire::put_word(&mut *out, TURNS_PLACE, n);
-    wire::put_word(&mut *out, STEP_COUNT_PLACE, m);
+    wire::put_mark(out, wire::GRB);
+    wire::put_word(out, TURNS_PLACE, n);
+    wire::put_word(out, STEP_COUNT_PLACE, m);
 }
 
 fn put_header(out: &mut [u8], n: u16, m: u16, tallied: u32, worth: u32)
     requires { board_header ≤ length out.old }
     ensures { out.new ≡ puts out.old 0 (head_bytes n m tallied worth) }
 {
-    put_counts(&mut *out, n, m);
-    wire::put_quad(&mut *out, TALLY_PLACE, tallied);
-    wire::put_quad(&mut *out, WORTH_PLACE, worth);
+    put_counts(out, n, m);
+    wire::put_quad(out, TALLY_PLACE, tallied);
+    wire::put_quad(out, WORTH_PLACE, worth);
 }
 
 // Writes what stands before m steps that are written already: the header, with their sum, and the map.
@@ -77,6 +74,6 @@ pub fn put_front(out: &mut [u8], n: u16, m: u16, worth: u32, map: &[u8])
 {
     let place = steps_place(n);
     let tallied = sum_amounts(&out[place..], m);
-    put_header(&mut *out, n, m, tallied, worth);
-    wire::put_bytes(&mut *out, HEADER_BYTES, map);
+    put_header(out, n, m, tallied, worth);
+    wire::put_bytes(out, HEADER_BYTES, map);
 }

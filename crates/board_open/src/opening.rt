@@ -8,8 +8,9 @@ ghost use Rattle.board_open.specs.Chosen.{count_of, turn_chosen};
 
 use board::{HEADER_BYTES, board_bytes, step_count, steps_place, turns};
 use choice_map::{clear_past, count_chosen, is_chosen};
+use refusal::Refusal;
 
-// What counting returns: a refusal, 0 if none, and the number of chosen turns, 0 on a refusal.
+// What counting returns: a refusal, 0 if none, and the number of chosen turns, 0 on a refusal. No Result: C is handed it.
 #[repr(C)]
 #[derive(Clone, Copy)]
 pub struct CountAnswer {
@@ -46,12 +47,12 @@ fn is_malformed(b: &[u8]) -> bool
     }
 }
 
-// 12 where the bytes are no board, else 0.
+// 12 where the bytes are no board, else 0. No Result: C is handed the number.
 pub fn open(b: &[u8]) -> u8
     ensures { result ≡ open_of b.now }
 {
     if is_malformed(b) {
-        refusal::MALFORMED_BOARD
+        Refusal::MalformedBoard as u8
     } else {
         0
     }
@@ -84,7 +85,7 @@ pub fn count(b: &[u8]) -> CountAnswer
 {
     if is_malformed(b) {
         return CountAnswer {
-            refusal: refusal::MALFORMED_BOARD,
+            refusal: Refusal::MalformedBoard as u8,
             turns: 0,
         };
     }
@@ -101,7 +102,7 @@ pub fn chooses(b: &[u8], t: usize) -> bool
     if is_malformed(b) {
         return false;
     }
-    if t < turns(b) as usize {
+    if t < usize::from(turns(b)) {
         return is_chosen(map(b), t);
     }
     false

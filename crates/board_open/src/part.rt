@@ -28,6 +28,6 @@ pub fn steps_at(board: &[u8]) -> Part
     let length = part.len();
     Part {
         start: board.len() - length,
-        length: length,
+        length,
     }
 }

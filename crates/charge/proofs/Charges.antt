@@ -1,18 +1,17 @@
 -- The plans and the entry's answer by their cases, each premise in the form in which the code's calls and tests leave it. Assumes nothing.
-use Prim.Native.Nat.{ℕ, ◌+◌, ◌*◌, ◌<◌, ◌≤◌}
+use Prim.Native.Nat.{ℕ, ◌*◌, ◌<◌, ◌≤◌}
 use mathlib.Core.Path.{◌≡◌, refl, sym, ap, ◌∙◌}
 use mathlib.Core.Bool.{true, false}
-use mathlib.Core.List.{List, [], ◌++◌, append-nil}
+use mathlib.Core.List.{List, [], ◌++◌}
 use native.Mathlib.Omega.{arith}
-use lib.ListN.{length, drop, take, replicate, length-replicate, drop_of_length-le}
+use lib.ListN.{length, drop, take, replicate, length-replicate}
 use lib.Seq.{length-take-le}
 use Rattle.refusal.specs.Number.{buffer_too_small}
 use Rattle.refusal.specs.Cause.{first_of}
 use Rattle.wire.specs.Number.{puts}
-use Rattle.wire.proofs.Puts.{puts_front, puts_length}
-use Rattle.sheet.specs.declared.kind.Kind.{Kind}
+use Rattle.wire.proofs.Puts.{puts_length}
 use Rattle.sheet.specs.declared.answer.ReadAnswer.{ReadAnswer}
-use Rattle.sheet.specs.Kind.{most_turns}
+use Rattle.sheet.specs.Kind.{Kind, most_turns}
 use Rattle.sheet.specs.Read.{counts_in, turn_count, turns_of, causes_for, answer_for}
 use Rattle.sheet.proofs.Readings.{causes_numbered}
 use Rattle.sheet.proofs.Whole.{whole_refusal_for, whole_accepted_for, whole_answer_for, whole_turns_for}
@@ -29,7 +28,6 @@ use Rattle.instance.proofs.Rows.{count_is}
 use Rattle.selection.specs.Bounds.{StepsOf}
 use Rattle.charge_spec.specs.Hall.{hall_gap, Hall, window_count, is_wide, is_small}
 use Rattle.charge_spec.specs.Plan.{choose_among, wide_choice, small_choice, worth_in, hall_choice, hall_worth}
-use Rattle.charge_spec.proofs.Allowing.{chosen_length}
 use Rattle.charge_spec.proofs.Halls.{greater_first, greater_second, plan_length}
 use Rattle.shares.specs.Taking.{hall_by}
 use Rattle.hall_steps.specs.declared.one_kind.OneKind.{OneKind}
@@ -103,14 +101,6 @@ module _ (units : ℕ) (p : Size) (cols : List ℕ) where
   unfolding kind_choice small_choice of_kind kind_draw is_small is_wide steps_by
   small_is = refl
 
-  kind_length : (a : OneKind) → a.size ≡ p → length (map_of (kind_choice a cols)) ≡ map_bytes p.count
-  unfolding kind_choice choose_among
-  kind_length a e = map_length (kind_choice a cols) ∙ ap map_bytes (chosen_length (kind_hall a cols) (of_kind a cols) (window_count (kind_hall a cols)) (steps_by a cols) ∙ count_is a.size cols ∙ ap (λ (q : Size). q.count) e)
-
-  -- bytes put over as many
-  over : (l vs : List ℕ) → length vs ≡ length l → puts l 0 vs ≡ vs
-  over l vs e = puts_front vs l (omega arith) ∙ rw (drop_of_length-le l {i = length vs} (omega arith)) (append-nil vs)
-
   module _ {w s : ℕ} (f : w ≡ worth_in H (kind_choice wide cols)) (g : s ≡ worth_in H (kind_choice small cols)) where
     first_is : s < w → hall_choice H ≡ wide_choice H
     unfolding hall_choice
@@ -128,18 +118,12 @@ module _ (units : ℕ) (p : Size) (cols : List ℕ) where
     unfolding hall_worth
     small_worth h = rw (second_is h) (g ∙ ap (worth_in H) small_is)
 
-    module _ (map : List ℕ) {own map' : List ℕ} (l : length map ≡ map_bytes p.count) (q : map' ≡ puts map 0 own) where
-      pub wide_map : s < w → own ≡ map_of (kind_choice wide cols) → map' ≡ map_of (hall_choice H)
-      wide_map h o = q ∙ rw (first_is h, ← wide_is, o) (over map (map_of (kind_choice wide cols)) (kind_length wide refl ∙ sym l))
+    module _ {own map : List ℕ} (q : map ≡ own) where
+      pub wide_map : s < w → own ≡ map_of (kind_choice wide cols) → map ≡ map_of (hall_choice H)
+      wide_map h o = rw (first_is h, ← wide_is) (q ∙ o)
 
-      pub small_map : w ≤ s → own ≡ map_of (kind_choice small cols) → map' ≡ map_of (hall_choice H)
-      small_map h o = q ∙ rw (second_is h, ← small_is, o) (over map (map_of (kind_choice small cols)) (kind_length small refl ∙ sym l))
-
-  pub wide_room : (map own : List ℕ) → own ≡ map_of (kind_choice wide cols) → length map ≡ map_bytes p.count → 0 + length own ≤ length map
-  wide_room map own o l = omega (arith, ap length o, kind_length wide refl)
-
-  pub small_room : (map own : List ℕ) → own ≡ map_of (kind_choice small cols) → length map ≡ map_bytes p.count → 0 + length own ≤ length map
-  small_room map own o l = omega (arith, ap length o, kind_length small refl)
+      pub small_map : w ≤ s → own ≡ map_of (kind_choice small cols) → map ≡ map_of (hall_choice H)
+      small_map h o = rw (second_is h, ← small_is) (q ∙ o)
 
 pub ruleset greater_cases = (size_of, wide_worth, small_worth, wide_map, small_map)
 

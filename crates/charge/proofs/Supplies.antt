@@ -8,12 +8,11 @@ use native.Mathlib.Omega.{arith}
 use native.Mathlib.Decide.{dec_lt, ℕ_discrete}
 use native.Mathlib.Numerals.{add-one}
 use lib.Dec.{leb, eqb}
-use lib.ListN.{length, get_or, set, replicate, length-set, length-replicate}
-use lib.Seq.{get_or-set_same, get_or-set_other}
+use lib.ListN.{length, get_or, set, take, drop, replicate, length-drop, length-replicate}
+use lib.Seq.{get_or-set_same, get_or-set_other, get_or-take, get_or-drop, length-take-le}
 use mir.Syntax.{w8}
 use mir.Val.{Fits}
 use borrow.Author.Tests.{le-leb, lt-leb, leb-true, not-true, not-false}
-use Rattle.lists.proofs.Places.{put_more}
 use Rattle.lists.specs.Lists.{every}
 use Rattle.lists.proofs.Bools.{and_2, fails, every_of, every_at, every_not, every_fails, every_same}
 use Rattle.turn.specs.Turn.{shift_minutes}
@@ -43,19 +42,30 @@ room_is x d u h = go (dec_lt u (x + d))
 
 -- ---- the supply lasts at some minutes
 
-module _ (used : List ℕ) (from room : ℕ) where
+-- number k of n places from one on
+part_at : (used : List ℕ) (from n k : ℕ) → from + n ≤ length used → k < n → get_or (take (from + n - from) (drop from used)) k 0 ≡ get_or used (from + k) 0
+part_at used from n k h l = let m : k < from + n - from = omega arith in rw (get_or-take (from + n - from) (drop from used) k 0 m) (get_or-drop from used k 0)
+
+part_long : (used : List ℕ) (from n : ℕ) → from + n ≤ length used → length (take (from + n - from) (drop from used)) ≡ n
+part_long used from n h = let l : from + n - from ≤ length (drop from used) = omega (arith, length-drop from used) in omega (arith, length-take-le (from + n - from) (drop from used) l)
+
+and_swap : (a b : Bool) → (a && b) ≡ (b && a)
+and_swap true true = refl
+and_swap true false = refl
+and_swap false true = refl
+and_swap false false = refl
+
+module _ (used : List ℕ) (from room n : ℕ) where
   pub for_start : true ≡ lasts_for used from room 0
   unfolding lasts_for every
   for_start = refl
 
-  pub for_more : (k : ℕ) {all : Bool} → all ≡ lasts_for used from room k → (leb (get_or used (from + k) 0) room && all) ≡ lasts_for used from room (k + 1)
-  unfolding lasts_for every
-  for_more k e = rw (add-one k, ← e)
-
-  pub for_done : (k n : ℕ) {all : Bool} → n ≤ k → k ≤ n → all ≡ lasts_for used from room k → all ≡ lasts_for used from room n
-  for_done k n h l e = let q : k ≡ n = omega arith in rw q at e
-
-pub ruleset for_cases = (for_start, for_more, for_done)
+  module _ (h : from + n ≤ length used) (k : ℕ) {all : Bool} (e : all ≡ lasts_for used from room k) where
+    pub for_more : k < length (take (from + n - from) (drop from used)) → (all && leb (get_or (take (from + n - from) (drop from used)) k 0) room) ≡ lasts_for used from room (k + 1)
+    unfolding lasts_for every
+    for_more l =
+        let m : k < n = omega (arith, part_long used from n h) in
+        rw (part_at used from n k h m, add-one k, ← e) (and_swap all (leb (get_or used (from + k) 0) room))
 
 -- ---- part by part
 
@@ -139,52 +149,10 @@ pub ruleset lasts_cases = (room_in_8, lasts_is, free_row_lem, allowed_not, allow
 
 -- ---- a row draws
 
-module _ (start draw : ℕ) (used : List ℕ) where
-  pub draw_start : Drawn start draw start used used
-  draw_start = record { places = refl; drawing = λ m h l. absurd (omega arith); earlier = λ m h. refl; later = λ m h. refl }
-
-  module _ (m : ℕ) {now' : List ℕ} (d : Drawn start draw m used now') where
-    pub draw_next : start ≤ m → m < length used → Drawn start draw (m + 1) used (set now' m (get_or now' m 0 + draw))
-    draw_next l h =
-        let x = get_or now' m 0 + draw in
-        record {
-          places = length-set now' m x ∙ d.places;
-          drawing = λ k a b.
-              put_more (λ i y. start ≤ i → y ≡ get_or used i 0 + draw) now' m x (omega (arith, d.places)) (λ i c e. d.drawing i e c)
-              (λ e. ap (λ (y : ℕ). y + draw) (d.later m (omega arith))) k b a;
-          earlier = λ k a. get_or-set_other now' m k x 0 (omega arith) ∙ d.earlier k a;
-          later = λ k a. get_or-set_other now' m k x 0 (omega arith) ∙ d.later k (omega arith);
-        }
-
-    pub draw_more : (end : ℕ) → start ≤ m → m < end → end ≤ shift_minutes → length used ≡ used_places → Drawn start draw (m + 1) used (set now' m (get_or now' m 0 + draw))
-    draw_more end l g h w = draw_next l (omega arith)
-
-    pub draw_done : (end : ℕ) → end ≤ m → m ≤ end → Drawn start draw end used now'
-    draw_done end h l = let q : m ≡ end = omega arith in rw q at d
-
 module _ (r : Row) (used : List ℕ) where
-  pub draw_in_8 : (units : ℕ) → RowInHall units r → Fits w8 r.groomer
-  draw_in_8 units h = omega (arith, h.draw, h.units_to)
-
   pub draw_fits : (units m : ℕ) {now' : List ℕ} → RowInHall units r → RoomFor units used r → Drawn r.start r.groomer m used now' → r.start ≤ m → m < r.end → Fits w8 (get_or now' m 0 + r.groomer)
   unfolding RoomFor
   draw_fits units m h room d l k = omega (arith, d.later m (omega arith), room m l k, h.units_to)
-
-  pub window_in : (units : ℕ) {now' : List ℕ} → RowInHall units r → length used ≡ used_places → Drawn r.start r.groomer r.end used now' → WithWindow r used (set now' (shift_minutes + r.slope) 1)
-  window_in units {now'} h w d =
-      record {
-        places = length-set now' (shift_minutes + r.slope) 1 ∙ d.places;
-        drawing = λ m a b. other m (omega (arith, h.ends)) ∙ d.drawing m a b;
-        earlier = λ m a. other m (omega (arith, h.ends, h.starts)) ∙ d.earlier m a;
-        later = λ m a b. other m (omega arith) ∙ d.later m a;
-        there = get_or-set_same now' (shift_minutes + r.slope) 1 0 (omega (arith, d.places, h.vehicle));
-        others = λ v q. other (shift_minutes + v) (λ e. q (omega arith)) ∙ d.later (shift_minutes + v) (omega (arith, h.ends));
-      }
-    where
-      other : (k : ℕ) → (k ≡ shift_minutes + r.slope → ⊥) → get_or (set now' (shift_minutes + r.slope) 1) k 0 ≡ get_or now' k 0
-      other k q = get_or-set_other now' (shift_minutes + r.slope) k 1 0 q
-
-pub ruleset draw_cases = (draw_start, draw_in_8, draw_fits, draw_more, draw_done, window_in)
 
 -- ---- the places say what is used
 

@@ -18,7 +18,6 @@ ghost use Rattle.charge.specs.Supply.{free_in, Supplied};
 use super::supply::{USED, is_allowed, is_free, use_row};
 use hall_steps::OneKind;
 use instance::{MOST_TURNS, PLACES, row_at};
-use numbers::{as_place, lesser_usize, one_if_usize};
 use selection::{ASKED, put_asked};
 
 // Chooses window j if the set stays allowed.
@@ -77,11 +76,8 @@ fn choose_beside(
     ensures clean { Clean a.size.count map.new }
     ensures supplied_2 { Supplied (kind_hall a cols.now) (choice_in a.size.count map.new) used.new }
 {
-    let mut left = list.len();
-    while 0 < left {
-        left -= 1;
-        let j = list[left] as usize;
-        add_if_meant(a, any, cols, &mut *map, &mut *used, j);
+    for i in (0..list.len()).rev() {
+        add_if_meant(a, any, cols, &mut *map, &mut *used, usize::from(list[i]));
     }
 }
 
@@ -96,17 +92,14 @@ fn put_free(
     free: &mut [u16; MOST_TURNS],
 ) -> usize
     requires hall_held { HallHeld a.units a.size cols.now × NumbersOf a.size.count list.now }
-    requires list_len_bound { (length list.now ≤ most_turns) × (length free.old ≡ most_turns) }
+    requires list_len_bound { length list.now ≤ most_turns }
     ensures free_after { take result free.new ≡ keep (free_in cols.now used.now) list.now }
-    ensures upper_bound { (result ≤ length list.now) × (length free.new ≡ most_turns) }
+    ensures upper_bound { result ≤ length list.now }
 {
     let mut count = 0;
-    let mut i = 0;
-    while i < list.len() {
-        let t = list[i];
+    for &t in list {
         free[count] = t;
-        count += one_if_usize(is_free(a.units, used, row_at(cols, as_place(t))));
-        i += 1;
+        count += usize::from(is_free(a.units, used, row_at(cols, usize::from(t))));
     }
     count
 }
@@ -144,7 +137,7 @@ fn choose_each(a: OneKind, any: bool, cols: &[u16; PLACES], list: &[u16], map: &
     ensures clean { Clean a.size.count map.new }
 {
     let mut used = [0u8; USED];
-    let later = lesser_usize(list.len(), a.size.count);
+    let later = list.len().min(a.size.count);
     choose_beside(a, any, cols, &list[later..], &mut *map, &mut used);
     choose_free(a, any, cols, &list[..later], &mut *map, &mut used);
 }

@@ -3,6 +3,7 @@
 
 #![tactic(auto)]
 
+ghost use Rattle.sheet.specs.Kind.{kind_in_numbers};
 ghost use Rattle.std.specs.Prelude.{◌≡◌, false, length, replicate};
 ghost use Rattle.choice_map.specs.Choice.{choice_in, map_bytes, map_of, Clean};
 ghost use Rattle.charge_spec.specs.Plan.{hall_choice, hall_worth, worth_in};
@@ -21,6 +22,7 @@ pub use choosing::choose_listed;
 use choosing::choose_windows;
 use hall_steps::OneKind;
 use instance::{MAP_BYTES, MOST_TURNS, PLACES, Size};
+use refusal::Refusal;
 pub use shares::HALL_GAP;
 use sheet::{Kind, Maps, Most};
 use supply::MOST_VEHICLES;
@@ -35,7 +37,7 @@ const STEPS_BYTES: usize = board::STEP_SIZE * MOST_TURNS;
 // A charging sheet: its first count is the hall's units, its second the vehicles, and a window's second field
 // is its draw. No map has a driver.
 pub fn charging_sheet() -> Kind
-    ensures { result ≡ charging_sheet }
+    ensures { kind_in_numbers result ≡ charging_sheet }
 {
     Kind {
         mark: wire::GRE,
@@ -49,10 +51,10 @@ pub fn charging_sheet() -> Kind
             full: sheet::FIRST_MAP,
         },
         refusals: Refusals {
-            counts: refusal::BAD_COUNTS,
-            turns: refusal::TOO_MANY_TURNS,
-            slope: refusal::BAD_SLOPE,
-            groomer: refusal::BAD_DRAW,
+            counts: Refusal::BadCounts,
+            turns: Refusal::TooManyTurns,
+            slope: Refusal::BadSlope,
+            groomer: Refusal::BadDraw,
         },
     }
 }
@@ -82,30 +84,24 @@ pub fn write_plan(units: u16, p: Size, cols: &[u16; PLACES], map: &mut [u8]) -> 
     let mut second = [0u8; MAP_BYTES];
     let wide_map = &mut first[..size];
     let small_map = &mut second[..size];
-    let wide = plan_kind(
-        OneKind {
-            units: units,
-            size: p,
-            wide: true,
-        },
-        cols,
-        &mut *wide_map,
-    );
-    let small = plan_kind(
-        OneKind {
-            units: units,
-            size: p,
-            wide: false,
-        },
-        cols,
-        &mut *small_map,
-    );
+    let wide_kind = OneKind {
+        units,
+        size: p,
+        wide: true,
+    };
+    let small_kind = OneKind {
+        wide: false,
+        ..wide_kind
+    };
+    let wide = plan_kind(wide_kind, cols, &mut *wide_map);
+    let small = plan_kind(small_kind, cols, &mut *small_map);
     if small < wide {
-        wire::put_bytes(&mut *map, 0, &*wide_map);
-        return wide;
+        map.copy_from_slice(&*wide_map);
+        wide
+    } else {
+        map.copy_from_slice(&*small_map);
+        small
     }
-    wire::put_bytes(&mut *map, 0, &*small_map);
-    small
 }
 
 fn refused(k: u8) -> ChargeAnswer
@@ -124,13 +120,10 @@ fn answer(units: u16, p: Size, cols: &[u16; PLACES], map: &mut [u8]) -> ChargeAn
 {
     let size = choice_map::map_bytes(p.count as u16);
     if map.len() < size {
-        return refused(refusal::BUFFER_TOO_SMALL);
+        return refused(Refusal::BufferTooSmall as u8);
     }
     let worth = write_plan(units, p, cols, &mut map[..size]);
-    ChargeAnswer {
-        refusal: 0,
-        worth: worth,
-    }
+    ChargeAnswer { refusal: 0, worth }
 }
 
 // Plans any bytes as a charging sheet: the worth of the hall's plan, and its choice map into any lent bytes.
@@ -140,9 +133,8 @@ pub fn charge(s: &[u8], map: &mut [u8]) -> ChargeAnswer
     let mut cols = [0u16; PLACES];
     let mut room = [0u16; PLACES];
     let r = instance::load_as(charging_sheet(), s, &mut cols, &mut room);
-    let fault = r.refusal;
-    if fault != 0 {
-        return refused(fault);
+    if r.refusal != 0 {
+        return refused(r.refusal);
     }
     let p = Size {
         count: r.turns as usize,

@@ -1,8 +1,8 @@
 // What the chosen windows use: the units drawn at each minute of the shift, and after them a place for each
 // vehicle, not 0 where it is among them.
-ghost use Rattle.std.specs.Prelude.{◌≡◌, ◌+◌, ◌-◌, ◌≤◌, length};
+ghost use Rattle.std.specs.Prelude.{◌≡◌, ◌+◌, ◌-◌, ◌≤◌};
 ghost use Rattle.turn.specs.Turn.{shift_minutes};
-ghost use Rattle.charge.specs.Supply.{used_places, part_minutes, free_row, lasts_for, lasts_row, allowed_row, RowInHall, RoomFor, Drawn, WithWindow};
+ghost use Rattle.charge.specs.Supply.{part_minutes, free_row, lasts_for, lasts_row, allowed_row, RowInHall, RoomFor, Drawn, WithWindow};
 
 use instance::Row;
 
@@ -22,11 +22,8 @@ fn lasts_from(used: &[u8; USED], room: u8, from: usize, n: usize) -> bool
     ensures { result ≡ lasts_for used.now from room n }
 {
     let mut all = true;
-    let mut k = 0;
-    while k < n {
-        let one = used[from + k] <= room;
-        all = one & all;
-        k += 1;
+    for &drawn in &used[from..from + n] {
+        all &= drawn <= room;
     }
     all
 }
@@ -39,6 +36,7 @@ fn lasts_long(used: &[u8; USED], room: u8, start: usize, end: usize) -> bool
 {
     let last = end - PART;
     let mut m = start;
+    // A `while`, since it steps by PART: step_by is no plainer, it wants a measure and facts of its iterator.
     while m < last {
         if !lasts_from(used, room, m, PART) {
             return false;
@@ -54,12 +52,13 @@ fn lasts(units: u16, used: &[u8; USED], r: Row) -> bool
     ensures { result ≡ lasts_row units used.now r }
 {
     let room = (units - r.groomer) as u8;
-    let start = r.start as usize;
-    let end = r.end as usize;
+    let start = usize::from(r.start);
+    let end = usize::from(r.end);
     if end - start < PART {
-        return lasts_from(used, room, start, end - start);
+        lasts_from(used, room, start, end - start)
+    } else {
+        lasts_long(used, room, start, end)
     }
-    lasts_long(used, room, start, end)
 }
 
 // Whether a window's vehicle is not among those of the chosen ones.
@@ -67,8 +66,7 @@ pub fn is_free(units: u16, used: &[u8; USED], r: Row) -> bool
     requires { RowInHall units r }
     ensures { result ≡ free_row used.now r }
 {
-    let place = MINUTES + r.slope as usize;
-    used[place] == 0
+    used[MINUTES + usize::from(r.slope)] == 0
 }
 
 // Whether a window can be beside the chosen ones: its vehicle is not among them, and the supply lasts.
@@ -76,34 +74,25 @@ pub fn is_allowed(units: u16, used: &[u8; USED], r: Row) -> bool
     requires { RowInHall units r }
     ensures { result ≡ allowed_row units used.now r }
 {
-    if is_free(units, used, r) {
-        return lasts(units, used, r);
-    }
-    false
+    is_free(units, used, r) && lasts(units, used, r)
 }
 
 // Adds a window's draw at each of its minutes.
 fn draw_row(used: &mut [u8; USED], units: u16, r: Row)
-    requires { RowInHall units r × RoomFor units used.old r × (length used.old ≡ used_places) }
+    requires { RowInHall units r × RoomFor units used.old r }
     ensures { Drawn r.start r.groomer r.end used.old used.new }
 {
     let draw = r.groomer as u8;
-    let start = r.start as usize;
-    let end = r.end as usize;
-    let mut m = start;
-    while m < end {
-        let before = used[m];
-        used[m] = before + draw;
-        m += 1;
+    for m in usize::from(r.start)..usize::from(r.end) {
+        used[m] += draw;
     }
 }
 
 // Puts down that a window is chosen: its draw at its minutes, and its vehicle.
 pub fn use_row(used: &mut [u8; USED], units: u16, r: Row)
-    requires { RowInHall units r × RoomFor units used.old r × (length used.old ≡ used_places) }
+    requires { RowInHall units r × RoomFor units used.old r }
     ensures { WithWindow r used.old used.new }
 {
     draw_row(&mut *used, units, r);
-    let place = MINUTES + r.slope as usize;
-    used[place] = 1;
+    used[MINUTES + usize::from(r.slope)] = 1;
 }

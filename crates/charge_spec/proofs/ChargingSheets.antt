@@ -4,8 +4,7 @@ use mathlib.Core.Path.{◌≡◌}
 use mathlib.Core.List.{List}
 use native.Mathlib.Omega.{arith}
 use Rattle.refusal.specs.Cause.{first_of}
-use Rattle.sheet.specs.declared.kind.Kind.{Kind}
-use Rattle.sheet.specs.Kind.{three, Sound}
+use Rattle.sheet.specs.Kind.{Kind, three, Sound}
 use Rattle.sheet.specs.Read.{counts_in, turn_count, turns_of, causes_for}
 use Rattle.sheet.proofs.Unrefused.{legal_header}
 use Rattle.instance_spec.specs.Problem.{problem_of}

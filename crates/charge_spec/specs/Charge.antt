@@ -3,8 +3,7 @@ use Rattle.std.specs.Prelude.{ℕ, List, [], length}
 use Rattle.refusal.specs.Number.{bad_counts, too_many_turns, bad_slope, bad_draw}
 use Rattle.refusal.specs.Cause.{Cause, FirstAmong}
 use Rattle.wire.specs.Mark.{charging_mark}
-use Rattle.sheet.specs.declared.kind.Kind.{Kind}
-use Rattle.sheet.specs.Kind.{first_map, most_turns}
+use Rattle.sheet.specs.Kind.{Kind, first_map, most_turns}
 use Rattle.sheet.specs.Read.{counts_in, turn_count, turns_of, causes_for}
 use Rattle.refusal.specs.Written.{at_front}
 use Rattle.sheet.specs.Accepted.{AcceptedFor, LentCauseFor}

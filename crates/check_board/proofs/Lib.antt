@@ -1,5 +1,4 @@
 pub mod Judgements
 pub mod Checks
-pub mod Faults
 pub mod Replays
 pub mod Order

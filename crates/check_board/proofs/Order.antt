@@ -1,6 +1,6 @@
 -- The order of steps by its cases, each premise in the form in which the code's calls and tests leave it. Assumes nothing.
 use Prim.Native.Nat.{ℕ, zero, suc, ◌+◌, ◌<◌, ◌≤◌}
-use mathlib.Core.Path.{◌≡◌, sym, ◌∙◌, ap}
+use mathlib.Core.Path.{◌≡◌, refl, sym, ◌∙◌, ap}
 use mathlib.Core.List.{List}
 use mathlib.Core.Bool.{Bool, true, false, not, ◌&&◌, ◌||◌}
 use native.Mathlib.Omega.{arith}
@@ -43,9 +43,15 @@ pub earliest_from : (T : Turns) (s : List ℤ) (j t : ℕ) → ClosedTo t s → 
 unfolding earliest_below
 earliest_from T s j t c = sym (every_of (no_earlier T s j) t (λ u l. closed_not T s j u (c.closed u l)))
 
-pub earliest_more : (T : Turns) (s : List ℤ) (j t : ℕ) {r all : Bool} → r ≡ no_earlier T s j t → all ≡ earliest_below T s j t → (r && all) ≡ earliest_below T s j (t + 1)
+turned : (a b : Bool) → (a && b) ≡ (b && a)
+turned true true = refl
+turned true false = refl
+turned false true = refl
+turned false false = refl
+
+pub earliest_more : (T : Turns) (s : List ℤ) (j t : ℕ) {r all : Bool} → r ≡ no_earlier T s j t → all ≡ earliest_below T s j t → (all && r) ≡ earliest_below T s j (t + 1)
 unfolding earliest_below every
-earliest_more T s j t e f = rw (add-one, e, f)
+earliest_more T s j t {r} {all} e f = turned all r ∙ rw (add-one, e, f)
 
 -- from j on no turn ends earlier
 later_not : (T : Turns) (s : List ℤ) (j k : ℕ) → EndsRise T → j ≤ k → k < T.count → no_earlier T s j k ≡ true
@@ -92,7 +98,4 @@ module _ (p : Size) (cols : List ℕ) (s : List ℤ) (j a : ℕ) where
       unfolding right earliest_below turns_by
       right_earliest k m = rw (lt-ltb j p.count h, ← e, f, ← g, eq-eqb a l k) m
 
-pub open_left_so : {o : Bool} (s : List ℤ) (t : ℕ) → o ≡ is_open s t → o ≡ true → is_open s t ≡ true
-open_left_so s t e f = sym e ∙ f
-
-pub ruleset right_cases = (right_outside, right_closed, right_amount, right_earliest, open_left_so)
+pub ruleset right_cases = (right_outside, right_closed, right_amount, right_earliest)

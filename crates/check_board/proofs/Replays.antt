@@ -2,13 +2,18 @@
 use Prim.Native.Nat.{ℕ, ◌+◌, ◌-◌, ◌<◌, ◌≤◌}
 use mathlib.Core.Path.{◌≡◌, refl, sym, ◌∙◌, ap}
 use mathlib.Core.List.{List, [], ◌∷◌}
-use mathlib.Core.Bool.{Bool, true, false, not, cond}
+use mathlib.Core.Bool.{Bool, true, false, not}
 use native.Mathlib.Omega.{arith}
 use native.Mathlib.Nat.{zero-add}
 use lib.IntN.{ℤ}
 use lib.ListN.{length}
 use Rattle.refusal.specs.Number.{wrong_step, turn_left_open}
+use Rattle.std.specs.Prelude.{Result, Ok, Err, IfOk}
+use Rattle.refusal.specs.declared.Refusal.{Refusal}
+use Rattle.refusal.specs.Failure.{failure}
 use Rattle.refusal.specs.Cause.{◌when◌, first_of}
+use Rattle.refusal.proofs.Order.{clear_cons}
+use borrow.Author.Tests.{not-false}
 use Rattle.turn.specs.Turn.{most_worth}
 use Rattle.model.specs.Turns.{Turns}
 use Rattle.model.specs.Steps.{Step, initial, after_step, after_steps}
@@ -27,26 +32,20 @@ use Rattle.local_ratio.specs.Bounds.{Residuals, ClosedTo}
 use Rattle.local_ratio.specs.Below.{closed_below}
 use Rattle.local_ratio.specs.Counting.{costs_from}
 use Rattle.local_ratio.proofs.Signed.{left_small}
-use Rattle.local_ratio.proofs.Replaying.{steps_from, steps_from_start, steps_from_more, steps_from_none, ceiling_is}
-use Rattle.check_board.specs.declared.replay.Judgement.{Judgement}
+use Rattle.local_ratio.proofs.Replaying.{steps_from, steps_from_start, steps_from_more, steps_from_none}
 use Rattle.check_spec.specs.Check.{after_right, step_causes}
 use Rattle.check_spec.proofs.Passing.{after_right_lem}
-use Rattle.check_board.specs.Judged.{fault_at, judged}
 use Rattle.check_board.specs.Moves.{moves_in}
-use Rattle.check_board.proofs.Faults.{fault_judged, none_judged}
 
 -- ---- one step
 
 module _ (p : Size) (cols : List ℕ) (s : List ℤ) (j a : ℕ) {r : Bool} (e : r ≡ right (turns_by p cols) s (record { turn = j; amount = a })) where
-  pub one_false : r ≡ false → false ≡ right (turns_by p cols) s (record { turn = j; amount = a })
-  one_false f = sym f ∙ e
-
   module _ (t : r ≡ true) where
-    pub one_true : true ≡ right (turns_by p cols) s (record { turn = j; amount = a })
-    one_true = sym t ∙ e
+    one_true : right (turns_by p cols) s (record { turn = j; amount = a }) ≡ true
+    one_true = sym e ∙ t
 
     is_right : Right (turns_by p cols) s (record { turn = j; amount = a })
-    is_right = (right_is (turns_by p cols) s (record { turn = j; amount = a })).0 (sym e ∙ t)
+    is_right = (right_is (turns_by p cols) s (record { turn = j; amount = a })).0 one_true
 
     pub one_inside : j < p.count
     one_inside = omega (arith, is_right.inside, count_is p cols)
@@ -54,10 +53,7 @@ module _ (p : Size) (cols : List ℕ) (s : List ℤ) (j a : ℕ) {r : Bool} (e :
     pub one_amount : Residuals p.count s → a ≤ most_worth
     one_amount own = omega (arith, is_right.owed, left_small s j own.small)
 
-pub ruleset one_cases = (one_false, one_true, one_inside, one_amount)
-
-pub place_of_turn : (places : List ℕ) {t u r : ℕ} → t ≡ u → r ≡ place_at places t → r ≡ place_at places u
-place_of_turn places e q = q ∙ ap (place_at places) e
+pub ruleset one_cases = (one_inside, one_amount)
 
 -- ---- the steps from i on, by place
 
@@ -88,32 +84,29 @@ module _ (T : Turns) (s : List ℤ) (places bytes : List ℕ) (m i : ℕ) where
     abbrev x : Step
     x = record { turn = j; amount = a }
 
-    applied : {r : Bool} {s' : List ℤ} → r ≡ true → s' ≡ cond r (after_step T s x) s → s' ≡ after_step T s x
-    applied t p = rw t at p
-
-    pub replay_more_right : {r z : Bool} {s' : List ℤ} → r ≡ right T s x → r ≡ true → s' ≡ cond r (after_step T s x) s → i < m
+    pub replay_more_right : {z : Bool} {s' : List ℤ} → right T s x ≡ true → s' ≡ after_step T s x → i < m
         → all_right T s (moves_from places (m - i) i bytes) ≡ z → all_right T s' (moves_from places (m - (i + 1)) (i + 1) bytes) ≡ z
     unfolding all_right
-    replay_more_right e t p h q = rw (applied t p) (rw (moves_more places m i bytes u v h, ← e, t) at q)
+    replay_more_right t p h q = rw p (rw (moves_more places m i bytes u v h, t) at q)
 
-    pub replay_more_after : {r : Bool} {z s' : List ℤ} → r ≡ true → s' ≡ cond r (after_step T s x) s → i < m
+    pub replay_more_after : {z s' : List ℤ} → s' ≡ after_step T s x → i < m
         → after_steps T s (moves_from places (m - i) i bytes) ≡ z → after_steps T s' (moves_from places (m - (i + 1)) (i + 1) bytes) ≡ z
     unfolding after_steps
-    replay_more_after t p h q = rw (applied t p) (rw (moves_more places m i bytes u v h) at q)
+    replay_more_after p h q = rw p (rw (moves_more places m i bytes u v h) at q)
 
-    pub replay_more_costs : (sum : ℕ) {r : Bool} {c z : ℕ} {s' : List ℤ} → r ≡ true → s' ≡ cond r (after_step T s x) s → c ≡ cond r (step_cost T s x) 0 → i < m
+    pub replay_more_costs : (sum : ℕ) {c z : ℕ} {s' : List ℤ} → s' ≡ after_step T s x → c ≡ step_cost T s x → i < m
         → sum + costs_from T s (moves_from places (m - i) i bytes) ≡ z → sum + c + costs_from T s' (moves_from places (m - (i + 1)) (i + 1) bytes) ≡ z
     unfolding costs_from
-    replay_more_costs sum t p e h q = rw (applied t p, rw t at e) (omega (arith, rw (moves_more places m i bytes u v h) at q))
+    replay_more_costs sum p e h q = rw (p, e) (omega (arith, rw (moves_more places m i bytes u v h) at q))
 
-    pub replay_stop : {r z : Bool} → r ≡ right T s x → r ≡ false → i < m → all_right T s (moves_from places (m - i) i bytes) ≡ z → false ≡ z
+    pub replay_stop : {z : Bool} → right T s x ≡ false → i < m → all_right T s (moves_from places (m - i) i bytes) ≡ z → z ≡ false
     unfolding all_right
-    replay_stop e f h q = rw (moves_more places m i bytes u v h, ← e, f) at q
+    replay_stop f h q = sym (rw (moves_more places m i bytes u v h, f) at q)
 
   module _ (h : m ≤ i) where
-    pub replay_done_right : {z : Bool} → all_right T s (moves_from places (m - i) i bytes) ≡ z → true ≡ z
+    pub replay_done_right : {z : Bool} → all_right T s (moves_from places (m - i) i bytes) ≡ z → z ≡ true
     unfolding all_right
-    replay_done_right q = rw (moves_none places m i bytes h) at q
+    replay_done_right q = sym (rw (moves_none places m i bytes h) at q)
 
     pub replay_done_after : {z : List ℤ} → after_steps T s (moves_from places (m - i) i bytes) ≡ z → s ≡ z
     unfolding after_steps
@@ -144,36 +137,27 @@ none_is : (p : Size) (cols : List ℕ) (s : List ℤ) → none_open (turns_by p 
 unfolding none_open closed_below turns_by
 none_is p cols s = refl
 
-module _ (p : Size) (cols : List ℕ) (xs : List Step) {s : List ℤ} {r : Bool} (i : s ≡ initial (turns_by p cols)) (e : r ≡ all_right (turns_by p cols) s xs) where
-  shown : all_right (turns_by p cols) (initial (turns_by p cols)) xs ≡ r
-  shown = sym (rw i at e)
-
-  wrong_first : r ≡ false → wrong_step ≡ first_of (step_causes (turns_by p cols) xs)
+module _ (p : Size) (cols : List ℕ) (xs : List Step) {s : List ℤ} (i : s ≡ initial (turns_by p cols)) where
+  pub fault_step : all_right (turns_by p cols) s xs ≡ false → wrong_step ≡ first_of (step_causes (turns_by p cols) xs)
   unfolding step_causes first_of
-  wrong_first f = rw (shown, f)
+  fault_step f = rw (rw i at f)
 
-  pub fault_step : {a : Judgement} → r ≡ false → a ≡ fault_at wrong_step → a ≡ judged (first_of (step_causes (turns_by p cols) xs)) (ceiling (turns_by p cols) xs)
-  fault_step f g = fault_judged (ceiling (turns_by p cols) xs) (wrong_first f) (λ z. omega arith) g
+  module _ {s' : List ℤ} {o : Bool} (t : all_right (turns_by p cols) s xs ≡ true) (a : s' ≡ after_steps (turns_by p cols) s xs) (l : length s' ≡ p.count) (g : o ≡ closed_below s' (length s')) where
+    shown : all_right (turns_by p cols) (initial (turns_by p cols)) xs ≡ true
+    shown = rw i at t
 
-  module _ {s' : List ℤ} {o : Bool} (t : r ≡ true) (a : r ≡ true → s' ≡ after_steps (turns_by p cols) s xs) (l : length s' ≡ p.count) (g : o ≡ closed_below s' (length s')) where
     closed : none_open (turns_by p cols) (after_right (turns_by p cols) (initial (turns_by p cols)) xs) ≡ o
-    closed = rw (after_right_lem (turns_by p cols) (initial (turns_by p cols)) xs (shown ∙ t), ← i, ← a t) (none_is p cols s' ∙ sym (rw l at g))
+    closed = rw (after_right_lem (turns_by p cols) (initial (turns_by p cols)) xs shown, ← i, ← a) (none_is p cols s' ∙ sym (rw l at g))
 
-    open_first : o ≡ false → turn_left_open ≡ first_of (step_causes (turns_by p cols) xs)
+    pub fault_open : o ≡ false → turn_left_open ≡ first_of (step_causes (turns_by p cols) xs)
     unfolding step_causes first_of
-    open_first f = rw (shown, t, closed, f)
+    fault_open f = rw (shown, closed, f)
 
-    none_first : o ≡ true → first_of (step_causes (turns_by p cols) xs) ≡ 0
+    pub fault_none : o ≡ true → 0 ≡ first_of (step_causes (turns_by p cols) xs)
     unfolding step_causes first_of
-    none_first f = rw (shown, t, closed, f)
+    fault_none f = rw (shown, closed, f)
 
-    pub fault_open : {a : Judgement} → o ≡ false → a ≡ fault_at turn_left_open → a ≡ judged (first_of (step_causes (turns_by p cols) xs)) (ceiling (turns_by p cols) xs)
-    fault_open f h = fault_judged (ceiling (turns_by p cols) xs) (open_first f) (λ z. omega arith) h
-
-    pub fault_no_step : {cost : ℕ} → o ≡ true → (r ≡ true → cost ≡ costs_from (turns_by p cols) s xs) → ◌≡◌ {A = Judgement} (record { fault = 0; ceiling = cost }) (judged (first_of (step_causes (turns_by p cols) xs)) (ceiling (turns_by p cols) xs))
-    fault_no_step f h = none_judged (none_first f) (ceiling_is (turns_by p cols) xs i (h t))
-
-pub ruleset fault_cases = (fault_step, fault_open, fault_no_step)
+pub ruleset fault_cases = (fault_step, fault_open, fault_none)
 
 -- ---- by number
 
@@ -203,15 +187,23 @@ module _ {p : Size} {cols order own places : List ℕ} (h : PutByEnd p cols orde
   unfolding moves_in ceiling
   ceiling_same e = costs_same (list_places h o) (put_relabelled h) xs (first_alike (list_places h o) (put_worths h)) e
 
-  by_number : judged (first_of (step_causes U (moves_in places m bytes))) (ceiling U (moves_in places m bytes)) ≡ judged (first_of (step_causes T xs)) (ceiling T xs)
-  unfolding judged step_causes first_of
+  by_number : first_of (step_causes U (moves_in places m bytes)) ≡ first_of (step_causes T xs)
+  unfolding step_causes first_of
   by_number = rw right_same (go (all_right T (initial T) xs) refl)
     where
       go : (b : Bool) → all_right T (initial T) xs ≡ b
-          → judged (first_of (wrong_step when not b ∷ turn_left_open when not (none_open U (after_right U (initial U) (moves_in places m bytes))) ∷ [])) (ceiling U (moves_in places m bytes))
-          ≡ judged (first_of (wrong_step when not b ∷ turn_left_open when not (none_open T (after_right T (initial T) xs)) ∷ [])) (ceiling T xs)
-      go true e = rw (closed_same e, ceiling_same e)
+          → first_of (wrong_step when not b ∷ turn_left_open when not (none_open U (after_right U (initial U) (moves_in places m bytes))) ∷ [])
+          ≡ first_of (wrong_step when not b ∷ turn_left_open when not (none_open T (after_right T (initial T) xs)) ∷ [])
+      go true e = rw (closed_same e)
       go false e = refl
 
-  pub judged_by_number : {a : Judgement} → a ≡ judged (first_of (step_causes U (moves_in places m bytes))) (ceiling U (moves_in places m bytes)) → a ≡ judged (first_of (step_causes T xs)) (ceiling T xs)
-  judged_by_number e = e ∙ by_number
+  none_right : 0 ≡ first_of (step_causes T xs) → all_right T (initial T) xs ≡ true
+  unfolding step_causes
+  none_right e = not-false (all_right T (initial T) xs) (clear_cons (wrong_step when not (all_right T (initial T) xs)) _ (λ z. omega arith) (sym e)).0
+
+  pub first_by_number : {f : ℕ} → f ≡ first_of (step_causes U (moves_in places m bytes)) → f ≡ first_of (step_causes T xs)
+  first_by_number e = e ∙ by_number
+
+  pub counted_by_number : (r : Result ℕ Refusal) → failure r ≡ first_of (step_causes U (moves_in places m bytes)) → IfOk r (λ c. c ≡ ceiling U (moves_in places m bytes)) → IfOk r (λ c. c ≡ ceiling T xs)
+  counted_by_number (Ok c) e h = h ∙ ceiling_same (none_right (e ∙ by_number))
+  counted_by_number (Err k) e h = record {}

@@ -30,11 +30,8 @@ fn is_earliest(residuals: &[i32], p: Size, cols: &[u16; PLACES], j: usize, from:
     ensures { result ≡ earliest_below (turns_by p cols.now) residuals.now j p.count }
 {
     let mut all = true;
-    let mut t = from;
-    while t < j {
-        let one = is_no_earlier(residuals, p, cols, j, t);
-        all = one & all;
-        t += 1;
+    for t in from..j {
+        all &= is_no_earlier(residuals, p, cols, j, t);
     }
     all
 }
@@ -51,13 +48,8 @@ pub fn is_right(
     requires { Residuals p.count residuals.now × Held p cols.now × ClosedTo from residuals.now × EndsRise (turns_by p cols.now) }
     ensures { result ≡ right (turns_by p cols.now) residuals.now (record { turn = j; amount = amount }) }
 {
-    if p.count <= j {
-        return false;
-    }
-    if is_open(residuals, j) {
-        if amount == left_of(residuals, j) {
-            return is_earliest(residuals, p, cols, j, from);
-        }
-    }
-    false
+    j < p.count
+        && is_open(residuals, j)
+        && amount == left_of(residuals, j)
+        && is_earliest(residuals, p, cols, j, from)
 }

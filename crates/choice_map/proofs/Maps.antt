@@ -33,8 +33,6 @@ module _ (map : List ℕ) (i sum : ℕ) where
   unfolding ones_in
   ones_done h l k = let z : i ≡ length map = omega arith in let d : drop i map ≡ [] = rw z (drop-length map) in let e : ones_in (drop i map) ≡ 0 = ap ones_in d in omega arith
 
-pub ruleset ones_cases = (ones_more, ones_done)
-
 -- ---- the bits past the last turn
 
 module _ (map : List ℕ) (n t : ℕ) where

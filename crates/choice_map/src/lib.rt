@@ -3,13 +3,13 @@
 #![tactic(auto)]
 
 ghost use Rattle.std.specs.Prelude.{◌≡◌, ◌+◌, ◌-◌, ◌*◌, ◌≤◌, ◌<◌, length};
-ghost use Rattle.choice_map.specs.Choice.{bit_of, with_bit, map_bytes, chosen_in, with_turn, ones_of, ones_in, clear_past, low_among, next_chosen};
+ghost use Rattle.choice_map.specs.Choice.{bit_of, with_bit, map_bytes, chosen_in, with_turn, ones_in, clear_past, low_among, next_chosen};
 
 // The bytes of a map that has a bit for each of n turns.
 pub fn map_bytes(n: u16) -> usize
     ensures { result ≡ map_bytes n }
 {
-    (n as usize + 7) / 8
+    (usize::from(n) + 7) / 8
 }
 
 fn bit(x: u8, k: u32) -> bool
@@ -24,12 +24,6 @@ fn with_bit(x: u8, k: u32) -> u8
     ensures { result ≡ with_bit x k }
 {
     x | 1 << k
-}
-
-fn ones(x: u8) -> u32
-    ensures { (result ≡ ones_of x) × (result ≤ 8) }
-{
-    u8::count_ones(x)
 }
 
 // Whether turn t is chosen.
@@ -55,11 +49,9 @@ pub fn count_chosen(map: &[u8]) -> u32
     requires { length map.now ≤ 65536 }
     ensures { result ≡ ones_in map.now }
 {
-    let mut sum: u32 = 0;
-    let mut i = 0;
-    while i < map.len() {
-        sum += ones(map[i]);
-        i += 1;
+    let mut sum = 0;
+    for &byte in map {
+        sum += byte.count_ones();
     }
     sum
 }
@@ -69,14 +61,10 @@ pub fn clear_past(map: &[u8], n: u16) -> bool
     requires { length map.now ≡ map_bytes n }
     ensures { result ≡ clear_past n map.now }
 {
-    let first = n as usize;
-    let end = 8 * map.len();
-    let mut t = first;
-    while t < end {
+    for t in n as usize..8 * map.len() {
         if is_chosen(map, t) {
             return false;
         }
-        t += 1;
     }
     true
 }
@@ -86,16 +74,18 @@ fn low_bit(x: u8, k: u32) -> u32
     requires { k < 8 }
     ensures { (result ≡ low_among (8 - k) x k) × (result ≤ 8) }
 {
-    u8::trailing_zeros((x >> k) << k)
+    ((x >> k) << k).trailing_zeros()
 }
 
-// The first chosen turn from t on; as many turns as the map has bits if there is none.
+// The first chosen turn from t on; as many turns as the map has bits if there is none. No Option: list, round_parts and
+// hall_moves compare the number with their own ends.
 pub fn next_chosen(map: &[u8], t: usize) -> usize
     requires { (t ≤ 8 * length map.now) × (length map.now ≤ 65536) }
     ensures { (result ≡ next_chosen map.now t) × (result ≤ 8 * length map.now) }
 {
     let end = 8 * map.len();
     let mut u = t;
+    // A while: from t it goes to the next byte's first turn, and then by whole bytes.
     while u < end {
         let i = u / 8;
         let low = low_bit(map[i], (u % 8) as u32);

@@ -22,7 +22,6 @@ use best_spec::BestAnswer;
 use charge_spec::ChargeAnswer;
 use check_spec::CheckAnswer;
 use improve_spec::ImproveAnswer;
-use numbers::{lesser_usize, one_if_u16};
 use refusal::WriteAnswer;
 use sheet::ReadAnswer;
 
@@ -48,9 +47,10 @@ fn asked(numbers: &[u8], at: usize) -> u32
     ensures { result ≡ asked_at numbers.now at }
 {
     if numbers.len() < ASKED {
-        return 0;
+        0
+    } else {
+        wire::quad_at(numbers, at)
     }
-    wire::quad_at(numbers, at)
 }
 
 // The number of eight bytes.
@@ -65,11 +65,9 @@ fn unpack(bytes: &[u8], table: &mut [u16]) -> usize
     ensures value { (result ≡ min (length bytes.now / 2) (length table.old)) × (result ≤ length table.old) }
     ensures table_after { take result table.new ≡ numbers_in bytes.now result }
 {
-    let count = lesser_usize(bytes.len() / 2, table.len());
-    let mut i = 0;
-    while i < count {
+    let count = (bytes.len() / 2).min(table.len());
+    for i in 0..count {
         table[i] = wire::word_at(bytes, 2 * i);
-        i += 1;
     }
     count
 }
@@ -78,10 +76,8 @@ fn unpack(bytes: &[u8], table: &mut [u16]) -> usize
 fn choices(board: &[u8], turns: &mut [u16])
     ensures { turns.new ≡ choices_in board.now (length turns.old) }
 {
-    let mut i = 0;
-    while i < turns.len() {
-        turns[i] = one_if_u16(board_open::chooses(board, i));
-        i += 1;
+    for (i, turn) in turns.iter_mut().enumerate() {
+        *turn = u16::from(board_open::chooses(board, i));
     }
 }
 
@@ -193,7 +189,7 @@ pub fn improve(limit: &[u8], sheet: &[u8], map: &mut [u8]) -> Line
     let a: ImproveAnswer = improve::improve(sheet, asked_long(limit), &mut *map);
     Line::Four(
         a.refusal,
-        one_if_u16(a.whole) as u64,
+        u64::from(a.whole),
         a.worth as u64,
         a.above as u64,
         a.visits,

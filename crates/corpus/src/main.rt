@@ -27,6 +27,9 @@ const MOST_INPUT: usize = 8192;
 
 const MOST_LENT: usize = 4096;
 
+// Most cases that are run.
+const MOST_CASES: u32 = 1000000;
+
 // What each lent place holds before the call.
 const NUMBER_BEFORE: u16 = 42405;
 
@@ -35,111 +38,69 @@ const BYTE_BEFORE: u8 = 165;
 // The number of the entry whose line has the steps of a board too.
 const OPEN: u8 = 4;
 
+// A case: the number of its entry, its name, and the two parts of its input.
+#[derive(Clone, Copy)]
+struct Case<'a> {
+    entry: u8,
+    name: &'a [u8],
+    front: &'a [u8],
+    rest: &'a [u8],
+}
+
 // Calls the entry; what its line says.
-fn run_entry(entry: u8, front: &[u8], rest: &[u8], numbers: &mut [u16], bytes: &mut [u8]) -> Line {
-    match entry {
-        1 => entries::read(front, &mut *numbers),
-        2 => entries::write(front, rest, &mut *bytes),
-        3 => entries::plan(front, &mut *bytes),
-        4 => entries::open(front, &mut *numbers),
-        5 => entries::check(front, rest),
-        6 => entries::list(front, &mut *bytes),
-        9 => entries::assign(front, &mut *numbers),
-        10 => entries::short(front, &mut *numbers),
-        11 => entries::best(front, &mut *bytes),
-        12 => entries::improve(front, rest, &mut *bytes),
-        13 => entries::draw(front, &mut *bytes),
-        14 => entries::keep(front, &mut *bytes),
-        15 => entries::restore(front, &mut *bytes),
-        17 => entries::charge(front, &mut *bytes),
+fn run_entry(case: Case, numbers: &mut [u16], bytes: &mut [u8]) -> Line {
+    match case.entry {
+        1 => entries::read(case.front, &mut *numbers),
+        2 => entries::write(case.front, case.rest, &mut *bytes),
+        3 => entries::plan(case.front, &mut *bytes),
+        4 => entries::open(case.front, &mut *numbers),
+        5 => entries::check(case.front, case.rest),
+        6 => entries::list(case.front, &mut *bytes),
+        9 => entries::assign(case.front, &mut *numbers),
+        10 => entries::short(case.front, &mut *numbers),
+        11 => entries::best(case.front, &mut *bytes),
+        12 => entries::improve(case.front, case.rest, &mut *bytes),
+        13 => entries::draw(case.front, &mut *bytes),
+        14 => entries::keep(case.front, &mut *bytes),
+        15 => entries::restore(case.front, &mut *bytes),
+        17 => entries::charge(case.front, &mut *bytes),
         _ => Line::Nothing,
     }
 }
 
-fn text(rt: &impl Print, bytes: &[u8]) -> io::Result<()> {
-    rt.write_all(bytes)
-}
-
-// A value, with a space before it.
-fn value(rt: &impl Print, x: u64) -> io::Result<()> {
-    text(rt, b" ")?;
-    rt.print(x)
-}
-
-// A refusal, and the value that comes with it.
-fn pair(rt: &impl Print, refusal: u8, x: u64) -> io::Result<()> {
-    value(rt, refusal as u64)?;
-    value(rt, x)
-}
-
+// Each value with a space before it.
 fn print(rt: &impl Print, line: Line) -> io::Result<()> {
     match line {
         Line::Nothing => Ok(()),
-        Line::One(refusal, a) => pair(rt, refusal, a),
-        Line::Two(refusal, a, b) => {
-            pair(rt, refusal, a)?;
-            value(rt, b)
-        }
-        Line::Three(refusal, a, b, c) => {
-            pair(rt, refusal, a)?;
-            value(rt, b)?;
-            value(rt, c)
-        }
-        Line::Four(refusal, a, b, c, d) => {
-            pair(rt, refusal, a)?;
-            value(rt, b)?;
-            value(rt, c)?;
-            value(rt, d)
-        }
+        Line::One(refusal, a) => print!(rt; " {refusal} {a}"),
+        Line::Two(refusal, a, b) => print!(rt; " {refusal} {a} {b}"),
+        Line::Three(refusal, a, b, c) => print!(rt; " {refusal} {a} {b} {c}"),
+        Line::Four(refusal, a, b, c, d) => print!(rt; " {refusal} {a} {b} {c} {d}"),
     }
 }
 
-fn number(rt: &impl Print, x: u16) -> io::Result<()> {
-    value(rt, x as u64)
+// What a lent place holds, as it is printed: a number as it is, a byte in hexadecimal.
+trait Place: Copy {
+    fn print(self, rt: &impl Print) -> io::Result<()>;
 }
 
-// A byte in hexadecimal, with a space before it.
-fn byte(rt: &impl Print, x: u8) -> io::Result<()> {
-    print!(rt; " {x:02x}")
-}
-
-// Numbers after a bar.
-fn print_numbers(rt: &impl Print, numbers: &[u16]) -> io::Result<()> {
-    text(rt, b" |")?;
-    let mut i = 0;
-    while i < numbers.len() {
-        number(rt, numbers[i])?;
-        i += 1;
+impl Place for u16 {
+    fn print(self, rt: &impl Print) -> io::Result<()> {
+        print!(rt; " {self}")
     }
-    Ok(())
 }
 
-// Bytes after a bar.
-fn print_bytes(rt: &impl Print, bytes: &[u8]) -> io::Result<()> {
-    text(rt, b" |")?;
-    let mut i = 0;
-    while i < bytes.len() {
-        byte(rt, bytes[i])?;
-        i += 1;
+impl Place for u8 {
+    fn print(self, rt: &impl Print) -> io::Result<()> {
+        print!(rt; " {self:02x}")
     }
-    Ok(())
 }
 
-// What the entry's line says, and the steps of a board where it was opened.
-fn print_call(
-    rt: &impl Print,
-    entry: u8,
-    front: &[u8],
-    rest: &[u8],
-    numbers: &mut [u16],
-    bytes: &mut [u8],
-) -> io::Result<()> {
-    print(
-        rt,
-        run_entry(entry, front, rest, &mut *numbers, &mut *bytes),
-    )?;
-    if entry == OPEN {
-        print_bytes(rt, board_open::steps(front))?;
+// Lent places after a bar.
+fn print_places<T: Place>(rt: &impl Print, places: &[T]) -> io::Result<()> {
+    rt.write_all(b" |")?;
+    for &place in places {
+        place.print(rt)?;
     }
     Ok(())
 }
@@ -151,30 +112,21 @@ fn input_size(head: &[u8; HEAD]) -> usize {
         + wire::word_at(head, 8) as usize
 }
 
-// Prints the line of a case with this name.
+// Prints the line of a case: its name, what the entry's line says, and the steps of a board where it was opened.
 fn print_line(
     rt: &impl Print,
-    entry: u8,
-    name: &[u8],
-    input: &[u8],
-    cut: usize,
+    case: Case,
     numbers: &mut [u16],
     bytes: &mut [u8],
-) -> io::Result<()>
-    requires { cut ≤ length input.now }
-{
-    text(rt, name)?;
-    print_call(
-        rt,
-        entry,
-        &input[..cut],
-        &input[cut..],
-        &mut *numbers,
-        &mut *bytes,
-    )?;
-    print_numbers(rt, &*numbers)?;
-    print_bytes(rt, &*bytes)?;
-    text(rt, b"\n")
+) -> io::Result<()> {
+    rt.write_all(case.name)?;
+    print(rt, run_entry(case, &mut *numbers, &mut *bytes))?;
+    if case.entry == OPEN {
+        print_places(rt, board_open::steps(case.front))?;
+    }
+    print_places(rt, &*numbers)?;
+    print_places(rt, &*bytes)?;
+    rt.write_all(b"\n")
 }
 
 // Runs a case, which is lent so many of the numbers and bytes here; false where it asks for more.
@@ -188,31 +140,23 @@ fn run_case(
     let name = wire::byte_at(head, 1) as usize;
     let places = wire::word_at(head, 2) as usize;
     let lent = wire::word_at(head, 4) as usize;
-    let cut = wire::word_at(head, 6) as usize;
-    let end = name + cut + wire::word_at(head, 8) as usize;
-    if input.len() < end {
+    let cut = name + wire::word_at(head, 6) as usize;
+    let end = cut + wire::word_at(head, 8) as usize;
+    if input.len() < end || numbers.len() < places || bytes.len() < lent {
         return Ok(false);
     }
-    if numbers.len() < places {
-        return Ok(false);
-    }
-    if bytes.len() < lent {
-        return Ok(false);
-    }
-    let entry = head[0];
-    print_line(
-        rt,
-        entry,
-        &input[..name],
-        &input[name..end],
-        cut,
-        &mut numbers[..places],
-        &mut bytes[..lent],
-    )?;
+    let case = Case {
+        entry: head[0],
+        name: &input[..name],
+        front: &input[name..cut],
+        rest: &input[cut..end],
+    };
+    print_line(rt, case, &mut numbers[..places], &mut bytes[..lent])?;
     Ok(true)
 }
 
-// Reads until these are full, the input ends or a read fails; returns how many bytes came to the front.
+// Reads until these are full, the input ends or a read fails; returns how many bytes came to the front. A while, since a
+// read says how many bytes it gave.
 fn read_full(input: &mut impl Read, bytes: &mut [u8]) -> usize
     ensures { result ≤ length bytes.new }
 {
@@ -238,13 +182,11 @@ fn fetch(rt: &impl Input, buffer: &mut [u8], count: usize) -> bool {
 // Fetches and runs the next case; false where standard input ends, or where the case does not fit.
 fn next_case(rt: &(impl Input + Print)) -> io::Result<bool> {
     let mut head = [0u8; HEAD];
-    let whole = fetch(rt, &mut head, HEAD);
-    if !whole {
+    if !fetch(rt, &mut head, HEAD) {
         return Ok(false);
     }
     let mut input = [0u8; MOST_INPUT];
-    let there = fetch(rt, &mut input, input_size(&head));
-    if !there {
+    if !fetch(rt, &mut input, input_size(&head)) {
         return Ok(false);
     }
     let mut numbers = [NUMBER_BEFORE; MOST_LENT];
@@ -252,11 +194,12 @@ fn next_case(rt: &(impl Input + Print)) -> io::Result<bool> {
     run_case(rt, &head, &input, &mut numbers, &mut bytes)
 }
 
-// The loop has to end, and nothing says that the input does: so it counts down.
+// The loop has to end, and nothing says that the input does: so no more than so many cases are run.
 fn main(rt: HostRuntime) -> io::Result<()> {
-    let mut left: u32 = 1000000;
-    while 0 < left && next_case(&rt)? {
-        left -= 1;
+    for _ in 0..MOST_CASES {
+        if !next_case(&rt)? {
+            break;
+        }
     }
     Ok(())
 }

@@ -9,6 +9,7 @@ use lib.ListN.{length, set, take, drop, length-map, length-set, length-take, dro
 use mir.Syntax.{w16, w32}
 use mir.Val.{Fits}
 use borrow.Author.Tests.{lt-ltb, le-ltb, ne_eqb}
+use Rattle.refusal.specs.declared.WriteAnswer.{WriteAnswer}
 use Rattle.refusal.specs.Number.{bad_seed}
 use Rattle.refusal.specs.Cause.{first_of}
 use Rattle.refusal.specs.Written.{Written, write_refused}
@@ -19,8 +20,7 @@ use Rattle.turn.specs.declared.Turn.{Turn}
 use Rattle.turn.specs.declared.Counts.{Counts}
 use Rattle.turn.specs.Turn.{counts_of, outside_range}
 use Rattle.turn.proofs.Rows.{turns_rows}
-use Rattle.sheet.specs.declared.kind.Kind.{Kind}
-use Rattle.sheet.specs.Kind.{shift_sheet, most_turns}
+use Rattle.sheet.specs.Kind.{Kind, shift_sheet, most_turns}
 use Rattle.sheet.specs.Read.{count_causes}
 use Rattle.sheet.specs.Accepted.{Legal}
 use Rattle.sheet.proofs.Headers.{legal_counts}
@@ -126,9 +126,9 @@ pub ruleset seed_cases = (seed_none, seed_large, seed_right)
 -- ---- the entry
 
 module _ (seed groomers slopes turns : ℕ) {f : ℕ} (e : f ≡ first_of (seed_causes seed (counts_of groomers slopes) turns)) where
-  pub draw_refused : (lent : List ℕ) → (f ≡ 0 → ⊥) → beside (write_refused f) lent ≡ draw_of seed (counts_of groomers slopes) turns lent
+  pub draw_refused : (lent : List ℕ) {x : WriteAnswer} → (f ≡ 0 → ⊥) → x ≡ write_refused f → beside x lent ≡ draw_of seed (counts_of groomers slopes) turns lent
   unfolding draw_of draw_causes
-  draw_refused lent z = sym (kept_before (seed_causes seed (counts_of groomers slopes) turns) _ _ lent f (sym e) z)
+  draw_refused lent z x = rw x (sym (kept_before (seed_causes seed (counts_of groomers slopes) turns) _ _ lent f (sym e) z))
 
   module _ (z : f ≡ 0) where
     parts : Drawable seed × Legal shift_sheet (counts_of groomers slopes) turns
@@ -176,4 +176,4 @@ module _ (seed groomers slopes turns : ℕ) {f : ℕ} (e : f ≡ first_of (seed_
     pub draw_fine : (lent : List ℕ) {w : Written} → w ≡ write_of (counts_of groomers slopes) (drawn_table turns (counts_of groomers slopes) seed) lent → w ≡ draw_of seed (counts_of groomers slopes) turns lent
     draw_fine lent h = h ∙ sym (drawn_as_written seed (counts_of groomers slopes) turns lent parts.0)
 
-pub ruleset draw_cases = (draw_refused, draw_fine, seed_fits, counts_fit, turns_few, groomers_from_lem, groomers_byte, slopes_from, slopes_byte)
+pub ruleset draw_cases = (seed_fits, counts_fit, turns_few, groomers_from_lem, groomers_byte, slopes_from, slopes_byte)

@@ -5,6 +5,7 @@
 
 ghost use Rattle.std.specs.Prelude.{◌≡◌, ◌+◌, ◌*◌, ◌%◌, ◌≤◌, ◌<◌, length};
 ghost use Rattle.refusal.specs.Cause.{first_of};
+ghost use Rattle.refusal.specs.Failure.{failure};
 ghost use Rattle.refusal.specs.Outcome.{beside};
 ghost use Rattle.turn.specs.Turn.{counts_of};
 ghost use Rattle.sheet.specs.Kind.{shift_sheet, most_turns};
@@ -14,7 +15,7 @@ ghost use Rattle.write_spec.specs.Key.{keys_of};
 ghost use Rattle.draw_spec.specs.Draw.{draw_modulus, length_places, draw_number, drawn_length, from_one, turn_drawn, turn_draws, turn_after, drawn_turns, drawn_table, Drawable};
 ghost use Rattle.draw_spec.specs.DrawnSheet.{seed_causes, draw_of};
 
-use refusal::WriteAnswer;
+use refusal::{Refusal, WriteAnswer, refused};
 use sheet::MOST_TURNS;
 use turn::{Counts, MOST_WORTH, Turn};
 
@@ -127,12 +128,10 @@ fn fill_keys(seed: u32, counts: Counts, keys: &mut [u64])
     ensures { keys.new ≡ keys_of (drawn_turns (length keys.old) counts seed) }
 {
     let mut x = seed;
-    let mut i = 0;
-    while i < keys.len() {
+    for i in 0..keys.len() {
         let d = turn_after(counts, x);
         keys[i] = write::key_of(d.turn);
         x = d.last;
-        i += 1;
     }
 }
 
@@ -148,35 +147,32 @@ fn write_drawn(seed: u32, counts: Counts, n: u16, keys: &mut [u64], out: &mut [u
     write::write_keys(counts, &mut *some, &mut *out)
 }
 
-// The first thing wrong with the seed or the counts, or 0.
-fn seed_fault(seed: u64, groomers: u32, slopes: u32, turns: u32) -> u8
-    ensures { result ≡ first_of (seed_causes seed (counts_of groomers slopes) turns) }
+// The first thing wrong with the seed or the counts, if any.
+fn seed_fault(seed: u64, groomers: u32, slopes: u32, turns: u32) -> Result<(), Refusal>
+    ensures { failure result ≡ first_of (seed_causes seed (counts_of groomers slopes) turns) }
 {
     if seed == 0 {
-        return refusal::BAD_SEED;
+        return Err(Refusal::BadSeed);
     }
     if DRAW_MODULUS <= seed {
-        return refusal::BAD_SEED;
+        return Err(Refusal::BadSeed);
     }
-    let kind = sheet_read::shift_sheet();
-    sheet_read::count_fault(kind, groomers, slopes, turns as usize)
+    sheet_read::count_fault(sheet_read::shift_sheet(), groomers, slopes, turns as usize)
 }
 
 // Draws turns from any seed with any counts, and writes their sheet into any lent bytes.
 pub fn draw(seed: u64, groomers: u32, slopes: u32, turns: u32, out: &mut [u8]) -> WriteAnswer
     ensures { beside result out.new ≡ draw_of seed (counts_of groomers slopes) turns out.old }
 {
-    let fault = seed_fault(seed, groomers, slopes, turns);
-    if fault != 0 {
-        return WriteAnswer {
-            refusal: fault,
-            bytes: 0,
-        };
+    match seed_fault(seed, groomers, slopes, turns) {
+        Err(fault) => refused(u8::from(fault)),
+        Ok(()) => {
+            let counts = Counts {
+                groomers: groomers as u16,
+                slopes: slopes as u16,
+            };
+            let mut keys = [0u64; MOST_TURNS as usize];
+            write_drawn(seed as u32, counts, turns as u16, &mut keys, &mut *out)
+        }
     }
-    let counts = Counts {
-        groomers: groomers as u16,
-        slopes: slopes as u16,
-    };
-    let mut keys = [0u64; MOST_TURNS as usize];
-    write_drawn(seed as u32, counts, turns as u16, &mut keys, &mut *out)
 }

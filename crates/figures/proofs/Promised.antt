@@ -17,8 +17,7 @@ use Rattle.refusal.proofs.Outcome.{number_refused}
 use Rattle.refusal.specs.Cause.{first_of}
 use Rattle.wire.specs.Number.{Bytes}
 use Rattle.turn.specs.declared.Counts.{Counts}
-use Rattle.sheet.specs.declared.kind.Kind.{Kind}
-use Rattle.sheet.specs.Kind.{shift_sheet, with_turns}
+use Rattle.sheet.specs.Kind.{Kind, shift_sheet, with_turns}
 use Rattle.sheet.specs.Read.{counts_in, turn_count, turns_of, sheet_causes, Reading, read_for, read_of}
 use Rattle.sheet.specs.Short.{short_sheet, read_short_of}
 use Rattle.sheet.specs.Promises.{ReadPromisedFor}

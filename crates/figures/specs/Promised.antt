@@ -9,8 +9,7 @@ use Rattle.wire.specs.Mark.{sheet_mark}
 use Rattle.turn.specs.declared.Counts.{Counts}
 use Rattle.turn.specs.declared.Turn.{Turn}
 use Rattle.turn.specs.Turn.{counts_of, rows, table_rows, table_turns}
-use Rattle.sheet.specs.declared.kind.Kind.{Kind}
-use Rattle.sheet.specs.Kind.{shift_sheet, with_turns}
+use Rattle.sheet.specs.Kind.{Kind, shift_sheet, with_turns}
 use Rattle.sheet.specs.Read.{counts_in, turn_count, turns_of, read_refused, Reading, read_for, read_of}
 use Rattle.sheet.specs.Layout.{header_for}
 use Rattle.sheet.specs.Accepted.{SheetFor, AcceptedFor, Accepted, SheetCause, FirstReadCause}

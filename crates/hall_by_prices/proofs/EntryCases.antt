@@ -8,7 +8,7 @@ use borrow.Author.Tests.{ne_eqb}
 use Rattle.refusal.specs.Number.{bad_prices}
 use Rattle.refusal.proofs.Outcome.{tried_stops, tried_last}
 use Rattle.turn.specs.Turn.{shift_minutes}
-use Rattle.sheet.specs.declared.kind.Kind.{Kind}
+use Rattle.sheet.specs.Kind.{Kind}
 use Rattle.sheet.specs.declared.answer.ReadAnswer.{ReadAnswer}
 use Rattle.sheet.specs.Read.{answer_for}
 use Rattle.instance.specs.Load.{PosedFor}

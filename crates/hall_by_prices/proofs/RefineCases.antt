@@ -8,7 +8,7 @@ use lib.Seq.{length-take-le}
 use Rattle.refusal.specs.Number.{buffer_too_small}
 use Rattle.refusal.proofs.Outcome.{tried_stops, tried_last}
 use Rattle.turn.specs.Turn.{shift_minutes}
-use Rattle.sheet.specs.declared.kind.Kind.{Kind}
+use Rattle.sheet.specs.Kind.{Kind}
 use Rattle.sheet.specs.declared.answer.ReadAnswer.{ReadAnswer}
 use Rattle.sheet.specs.Read.{turn_count, answer_for}
 use Rattle.choice_map.specs.Choice.{map_bytes, choice_in, map_of, Clean}
@@ -24,8 +24,7 @@ use Rattle.charge_spec.proofs.ChargingSheets.{charging_given}
 use Rattle.charge.proofs.Charges.{charge_tried, accepted, counts_are, hall_is}
 use Rattle.refine_spec.specs.Rounds.{RoundRule, Stage, start_from, refined, first_change}
 use Rattle.refine_spec.specs.Shift.{greatest_worth}
-use Rattle.price_rule.specs.declared.RuleFor.TheVariants.{Hall}
-use Rattle.price_rule.specs.Rules.{size_of, prices_of, change_of, rule_limit, relaxed_of, fits_of, moved_of, choice_of, rule_worth, round_rule, RulePosed}
+use Rattle.price_rule.specs.Rules.{Hall, size_of, prices_of, change_of, rule_limit, relaxed_of, fits_of, moved_of, choice_of, rule_worth, round_rule, RulePosed}
 use Rattle.price_rounds.specs.declared.Reached.{Reached}
 use Rattle.price_rounds.specs.Rounds.{rounds_from, Reaches, RoundsStart}
 use Rattle.hall_by_prices_spec.specs.declared.ChargeRefineAnswer.{ChargeRefineAnswer}

@@ -6,6 +6,7 @@ ghost use Rattle.hall_by_prices_spec.specs.Limit.{charge_limit_of};
 use hall_look::{HallSize, MINUTES};
 use instance::{PLACES, Size};
 use limit_spec::LimitAnswer;
+use refusal::Refusal;
 
 fn refused(k: u8) -> LimitAnswer
     ensures { result ≡ limit_refused k }
@@ -23,12 +24,11 @@ pub fn charge_limit(s: &[u8], prices: &[u16]) -> LimitAnswer
     let mut cols = [0u16; PLACES];
     let mut room = [0u16; PLACES];
     let r = instance::load_as(charge::charging_sheet(), s, &mut cols, &mut room);
-    let fault = r.refusal;
-    if fault != 0 {
-        return refused(fault);
+    if r.refusal != 0 {
+        return refused(r.refusal);
     }
     if prices.len() != MINUTES {
-        return refused(refusal::BAD_PRICES);
+        return refused(Refusal::BadPrices as u8);
     }
     let h = HallSize {
         units: r.groomers,

@@ -2,7 +2,6 @@
 ghost use Rattle.std.specs.Prelude.{◌≡◌, ◌≤◌, length};
 ghost use Rattle.turn.specs.Turn.{shift_minutes};
 ghost use Rattle.choice_map.specs.Choice.{map_bytes};
-ghost use Rattle.instance.specs.Columns.{column_places};
 ghost use Rattle.price_rounds.specs.Rounds.{Reaches};
 ghost use Rattle.hall_by_prices_spec.specs.Hall.{hall_refined};
 ghost use Rattle.hall_by_prices_spec.specs.Refine.{charge_refinement, charge_refine_of};
@@ -12,7 +11,8 @@ ghost use Rattle.hall_look.specs.Look.{hall_for, HallPosed};
 use hall_by_prices_spec::ChargeRefineAnswer;
 use hall_look::{HallSize, MINUTES};
 use instance::{PLACES, Size};
-use price_rounds::{Reached, Start, hall_rounds};
+use price_rounds::{Reached, Start, make_rounds};
+use refusal::Refusal;
 
 // Plans the hall into a map, and makes the rounds from that choice. The room is lent because the loop asks
 // for one; for a hall nothing is put there.
@@ -25,15 +25,13 @@ fn plan_rounds(
     room: &mut [u16; PLACES],
 ) -> Reached
     requires hall_posed { HallPosed h cols.now × (length map.old ≡ map_bytes h.size.count) × (length lowest.old ≡ shift_minutes) }
-    requires room_len { length room.old ≡ column_places }
     ensures { Reaches h.size.count (hall_refined (hall_for h cols.now) h.vehicles rounds) result lowest.new map.new }
 {
-    let worth = charge::write_plan(h.units, h.size, cols, &mut *map);
     let start = Start {
-        rounds: rounds,
-        worth: worth,
+        rounds,
+        worth: charge::write_plan(h.units, h.size, cols, &mut *map),
     };
-    hall_rounds(h, start, cols, &mut *lowest, &mut *map, &mut *room)
+    make_rounds(h, start, cols, &mut *lowest, &mut *map, &mut *room)
 }
 
 // The rounds into lent places that suffice.
@@ -46,7 +44,6 @@ fn refine_hall(
     room: &mut [u16; PLACES],
 ) -> ChargeRefineAnswer
     requires hall_posed { HallPosed h cols.now × (map_bytes h.size.count ≤ length map.old) × (shift_minutes ≤ length prices.old) }
-    requires room_len { length room.old ≡ column_places }
     ensures { charge_refined_by result map.new prices.new
         ≡ charge_refinement (hall_refined (hall_for h cols.now) h.vehicles rounds) map.old prices.old }
 {
@@ -86,15 +83,14 @@ pub fn charge_refine(
     let mut cols = [0u16; PLACES];
     let mut room = [0u16; PLACES];
     let r = instance::load_as(charge::charging_sheet(), s, &mut cols, &mut room);
-    let fault = r.refusal;
-    if fault != 0 {
-        return refused(fault);
+    if r.refusal != 0 {
+        return refused(r.refusal);
     }
     if map.len() < choice_map::map_bytes(r.turns) {
-        return refused(refusal::BUFFER_TOO_SMALL);
+        return refused(Refusal::BufferTooSmall as u8);
     }
     if prices.len() < MINUTES {
-        return refused(refusal::BUFFER_TOO_SMALL);
+        return refused(Refusal::BufferTooSmall as u8);
     }
     let h = HallSize {
         units: r.groomers,

@@ -11,8 +11,8 @@ use native.Mathlib.Decide.{dec_lt, ℕ_discrete}
 use mir.Syntax.{w16, w32}
 use mir.Val.{Fits}
 use lib.Dec.{ltb, eqb}
-use lib.ListN.{length, get_or, set, replicate, length-set, length-replicate}
-use lib.Seq.{get_or-set_same, get_or-set_other}
+use lib.ListN.{length, get_or, set, take, drop, replicate, length-set, length-drop, length-replicate}
+use lib.Seq.{get_or-set_same, get_or-set_other, get_or-take, get_or-drop, length-take-le}
 use borrow.Author.Tests.{eq-eqb, ne_eqb, lt-ltb, le-ltb, lt-leb, le-leb}
 use Rattle.lists.specs.Lists.{sum_over, below}
 use Rattle.lists.proofs.Sums.{sum_same}
@@ -23,7 +23,7 @@ use Rattle.choice_map.proofs.Clean.{zeros_at}
 use Rattle.instance.specs.declared.ways.Row.{Row}
 use Rattle.instance.specs.Columns.{row_in}
 use Rattle.instance.proofs.Rows.{count_is, slope_at, groomer_at, start_at, end_at, worth_at}
-use Rattle.charge_spec.specs.Hall.{most_units, most_vehicles, Hall, vehicle, draw, charges_at}
+use Rattle.charge_spec.specs.Hall.{most_units, most_vehicles, Hall, vehicle, charges_at}
 use Rattle.charge_spec.proofs.Windows.{in_charges}
 use Rattle.hall_by_prices_spec.specs.Prices.{price_parts, minute_price, minutes_cost, window_pays, window_counts, alone, richest_of, vehicle_best, supply_cost, hall_limit}
 use Rattle.limit_spec.specs.Prices.{most_price}
@@ -209,33 +209,7 @@ module _ (h : HallSize) (cols : List ℕ) (q : HallPosed h cols) (prices most ta
         go (yes z) = rw (lt-ltb (get_or most a.slope 0) x z) (bests_taken z)
         go (no z) = let k : x ≤ get_or most a.slope 0 = omega arith in rw (le-ltb (get_or most a.slope 0) x k) (bests_kept k)
 
-  pub bests_long : {t : ℕ} → Bests H prices t most taken → length most ≡ vehicle_places
-  bests_long b = b.places
-
-  pub bests_long_too : {t : ℕ} → Bests H prices t most taken → length taken ≡ vehicle_places
-  bests_long_too b = b.places_too
-
-  pub bests_done : {t : ℕ} → Bests H prices t most taken → t ≤ h.size.count → h.size.count ≤ t → Bests H prices h.size.count most taken
-  bests_done {t} b k l = let z : t ≡ h.size.count = omega arith in (rw z at b)
-
-pub ruleset bests_cases = (window_inside, window_row, window_vehicle, counted_fits, bests_start, bests_more, bests_long, bests_long_too, bests_done)
-
--- ---- a window in its vehicle's place
-
-module _ (most taken : List ℕ) (v count t : ℕ) where
-  pub best_taken : get_or most v 0 < count → set most v count ≡ cond (ltb (get_or most v 0) count) (set most v count) most
-  best_taken h = rw (lt-ltb (get_or most v 0) count h)
-
-  pub window_taken : get_or most v 0 < count → set taken v (t + 1) ≡ cond (ltb (get_or most v 0) count) (set taken v (t + 1)) taken
-  window_taken h = rw (lt-ltb (get_or most v 0) count h)
-
-  pub best_stays : count ≤ get_or most v 0 → most ≡ cond (ltb (get_or most v 0) count) (set most v count) most
-  best_stays h = rw (le-ltb (get_or most v 0) count h)
-
-  pub window_stays : count ≤ get_or most v 0 → taken ≡ cond (ltb (get_or most v 0) count) (set taken v (t + 1)) taken
-  window_stays h = rw (le-ltb (get_or most v 0) count h)
-
-pub ruleset keep_cases = (best_taken, window_taken, best_stays, window_stays)
+pub ruleset bests_cases = (window_inside, window_row, window_vehicle, counted_fits, bests_start, bests_more)
 
 -- ---- the limit
 
@@ -250,23 +224,28 @@ module _ (most : List ℕ) (n : ℕ) (few : n ≤ most_vehicles) where
   unfolding bests_sum
   sum_start = record { within = omega arith; is = refl; small = omega arith }
 
-  pub sum_place : {k sum_over : ℕ} → SummedBests most n k sum_over → k < n → k + 1 < vehicle_places
-  sum_place s l = omega arith
-
-  pub sum_fits : {k sum_over x : ℕ} → SummedBests most n k sum_over → k < n → x < 65536 → Fits w32 (sum_over + x)
-  sum_fits s l h = omega (arith, s.small)
-
   pub sum_more : {k sum_over x : ℕ} → SummedBests most n k sum_over → k < n → x ≡ get_or most (k + 1) 0 → x < 65536 → SummedBests most n (k + 1) (sum_over + x)
   unfolding bests_sum
   sum_more {k} {sum_over} {x} s l e h = record { within = omega arith; is = let z = s.is in rw (add-one k) (omega (arith, z, e)); small = omega (arith, s.small) }
 
-  pub sum_done : {k sum_over : ℕ} → SummedBests most n k sum_over → n ≤ k → sum_over ≡ bests_sum most n
-  sum_done {k} s l = let e : k ≡ n = omega (arith, s.within) in s.is ∙ ap (bests_sum most) e
+-- the best windows of vehicles 1 to the last, as that part of the places
+module _ (most : List ℕ) {n u : ℕ} (few : n ≤ most_vehicles) (w : length most ≡ vehicle_places) (e : u ≡ n) where
+  own_long : length (take (u + 1 - 1) (drop 1 most)) ≡ n
+  own_long = let l : u + 1 - 1 ≤ length (drop 1 most) = omega (arith, length-drop 1 most) in omega (arith, length-take-le (u + 1 - 1) (drop 1 most) l)
 
-  pub sum_most : {k sum_over : ℕ} → SummedBests most n k sum_over → sum_over ≤ most_vehicles * most_price
-  sum_most s = omega (arith, s.within, s.small)
+  module _ {k sum : ℕ} (s : SummedBests most n k sum) where
+    module _ {x : ℕ} (l : k < length (take (u + 1 - 1) (drop 1 most))) (f : x ≡ get_or (take (u + 1 - 1) (drop 1 most)) k 0) (h : (i : ℕ) → get_or most i 0 < 65536) where
+      own_inside : k < n
+      own_inside = omega (arith, own_long)
 
-pub ruleset sum_cases = (sum_start, sum_place, sum_fits, sum_more, sum_done, sum_most)
+      own_at : x ≡ get_or most (k + 1) 0
+      own_at = let m : k < u + 1 - 1 = omega (arith, own_inside) in let q : 1 + k ≡ k + 1 = omega arith in f ∙ get_or-take (u + 1 - 1) (drop 1 most) k 0 m ∙ get_or-drop 1 most k 0 ∙ ap (λ (i : ℕ). get_or most i 0) q
+
+      own_small : x < 65536
+      own_small = omega (arith, own_at, h (k + 1))
+
+      pub own_more : SummedBests most n (k + 1) (sum + x)
+      own_more = sum_more most n few s own_inside own_at own_small
 
 module _ (h : HallSize) (cols : List ℕ) (q : HallPosed h cols) (prices sums : List ℕ) (s : MinuteSums prices sums) where
   all_most : get_or sums shift_minutes 0 ≤ shift_minutes * most_price
@@ -275,9 +254,6 @@ module _ (h : HallSize) (cols : List ℕ) (q : HallPosed h cols) (prices sums : 
   whole_most : {u : ℕ} → u ≡ h.units → u * get_or sums shift_minutes 0 ≤ most_units * (shift_minutes * most_price)
   whole_most {u} e = let l : u ≤ most_units = omega (arith, e, q.held.units_to) in mul-le-mul l all_most
 
-  pub supply_fits : {u : ℕ} → u ≡ h.units → Fits w32 (u * get_or sums shift_minutes 0)
-  supply_fits {u} e = omega (arith, whole_most e)
-
   pub supply_is : {u : ℕ} → u ≡ h.units → u * get_or sums shift_minutes 0 / price_parts ≡ supply_cost (hall_for h cols) prices
   unfolding supply_cost prices_below
   supply_is e = rw (e, s.values shift_minutes (omega arith))
@@ -285,7 +261,7 @@ module _ (h : HallSize) (cols : List ℕ) (q : HallPosed h cols) (prices sums : 
   pub supply_most : {u : ℕ} → u ≡ h.units → u * get_or sums shift_minutes 0 / price_parts ≤ most_units * (shift_minutes * most_price) / price_parts
   supply_most {u} e = omega (arith, whole_most e)
 
-pub ruleset supply_cases = (supply_fits, supply_is, supply_most)
+pub ruleset supply_cases = (supply_is, supply_most)
 
 module _ (h : HallSize) (cols : List ℕ) (q : HallPosed h cols) (prices most taken : List ℕ) (b : Bests (hall_for h cols) prices h.size.count most taken) where
   best_is : (v : ℕ) → richest_of (hall_for h cols) (window_counts (hall_for h cols) prices) v h.size.count ≡ vehicle_best (hall_for h cols) prices v

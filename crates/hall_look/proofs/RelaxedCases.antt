@@ -39,8 +39,6 @@ module _ (number : ℕ) (map : List ℕ) where
       let k : number ≡ suc (number - 1) = omega arith in
       e ∙ ap (λ (x : ℕ). with_before x map) (sym k)
 
-pub ruleset before_cases = (before_none, before_one)
-
 -- ---- the windows of the vehicles before one
 
 -- a map with the windows of the first v vehicles set too
@@ -150,9 +148,6 @@ module _ (h : HallSize) (cols : List ℕ) (q : HallPosed h cols) (prices taken :
     pub taken_clean : {v : ℕ} {new : List ℕ} → v ≤ vehicle_places → new ≡ with_taken taken v map → Clean n new
     taken_clean {v} l e = rw e (clean_to v l)
 
-    pub taken_long : {v : ℕ} {new : List ℕ} → v ≤ vehicle_places → new ≡ with_taken taken v map → length new ≡ length map
-    taken_long {v} l e = (taken_clean l e).size ∙ sym c.size
-
     module _ (z : choice_in n map ≡ replicate n false) where
       -- window u is taken, by one of the first v vehicles
       abbrev taken_before : ℕ → ℕ → Bool
@@ -181,4 +176,4 @@ module _ (h : HallSize) (cols : List ℕ) (q : HallPosed h cols) (prices taken :
           at : (t : ℕ) → t < n → has (choice_in n new) t ≡ is_among (own (vehicle H t)) t
           at t m = ap (λ (x : List ℕ). has (choice_in n x) t) e ∙ taken_has v l t ∙ rw (lt-ltb (vehicle H t) v (omega (arith, q.held.vehicles t m)))
 
-pub ruleset relaxed_cases = (taken_start, taken_more, taken_inside, taken_clean, taken_long, taken_done)
+pub ruleset relaxed_cases = (taken_start, taken_more, taken_inside, taken_clean, taken_done)

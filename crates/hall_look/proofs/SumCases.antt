@@ -3,16 +3,12 @@ use Prim.Native.Nat.{ℕ, zero, suc, ◌+◌, ◌-◌, ◌*◌, ◌/◌, ◌≤�
 use mathlib.Core.Path.{◌≡◌, refl, ◌∙◌}
 use mathlib.Core.List.{List}
 use native.Mathlib.Omega.{arith}
-use native.Mathlib.Nat.{mul-le-mul}
 use native.Mathlib.Numerals.{add-one}
 use native.Mathlib.Decide.{ℕ_discrete}
-use mir.Syntax.{w32}
-use mir.Val.{Fits}
 use lib.ListN.{length, get_or, set, length-set}
 use lib.Seq.{get_or-set_same, get_or-set_other}
-use Rattle.turn.specs.Turn.{shift_minutes, most_worth}
+use Rattle.turn.specs.Turn.{shift_minutes}
 use Rattle.instance.specs.declared.ways.Row.{Row}
-use Rattle.charge_spec.specs.Hall.{most_units}
 use Rattle.hall_by_prices_spec.specs.Prices.{minute_price}
 use Rattle.limit_spec.specs.Prices.{most_price}
 use Rattle.hall_look.specs.Look.{sum_places, prices_below, row_cost, row_counts, MinuteSumsTo, MinuteSums, WindowRow}
@@ -49,15 +45,6 @@ module _ (prices : List ℕ) where
           most = omega arith;
         }
 
-    pub sums_inside : {k sum : ℕ} → MinuteSumsTo prices sums k sum → k < shift_minutes → length prices ≡ shift_minutes → k < length prices
-    sums_inside s h l = omega arith
-
-    pub sums_fit : {k sum r : ℕ} → MinuteSumsTo prices sums k sum → k < shift_minutes → r ≤ most_price → Fits w32 (sum + r)
-    sums_fit s h l = omega (arith, s.most)
-
-    pub sums_place : {k sum : ℕ} → MinuteSumsTo prices sums k sum → k < shift_minutes → k + 1 < length sums
-    sums_place s h = omega (arith, s.places)
-
     pub sums_more : {k sum r : ℕ} → MinuteSumsTo prices sums k sum → k < shift_minutes → r ≡ minute_price prices k → r ≤ most_price → MinuteSumsTo prices (set sums (k + 1) (sum + r)) (k + 1) (sum + r)
     sums_more {k} {sum} {r} s h e l =
         record {
@@ -75,22 +62,9 @@ module _ (prices : List ℕ) where
         at m q (yes z) = rw z (get_or-set_same sums (k + 1) (sum + r) 0 (omega (arith, s.places)) ∙ next)
         at m q (no z) = get_or-set_other sums (k + 1) m (sum + r) 0 z ∙ s.values m (omega arith)
 
-    pub sums_done : {k sum : ℕ} → MinuteSumsTo prices sums k sum → shift_minutes ≤ k → MinuteSums prices sums
-    sums_done {k} s h =
-        let z : k ≡ shift_minutes = omega (arith, s.within) in
-        record { places = s.places; values = λ m l. s.values m (omega arith); most = let q = s.is in let b : prices_below prices k ≤ k * most_price = omega (arith, s.most, q) in (rw z at b) }
-
-pub ruleset sums_cases = (price_is, sums_start, sums_inside, sums_fit, sums_place, sums_more, sums_done)
-
 -- ---- what a row pays and counts for
 
 module _ (prices sums : List ℕ) (s : MinuteSums prices sums) (r : Row) (w : WindowRow r) where
-  pub row_end : r.end < length sums
-  row_end = omega (arith, s.places, w.ends)
-
-  pub row_start : r.start < length sums
-  row_start = omega (arith, s.places, w.ends, w.starts)
-
   pub cost_below : get_or sums r.start 0 ≤ get_or sums r.end 0
   cost_below = omega (arith, s.values r.start (omega (arith, w.starts, w.ends)), s.values r.end w.ends, below_to prices r.start r.end (omega (arith, w.starts)))
 
@@ -100,18 +74,6 @@ module _ (prices sums : List ℕ) (s : MinuteSums prices sums) (r : Row) (w : Wi
   pub cost_most : get_or sums r.end 0 - get_or sums r.start 0 ≤ shift_minutes * most_price
   cost_most = omega (arith, s.values r.end w.ends, below_to prices r.end shift_minutes w.ends, s.most)
 
-  pub paid_fits : {d c : ℕ} → d ≡ r.groomer → c ≤ shift_minutes * most_price → Fits w32 (d * c)
-  paid_fits {d} {c} e l =
-      let a : d ≤ most_units = omega (arith, e, w.draw) in
-      omega (arith, mul-le-mul a l)
-
   pub counts_are : {x d c y : ℕ} → x ≡ r.worth → d ≡ r.groomer → c ≡ row_cost prices r → y ≡ x - d * c / 16 → y ≡ row_counts prices r
   unfolding row_counts
   counts_are e f g h = rw (h, e, f, g)
-
-  pub counts_most : {x y : ℕ} → x ≡ r.worth → y ≤ x → y ≤ most_worth
-  counts_most e h = omega (arith, e, w.worth)
-
-pub ruleset cost_cases = (row_end, row_start, cost_below, cost_is, cost_most)
-
-pub ruleset counts_cases = (paid_fits, counts_are, counts_most)

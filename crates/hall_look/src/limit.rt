@@ -10,12 +10,12 @@ ghost use Rattle.hall_look.specs.Look.{vehicle_places, hall_for, bests_sum, Hall
 use super::HallSize;
 use super::sums::{MINUTES, PARTS, SUMS, counts_for, put_sums};
 use instance::{PLACES, row_at};
-use numbers::{as_place, as_u32};
 
 // A place for each number of a vehicle; place 0 is not used.
 pub const VEHICLES: usize = 61;
 
-// Takes window t for vehicle v if it counts for more than the one there. Taken has t + 1, and 0 where there is none.
+// Takes window t for vehicle v if it counts for more than the one there. Taken has t + 1, and 0 where there is none: no
+// Option, since Bests and WindowsTaken of specs/Look hold numbers.
 fn keep_best(
     v: usize,
     count: u16,
@@ -23,7 +23,7 @@ fn keep_best(
     most: &mut [u16; VEHICLES],
     taken: &mut [u16; VEHICLES],
 )
-    requires { (v ≤ most_vehicles) × (t < most_turns) × (length most.old ≡ vehicle_places) × (length taken.old ≡ vehicle_places) }
+    requires { (v ≤ most_vehicles) × (t < most_turns) }
     ensures most_after { most.new ≡ cond (ltb (get_or most.old v 0) count) (set most.old v count) most.old }
     ensures taken_after { taken.new ≡ cond (ltb (get_or most.old v 0) count) (set taken.old v (t + 1)) taken.old }
 {
@@ -46,32 +46,27 @@ fn put_bests(
     requires most_value { (most.old ≡ replicate vehicle_places 0) × (taken.old ≡ replicate vehicle_places 0) }
     ensures { Bests (hall_for h cols.now) prices.now h.size.count most.new taken.new }
 {
-    let mut t = 0;
-    while t < h.size.count {
+    for t in 0..h.size.count {
         let row = row_at(cols, t);
         let count = counts_for(prices, sums, row);
         keep_best(
-            as_place(row.slope),
+            usize::from(row.slope),
             count as u16,
             t,
             &mut *most,
             &mut *taken,
         );
-        t += 1;
     }
 }
 
 // What the best windows of vehicles 1 to the last count for together.
 fn bests_sum(vehicles: u16, most: &[u16; VEHICLES]) -> u32
-    requires { (vehicles ≤ most_vehicles) × (length most.now ≡ vehicle_places) }
+    requires { vehicles ≤ most_vehicles }
     ensures { (result ≡ bests_sum most.now vehicles) × (result ≤ most_vehicles * most_price) }
 {
-    let last = vehicles as usize;
     let mut sum = 0;
-    let mut v = 0;
-    while v < last {
-        v += 1;
-        sum += as_u32(most[v]);
+    for &count in &most[1..=usize::from(vehicles)] {
+        sum += u32::from(count);
     }
     sum
 }
@@ -81,7 +76,7 @@ fn supply_cost(h: HallSize, cols: &[u16; PLACES], prices: &[u16], sums: &[u32; S
     requires { HallPosed h cols.now × MinuteSums prices.now sums.now }
     ensures { (result ≡ supply_cost (hall_for h cols.now) prices.now) × (result ≤ most_units * (shift_minutes * most_price) / price_parts) }
 {
-    as_u32(h.units) * sums[MINUTES] / PARTS
+    u32::from(h.units) * sums[MINUTES] / PARTS
 }
 
 // The limit, and the vehicles' best windows, where none is there before.

@@ -14,8 +14,8 @@ fn put_before(number: u16, map: &mut [u8])
     requires { number ≤ 8 * length map.old }
     ensures { map.new ≡ with_before number map.old }
 {
-    if number != 0 {
-        choice_map::set_bit(map, (number - 1) as usize);
+    if let Some(t) = number.checked_sub(1) {
+        choice_map::set_bit(map, usize::from(t));
     }
 }
 
@@ -32,10 +32,8 @@ fn put_relaxed(
     ensures clean_2 { Clean h.size.count map.new }
     ensures map_after { choice_in h.size.count map.new ≡ hall_relaxed (hall_for h cols.now) prices.now }
 {
-    let mut v = 0;
-    while v < VEHICLES {
-        put_before(taken[v], &mut *map);
-        v += 1;
+    for &number in taken {
+        put_before(number, &mut *map);
     }
 }
 

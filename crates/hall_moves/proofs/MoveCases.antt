@@ -7,7 +7,7 @@ use native.Mathlib.Omega.{arith}
 use native.Mathlib.Nat.{mul-le-mul, div-le_self, suc-mul}
 use native.Mathlib.Numerals.{add-one}
 use native.Mathlib.Decide.{dec_lt}
-use mir.Syntax.{w16, w32}
+use mir.Syntax.{w32}
 use mir.Val.{Fits}
 use lib.Dec.{ltb}
 use lib.ListN.{length, get_or, set, replicate, length-set, length-replicate, get_or-replicate}
@@ -29,11 +29,10 @@ use Rattle.charge_spec.specs.Hall.{most_units, Hall, charges_at, draw_at, drawn_
 use Rattle.charge_spec.specs.Plan.{rounded_up}
 use Rattle.charge_spec.proofs.Windows.{charges_in, in_charges, draw_at_charging, draw_at_not}
 use Rattle.charge.specs.Supply.{Drawn}
-use Rattle.charge.proofs.Supplies.{draw_start, draw_done, draw_next}
 use Rattle.hall_by_prices_spec.specs.Prices.{minute_price}
 use Rattle.hall_by_prices_spec.specs.Hall.{highest_minute_price, moved_minute, moved_minutes}
 use Rattle.hall_look.specs.declared.HallSize.{HallSize}
-use Rattle.hall_look.specs.Look.{hall_for, HallPosed, WindowRow}
+use Rattle.hall_look.specs.Look.{hall_for, HallPosed}
 use Rattle.limit_spec.specs.Prices.{most_price}
 use Rattle.hall_moves.specs.Moves.{most_drawn, no_move, most_move, move_places, move_by, moved_by, MovesTo, EachTo, FewMoves, PricesFit, FewDrawn, RoomForMore, DrawnBy}
 use Rattle.hall_look.proofs.LookCases.{few_windows, window_inside, window_row}
@@ -171,42 +170,6 @@ module _ (by old : List ℕ) where
     moved_fit h i k = s.fit i (omega arith)
 
 pub ruleset moved_minutes_cases = (moved_start, moved_few, moved_long, moved_inside, moved_more, moved_done, moved_fit)
-
--- ---- a window draws
-
--- from its start up to minute m
-pub record WindowDrawnTo (start draw end : ℕ) (old new : List ℕ) (m : ℕ) : Type 0 where
-  pub from : start ≤ m
-  pub to : m ≤ end
-  pub ends : end ≤ shift_minutes
-  pub drawn : Drawn start draw m old new
-
-module _ (old : List ℕ) where
-  pub window_start : {r : Row} → WindowRow r → WindowDrawnTo r.start r.groomer r.end old old r.start
-  window_start {r} w = record { from = omega arith; to = omega (arith, w.starts); ends = w.ends; drawn = draw_start r.start r.groomer old }
-
-  module _ {start draw end : ℕ} {new : List ℕ} {m : ℕ} (s : WindowDrawnTo start draw end old new m) where
-    pub window_done : end ≤ m → Drawn start draw end old new
-    window_done h = draw_done start draw old m s.drawn end h s.to
-
-    module _ (h : m < end) where
-      pub window_place : m < shift_minutes
-      window_place = omega (arith, s.ends)
-
-      pub window_more : length old ≡ shift_minutes → WindowDrawnTo start draw end old (set new m (get_or new m 0 + draw)) (m + 1)
-      window_more k =
-          record {
-            from = omega (arith, s.from);
-            to = omega arith;
-            ends = s.ends;
-            drawn = draw_next start draw old m s.drawn s.from (omega (arith, window_place));
-          }
-
-pub window_fits : (old : List ℕ) {r : Row} {new : List ℕ} {m : ℕ} → WindowRow r → RoomForMore old → WindowDrawnTo r.start r.groomer r.end old new m → m < r.end → Fits w16 (get_or new m 0 + r.groomer)
-unfolding RoomForMore
-window_fits old {m = m} w room s h = omega (arith, w.draw, s.drawn.later m (omega arith), room m (omega (arith, s.ends)))
-
-pub ruleset draw_window_cases = (window_start, window_place, window_fits, window_more, window_done)
 
 -- ---- the windows of a set draw
 

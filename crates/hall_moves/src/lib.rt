@@ -14,7 +14,6 @@ ghost use Rattle.hall_moves.specs.Moves.{most_drawn, no_move, most_move, move_pl
 
 use hall_look::{HallSize, MINUTES};
 use instance::{PLACES, Row, row_at};
-use numbers::{as_u32, left_u32, lesser_u32};
 
 const HIGHEST_MINUTE_PRICE: u32 = 65535;
 
@@ -32,22 +31,21 @@ fn move_by(units: u16, change: u32, drawn: u16) -> u32
     requires { (1 ≤ units) × (units ≤ most_units) × (drawn ≤ most_drawn) × (change ≤ most_worth) }
     ensures { (result ≡ move_by change units drawn) × (result ≤ most_move) }
 {
-    let all = as_u32(units);
+    let all = u32::from(units);
     if drawn > units {
-        return NO_MOVE + (change * (as_u32(drawn) - all) + (all - 1)) / all;
+        NO_MOVE + (change * (u32::from(drawn) - all) + (all - 1)) / all
+    } else {
+        NO_MOVE - change * (all - u32::from(drawn)) / all
     }
-    NO_MOVE - change * (all - as_u32(drawn)) / all
 }
 
 // Puts that move for each draw of the list.
 fn put_moves(units: u16, change: u32, moves: &mut [u32; MOVES])
-    requires { (1 ≤ units) × (units ≤ most_units) × (change ≤ most_worth) × (length moves.old ≡ move_places) }
+    requires { (1 ≤ units) × (units ≤ most_units) × (change ≤ most_worth) }
     ensures { MovesTo units change moves.new move_places }
 {
-    let mut d = 0;
-    while d < MOVES {
-        moves[d] = move_by(units, change, d as u16);
-        d += 1;
+    for (d, by) in moves.iter_mut().enumerate() {
+        *by = move_by(units, change, d as u16);
     }
 }
 
@@ -58,9 +56,10 @@ fn listed_move(units: u16, change: u32, moves: &[u32; MOVES], drawn: u16) -> u32
 {
     let d = drawn as usize;
     if d <= MOST_LISTED {
-        return moves[d];
+        moves[d]
+    } else {
+        move_by(units, change, drawn)
     }
-    move_by(units, change, drawn)
 }
 
 // A price after a move, neither below 0 nor above the highest.
@@ -68,7 +67,9 @@ fn moved_minute(by: u32, price: u32) -> u16
     requires { (by ≤ most_move) × (price ≤ most_price) }
     ensures { result ≡ min highest_minute_price (price + by - no_move) }
 {
-    lesser_u32(left_u32(price + by, NO_MOVE), HIGHEST_MINUTE_PRICE) as u16
+    (price + by)
+        .saturating_sub(NO_MOVE)
+        .min(HIGHEST_MINUTE_PRICE) as u16
 }
 
 // The move of each minute, where it is known what is drawn then.
@@ -79,14 +80,12 @@ fn put_minute_moves(
     drawn: &[u16; MINUTES],
     by: &mut [u32; MINUTES],
 )
-    requires le_units { (1 ≤ units) × (units ≤ most_units) × (change ≤ most_worth) × FewDrawn drawn.now × (length by.old ≡ shift_minutes) }
+    requires le_units { (1 ≤ units) × (units ≤ most_units) × (change ≤ most_worth) × FewDrawn drawn.now }
     requires moves_to { MovesTo units change moves.now move_places }
     ensures { EachTo units change drawn.now by.new shift_minutes }
 {
-    let mut m = 0;
-    while m < MINUTES {
-        by[m] = listed_move(units, change, moves, drawn[m]);
-        m += 1;
+    for (m, &much) in drawn.iter().enumerate() {
+        by[m] = listed_move(units, change, moves, much);
     }
 }
 
@@ -95,27 +94,19 @@ fn move_each(by: &[u32; MINUTES], prices: &mut [u16])
     requires { FewMoves by.now × (length prices.old ≡ shift_minutes) }
     ensures { (prices.new ≡ moved_by by.now prices.old) × PricesFit prices.old }
 {
-    let mut m = 0;
-    while m < MINUTES {
-        let price = as_u32(prices[m]);
-        prices[m] = moved_minute(by[m], price);
-        m += 1;
+    for m in 0..MINUTES {
+        prices[m] = moved_minute(by[m], u32::from(prices[m]));
     }
 }
 
-// A window draws at its minutes.
+// A window draws at its minutes. draw_row of charge does the same in bytes: one function of both would need a trait
+// of adding for these two lines.
 fn draw_window(drawn: &mut [u16; MINUTES], r: Row)
-    requires { WindowRow r × RoomForMore drawn.old × (length drawn.old ≡ shift_minutes) }
+    requires { WindowRow r × RoomForMore drawn.old }
     ensures { Drawn r.start r.groomer r.end drawn.old drawn.new }
 {
-    let draw = r.groomer;
-    let start = r.start as usize;
-    let end = r.end as usize;
-    let mut m = start;
-    while m < end {
-        let before = drawn[m];
-        drawn[m] = before + draw;
-        m += 1;
+    for m in usize::from(r.start)..usize::from(r.end) {
+        drawn[m] += r.groomer;
     }
 }
 
@@ -124,6 +115,7 @@ fn put_drawn(h: HallSize, cols: &[u16; PLACES], relaxed: &[u8], drawn: &mut [u16
     requires { HallPosed h cols.now × Clean h.size.count relaxed.now × (drawn.old ≡ replicate shift_minutes 0) }
     ensures { DrawnBy (hall_for h cols.now) (choice_in h.size.count relaxed.now) drawn.new }
 {
+    // A `while`: next_chosen passes over windows that are not chosen eight at a time, a `for` would test each.
     let mut t = choice_map::next_chosen(relaxed, 0);
     while t < h.size.count {
         draw_window(&mut *drawn, row_at(cols, t));

@@ -1,13 +1,12 @@
 // The windows of one kind in a hall, as the engine's turns. Of a hall's rows the slope is the vehicle and
 // the groomer the draw.
-ghost use Rattle.std.specs.Prelude.{◌≡◌, length};
-ghost use Rattle.instance.specs.Columns.{column_places, turns_by, Held};
+ghost use Rattle.std.specs.Prelude.{◌≡◌};
+ghost use Rattle.instance.specs.Columns.{turns_by, Held};
 ghost use Rattle.hall_steps.specs.OneKind.{kind_draw, kind_row, engine_turns};
 ghost use Rattle.hall_steps.specs.Bounds.{HallHeld};
 
 use instance::{PLACES, Row, Size, put_row, row_at};
 use local_ratio::value_if;
-use numbers::as_u32;
 
 // The hall's units, how many windows it has, and which of them are meant: the wide ones, or the small.
 #[derive(Clone, Copy)]
@@ -21,8 +20,7 @@ pub struct OneKind {
 pub fn is_of_kind(a: OneKind, draw: u16) -> bool
     ensures { result ≡ kind_draw a draw }
 {
-    let units = a.units;
-    let is_wide = as_u32(units) < 2 * as_u32(draw);
+    let is_wide = u32::from(a.units) < 2 * u32::from(draw);
     if a.wide { is_wide } else { !is_wide }
 }
 
@@ -37,26 +35,21 @@ fn kind_row(a: OneKind, r: Row) -> Row
     let groomer = value_if(!a.wide, draw);
     let worth = value_if(own, r.worth);
     Row {
-        slope: r.slope,
-        groomer: groomer,
-        start: r.start,
-        end: r.end,
-        worth: worth,
+        groomer,
+        worth,
         driver: 0,
+        ..r
     }
 }
 
 // Puts the rows of all windows as the engine gets them.
 pub fn put_kind(a: OneKind, cols: &[u16; PLACES], own: &mut [u16; PLACES])
-    requires { HallHeld a.units a.size cols.now × (length own.old ≡ column_places) }
+    requires { HallHeld a.units a.size cols.now }
     ensures own_after { turns_by a.size own.new ≡ engine_turns a cols.now }
     ensures held { Held a.size own.new }
 {
-    let n = a.size.count;
-    let mut t = 0;
-    while t < n {
+    for t in 0..a.size.count {
         let row = kind_row(a, row_at(cols, t));
         put_row(&mut *own, t, row);
-        t += 1;
     }
 }

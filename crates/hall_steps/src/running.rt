@@ -14,9 +14,10 @@ fn rule_of(a: OneKind) -> Rule
     ensures { result ≡ taking_rule a }
 {
     if a.wide {
-        return Rule::Conflicts;
+        Rule::Conflicts
+    } else {
+        Rule::Shares(a.units)
     }
-    Rule::Shares(a.units)
 }
 
 // Writes the steps of the kind that is meant; returns how many.

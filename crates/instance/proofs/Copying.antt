@@ -4,61 +4,15 @@ use mathlib.Core.List.{List}
 use Prim.Native.Nat.{ℕ, ◌+◌, ◌*◌, ◌≤◌, ◌<◌}
 use native.Mathlib.Omega.{arith}
 use native.Mathlib.Numerals.{add-one}
-use lib.ListN.{length, get_or, set, length-set}
-use lib.Seq.{get_or-set_other}
+use lib.ListN.{length, get_or}
 use Rattle.lists.proofs.Bools.{up_to}
-use Rattle.lists.proofs.Places.{put_at}
 use Rattle.turn.specs.Turn.{row_numbers, turn_in}
 use Rattle.sheet.specs.Kind.{most_turns}
 use Rattle.instance.specs.declared.ways.Row.{Row}
 use Rattle.instance.specs.Ways.{row_for}
 use Rattle.instance.specs.Columns.{column_count, column_places, row_in, with_row}
-use Rattle.instance.specs.Load.{EndsFit, Copied, CopiedTo, with_end, LengthsFit, EndsPut, RowsOf}
+use Rattle.instance.specs.Load.{EndsFit, Copied, with_end, LengthsFit, EndsPut, RowsOf}
 use Rattle.instance.proofs.Rows.{row_length, row_new, row_other}
-
--- ---- a column
-
-module _ (table : List ℕ) (n : ℕ) (cols : List ℕ) where
-  pub column_place : (k t : ℕ) → k < column_count → t < n → n ≤ most_turns → length cols ≡ column_places → k * most_turns + t < length cols
-  column_place k t h l m w = omega (arith, w)
-
-  pub copied_places : (k i : ℕ) → CopiedTo table n cols k i → length cols ≡ column_places
-  copied_places k i s = s.before.places
-
-  pub column_none : (k : ℕ) → Copied table n cols k → CopiedTo table n cols k 0
-  column_none k s = record { before = s; column = λ t h. absurd (omega arith) }
-
-  pub column_more : (k t : ℕ) {x : ℕ} → k < column_count → t < n → n ≤ most_turns → x ≡ get_or table (t * row_numbers + k) 0 → CopiedTo table n cols k t → CopiedTo table n (set cols (k * most_turns + t) x) k (t + 1)
-  column_more k t {x} h l m e s =
-      record {
-        before =
-            record {
-              places = length-set cols (k * most_turns + t) x ∙ s.before.places;
-              values = λ j u a b. get_or-set_other cols (k * most_turns + t) (j * most_turns + u) x 0 (λ q. omega arith) ∙ s.before.values j u a b;
-            };
-        column =
-            put_at (λ i y. y ≡ get_or table (i * row_numbers + k) 0) (λ i. k * most_turns + i) cols t x (column_place k t h l m s.before.places) (λ i b q. omega arith) s.column e;
-      }
-
-  pub column_done : (k t : ℕ) → t ≤ n → n ≤ t → CopiedTo table n cols k t → Copied table n cols (k + 1)
-  column_done k t h l s =
-      record {
-        places = s.before.places;
-        values = λ j u a b. up_to (λ i. get_or cols (i * most_turns + u) 0 ≡ get_or table (u * row_numbers + i) 0) k (λ i c. s.before.values i u c b) (s.column u (omega arith)) j (rw add-one at a);
-      }
-
-pub ruleset column_copied = (column_place, copied_places, column_none, column_more, column_done)
-
--- ---- all columns
-
-module _ (table : List ℕ) (n : ℕ) (cols : List ℕ) where
-  pub copied_none : length cols ≡ column_places → Copied table n cols 0
-  copied_none w = record { places = w; values = λ j t h. absurd (omega arith) }
-
-  pub copied_done : (k : ℕ) → k ≤ column_count → column_count ≤ k → Copied table n cols k → Copied table n cols column_count
-  copied_done k h l s = let q : k ≡ column_count = omega arith in rw q at s
-
-pub ruleset columns_copied = (copied_none, copied_done)
 
 -- ---- the ends
 
@@ -71,9 +25,6 @@ module _ (n : ℕ) (old cols : List ℕ) where
   ends_none w = record { places = w; put = λ t h. absurd (omega arith); rest = λ t h l. refl }
 
   module _ (i : ℕ) (s : EndsPut n old cols i) where
-    pub ends_places : length cols ≡ column_places
-    ends_places = s.places
-
     pub end_fits : {r : Row} → r ≡ row_in cols i → i < n → LengthsFit n old → r.start + r.end < 65536
     unfolding LengthsFit
     end_fits e l f = rw (e, s.rest i (omega arith) l) (f i l)
@@ -90,7 +41,7 @@ module _ (n : ℕ) (old cols : List ℕ) where
     pub ends_done : i ≤ n → n ≤ i → EndsPut n old cols n
     ends_done h l = let q : i ≡ n = omega arith in subst (EndsPut n old cols) q s
 
-pub ruleset ends_cases = (ends_none, ends_places, end_fits, ends_more, ends_done)
+pub ruleset ends_cases = (ends_none, end_fits, ends_more, ends_done)
 
 -- ---- both
 
@@ -110,9 +61,6 @@ module _ (table : List ℕ) (n : ℕ) (cols : List ℕ) (s : Copied table n cols
       at : (k p q : ℕ) → k < column_count → k * most_turns + t ≡ p → t * row_numbers + k ≡ q → get_or cols p 0 ≡ get_or table q 0
       at k p q h a b = rw (sym a, sym b) (s.values k t h l)
 
-  pub copied_long : length cols ≡ column_places
-  copied_long = s.places
-
   pub lengths_fit : EndsFit n table → LengthsFit n cols
   unfolding EndsFit LengthsFit
   lengths_fit f t l = rw (copied_row t l) (f t l)
@@ -121,4 +69,4 @@ module _ (table : List ℕ) (n : ℕ) (cols : List ℕ) (s : Copied table n cols
   unfolding RowsOf with_end row_for
   rows_put e t l = e.put t l ∙ ap with_end (copied_row t l)
 
-pub ruleset rows_cases = (copied_long, lengths_fit, rows_put)
+pub ruleset rows_cases = (lengths_fit, rows_put)

@@ -14,8 +14,7 @@ use Rattle.turn.specs.declared.Turn.{Turn}
 use Rattle.turn.specs.Turn.{row_numbers, turn_in, most_driver}
 use Rattle.model.specs.Turns.{Turns}
 use Rattle.sheet.specs.declared.answer.ReadAnswer.{ReadAnswer}
-use Rattle.sheet.specs.declared.kind.Kind.{Kind}
-use Rattle.sheet.specs.Kind.{most_turns, most_groomers, most_slopes, Sound, shift_sheet}
+use Rattle.sheet.specs.Kind.{Kind, most_turns, most_groomers, most_slopes, Sound, shift_sheet}
 use Rattle.sheet.specs.Read.{turn_count, turns_of, table_of, causes_for, sheet_causes, answer_for, answer_of}
 use Rattle.sheet.proofs.Readings.{sheet_numbered}
 use Rattle.sheet.proofs.SoundKinds.{shift_sheet_given}

@@ -63,14 +63,12 @@ pub fn put_row(cols: &mut [u16; PLACES], i: usize, r: Row)
     cols[DRIVERS + i] = r.driver;
 }
 
-// All turns' starts, as that part of the columns.
+// All turns' starts, as that part of the columns. One function of both, by a constant, would be no plainer than these lines.
 pub fn starts(p: Size, cols: &[u16; PLACES]) -> &[u16]
     requires { Held p cols.now }
     ensures { result.now ≡ tab p.count (turns_by p cols.now).start }
 {
-    let all = &cols[..];
-    let behind = STARTS + p.count;
-    &all[STARTS..behind]
+    &cols[STARTS..STARTS + p.count]
 }
 
 // All turns' ends.
@@ -78,7 +76,5 @@ pub fn ends(p: Size, cols: &[u16; PLACES]) -> &[u16]
     requires { Held p cols.now }
     ensures { result.now ≡ tab p.count (turns_by p cols.now).end }
 {
-    let all = &cols[..];
-    let behind = ENDS + p.count;
-    &all[ENDS..behind]
+    &cols[ENDS..ENDS + p.count]
 }

@@ -1,9 +1,9 @@
 // From a sheet to the columns.
 ghost use Rattle.std.specs.Prelude.{◌≡◌, ℕ, ◌+◌, ◌*◌, ◌≤◌, ◌<◌, length};
 ghost use Rattle.turn.specs.Turn.{row_numbers};
-ghost use Rattle.sheet.specs.Kind.{most_turns, Sound};
+ghost use Rattle.sheet.specs.Kind.{most_turns, Sound, kind_in_numbers};
 ghost use Rattle.sheet.specs.Read.{answer_for};
-ghost use Rattle.instance.specs.Columns.{column_count, column_places};
+ghost use Rattle.instance.specs.Columns.{column_count};
 ghost use Rattle.instance.specs.Load.{shift_size, EndsFit, Copied, with_end, LengthsFit, EndsPut, RowsOf, PosedFor, Loaded};
 
 use super::columns::{MOST_TURNS, PLACES, Size, put_row, row_at};
@@ -29,22 +29,18 @@ fn put_column(cols: &mut [u16; PLACES], table: &[u16], k: usize, n: usize)
     requires { (k < column_count) × (n ≤ most_turns) × (row_numbers * n ≤ length table.now) × Copied table.now n cols.old k }
     ensures { Copied table.now n cols.new (k + 1) }
 {
-    let mut t = 0;
-    while t < n {
+    for t in 0..n {
         cols[k * MOST_TURNS + t] = table[t * ROW_NUMBERS + k];
-        t += 1;
     }
 }
 
 // All values go into the columns as they stand, a length where an end is due.
 fn put_columns(cols: &mut [u16; PLACES], table: &[u16], n: usize)
-    requires { (length cols.old ≡ column_places) × (n ≤ most_turns) × (row_numbers * n ≤ length table.now) }
+    requires { (n ≤ most_turns) × (row_numbers * n ≤ length table.now) }
     ensures { Copied table.now n cols.new column_count }
 {
-    let mut k = 0;
-    while k < ROW_NUMBERS {
+    for k in 0..ROW_NUMBERS {
         put_column(&mut *cols, table, k, n);
-        k += 1;
     }
 }
 
@@ -54,33 +50,27 @@ fn with_end(r: Row) -> Row
     ensures { result ≡ with_end r }
 {
     Row {
-        slope: r.slope,
-        groomer: r.groomer,
-        start: r.start,
         end: r.start + r.end,
-        worth: r.worth,
-        driver: r.driver,
+        ..r
     }
 }
 
 // The ends of the first n turns, each its start and length together.
 fn put_ends(cols: &mut [u16; PLACES], n: usize)
-    requires { (length cols.old ≡ column_places) × (n ≤ most_turns) × LengthsFit n cols.old }
+    requires { (n ≤ most_turns) × LengthsFit n cols.old }
     ensures { EndsPut n cols.old cols.new n }
 {
-    let mut t = 0;
-    while t < n {
+    for t in 0..n {
         let row = with_end(row_at(&*cols, t));
         put_row(&mut *cols, t, row);
-        t += 1;
     }
 }
 
 // The first n turns of a table go into the columns, one column after another. A loop over rows would be short enough
 // to be compiled into every entry.
 fn put_rows(cols: &mut [u16; PLACES], table: &[u16], n: usize)
-    requires { (length cols.old ≡ column_places) × (n ≤ most_turns) × (row_numbers * n ≤ length table.now) × EndsFit n table.now }
-    ensures { RowsOf table.now cols.new n × (length cols.new ≡ column_places) }
+    requires { (n ≤ most_turns) × (row_numbers * n ≤ length table.now) × EndsFit n table.now }
+    ensures { RowsOf table.now cols.new n }
 {
     put_columns(&mut *cols, table, n);
     put_ends(&mut *cols, n);
@@ -95,9 +85,8 @@ pub fn load_as(
     cols: &mut [u16; PLACES],
     room: &mut [u16; PLACES],
 ) -> ReadAnswer
-    requires { Sound kind × (length cols.old ≡ column_places) × (length room.old ≡ column_places) }
-    ensures value { (result ≡ answer_for kind s.now) × (result.refusal ≡ 0 → (gap : ℕ) → PosedFor gap s.now cols.new) }
-    ensures room_len { length room.new ≡ column_places }
+    requires { Sound (kind_in_numbers kind) }
+    ensures { (result ≡ answer_for (kind_in_numbers kind) s.now) × (result.refusal ≡ 0 → (gap : ℕ) → PosedFor gap s.now cols.new) }
 {
     let r = sheet_read::read_table_of(kind, s, &mut *room);
     if r.refusal != 0 {
@@ -109,16 +98,13 @@ pub fn load_as(
 
 // Reads any bytes as a shift's sheet into columns, with lent room for the table of turns.
 pub fn load_with(s: &[u8], cols: &mut [u16; PLACES], room: &mut [u16; PLACES]) -> ReadAnswer
-    requires { (length cols.old ≡ column_places) × (length room.old ≡ column_places) }
-    ensures loaded { Loaded s.now result cols.new }
-    ensures room_len { length room.new ≡ column_places }
+    ensures { Loaded s.now result cols.new }
 {
     load_as(sheet_read::shift_sheet(), s, &mut *cols, &mut *room)
 }
 
 // Reads any bytes as a shift's sheet into columns, with a table of its own.
 pub fn load(s: &[u8], cols: &mut [u16; PLACES]) -> ReadAnswer
-    requires { length cols.old ≡ column_places }
     ensures { Loaded s.now result cols.new }
 {
     let mut room = [0u16; PLACES];

@@ -5,8 +5,6 @@ ghost use Rattle.std.specs.Prelude.{◌≡◌, ◌<◌};
 ghost use Rattle.model.specs.Turns.{overlapping};
 ghost use Rattle.instance.specs.Ways.{shared_of, ways_of, conflicting};
 
-use numbers::as_u32;
-
 // What the engine asks of a turn. Driver 0 stands for none.
 #[derive(Clone, Copy)]
 pub struct Row {
@@ -31,7 +29,8 @@ pub struct Ways {
 pub fn overlap(gap: u16, start: u16, end: u16, from: u16, until: u16) -> bool
     ensures { result ≡ overlapping gap start end from until }
 {
-    (as_u32(start) < as_u32(until) + as_u32(gap)) & (as_u32(from) < as_u32(end) + as_u32(gap))
+    (u32::from(start) < u32::from(until) + u32::from(gap))
+        & (u32::from(from) < u32::from(end) + u32::from(gap))
 }
 
 // What two turns share, whatever their minutes: the ways in which they could conflict.

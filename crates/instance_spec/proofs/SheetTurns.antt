@@ -12,8 +12,7 @@ use Rattle.turn.specs.Turn.{shift_minutes, most_worth, InRange, most_driver}
 use Rattle.model.specs.Turns as model
 use Rattle.model.specs.Turns.{Turns, PositiveLengths, OneDriver, Near, conflict}
 use Rattle.model.proofs.Minutes.{conflict_near}
-use Rattle.sheet.specs.declared.kind.Kind.{Kind}
-use Rattle.sheet.specs.Kind.{most_turns, shift_sheet, Sound}
+use Rattle.sheet.specs.Kind.{Kind, most_turns, shift_sheet, Sound}
 use Rattle.sheet.specs.Read.{counts_in, turn_count, turns_of, causes_for, sheet_causes}
 use Rattle.sheet.proofs.SoundKinds.{shift_sheet_sound}
 use Rattle.sheet.proofs.Tables.{turns_length, turns_at, table_row}

@@ -2,16 +2,17 @@
 
 #![tactic(auto)]
 
-ghost use Rattle.std.specs.Prelude.{◌≡◌, ◌+◌, length};
+ghost use Rattle.std.specs.Prelude.{◌≡◌, ◌+◌};
 ghost use Rattle.instance.specs.Columns.{Held};
 ghost use Rattle.best_spec.specs.Table.{best_worth};
 ghost use Rattle.best_table.specs.OrderAndTable.{Ranged};
 ghost use Rattle.limit_spec.specs.Prices.{price_sum};
 ghost use Rattle.limit_spec.specs.Limit.{limit_refused, limit_of};
-ghost use Rattle.shift_look.specs.OrdersAndCounts.{counted_turns, turns_in, order_places, Driven, Priced};
+ghost use Rattle.shift_look.specs.OrdersAndCounts.{counted_turns, turns_in, Driven, Priced};
 
 use instance::PLACES;
 use limit_spec::LimitAnswer;
+use refusal::Refusal;
 use shift_look::{Extent, ORDERS};
 
 // The limit of a problem, with places for the orders. Where no turn names a driver, the groomers'
@@ -23,16 +24,15 @@ fn limit_with(
     orders: &mut [u16; ORDERS],
     room: &mut [u16; PLACES],
 ) -> u32
-    requires held { Held e.size cols.now × Ranged e.size cols.now × Driven e.size cols.now × Priced e cols.now prices.now }
-    requires orders_len { length orders.old ≡ order_places }
+    requires { Held e.size cols.now × Ranged e.size cols.now × Driven e.size cols.now × Priced e cols.now prices.now }
     ensures { result ≡ price_sum (turns_in e cols.now) e.slopes prices.now
         + best_worth (counted_turns (turns_in e cols.now) e.slopes prices.now) }
 {
     if shift_look::any_driver(e.size, cols) {
-        shift_look::put_orders(e, cols, &mut *orders, &mut *room);
-        return shift_look::limit_at(e, cols, &*orders, prices);
+        shift_look::put_orders(e, cols, orders, room);
+        return shift_look::limit_at(e, cols, orders, prices);
     }
-    shift_look::limit_driverless(e, cols, prices, &mut *orders)
+    shift_look::limit_driverless(e, cols, prices, orders)
 }
 
 fn refused(k: u8) -> LimitAnswer
@@ -51,23 +51,19 @@ pub fn limit(s: &[u8], prices: &[u16]) -> LimitAnswer
     let mut cols = [0u16; PLACES];
     let mut room = [0u16; PLACES];
     let r = instance::load_with(s, &mut cols, &mut room);
-    let fault = r.refusal;
-    if fault != 0 {
-        return refused(fault);
+    if r.refusal != 0 {
+        return refused(r.refusal);
     }
-    let slopes = r.slopes as usize;
-    let turns = r.turns as usize;
+    let slopes = usize::from(r.slopes);
+    let turns = usize::from(r.turns);
     if prices.len() != slopes + turns {
-        return refused(refusal::BAD_PRICES);
+        return refused(Refusal::BadPrices as u8);
     }
     let e = Extent {
         size: instance::shift_size(r.turns),
-        slopes: slopes,
+        slopes,
     };
     let mut orders = [0u16; ORDERS];
     let limit = limit_with(e, &cols, prices, &mut orders, &mut room);
-    LimitAnswer {
-        refusal: 0,
-        limit: limit,
-    }
+    LimitAnswer { refusal: 0, limit }
 }

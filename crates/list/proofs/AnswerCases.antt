@@ -1,5 +1,5 @@
 -- The listing's answer by its cases, each premise in the form in which the code's calls and tests leave it. Assumes nothing.
-use Prim.Native.Nat.{ℕ, ◌+◌, ◌<◌, ◌≤◌}
+use Prim.Native.Nat.{ℕ, ◌<◌, ◌≤◌}
 use mathlib.Core.Path.{◌≡◌, refl, sym, ◌∙◌}
 use mathlib.Core.List.{List, []}
 use native.Mathlib.Omega.{arith}
@@ -11,7 +11,6 @@ use Rattle.refusal.proofs.Outcome.{tried_stops, tried_goes}
 use Rattle.refusal.proofs.Written.{kept_small, wrote_enough}
 use Rattle.wire.specs.Number.{puts}
 use Rattle.wire.proofs.Puts.{puts_front}
-use Rattle.text.specs.Place.{last_place}
 use Rattle.model.specs.Turns.{Turns, PositiveLengths}
 use Rattle.model.specs.Pick.{steps}
 use Rattle.model.specs.Ceiling.{ceiling}
@@ -51,9 +50,6 @@ module _ (text lent : List ℕ) {bytes : ℕ} (e : bytes ≡ length text) where
   unfolding text_answer first_of
   text_wrote h g = rw (e, g, puts_front text lent (omega arith)) (sym (wrote_enough [] _ text lent refl refl (omega arith)))
 
-pub bytes_in_place : {k : ℕ} → k ≤ listing_bytes → k ≤ last_place
-bytes_in_place h = omega arith
-
 module _ (text space : List ℕ) (short : length text ≤ listing_bytes) (room : listing_bytes ≤ length space) {bytes : ℕ} {b : List ℕ} (e : bytes ≡ length text) (f : b ≡ puts space 0 text) where
   held : length text ≤ length space
   held = omega arith
@@ -64,13 +60,10 @@ module _ (text space : List ℕ) (short : length text ≤ listing_bytes) (room :
   pub copy_part : bytes ≡ length (take bytes b)
   copy_part = front_part text space held e f
 
-  pub copy_fits : (lent : List ℕ) → bytes ≤ length lent → 0 + length (take bytes b) ≤ length lent
-  copy_fits lent h = omega (arith, copy_part)
-
   pub copied_done : (lent : List ℕ) {lent' : List ℕ} → bytes ≤ length lent → lent' ≡ puts lent 0 (take bytes b) → beside (record { refusal = 0; bytes = bytes }) lent' ≡ text_answer text lent
   copied_done lent h g = text_wrote text lent e h (rw (front_is text space held e f) at g)
 
-pub ruleset text_cases = (text_small, bytes_in_place, copy_holds, copy_part, copy_fits, copied_done)
+pub ruleset text_cases = (text_small, copy_holds, copy_part, copied_done)
 
 -- ---- the planner's board and its sums
 

@@ -177,40 +177,46 @@ pub ruleset groomer_cases = (marked_none, notes_none, notes_inside, head_fits, r
 
 -- ---- all groomers
 
-module _ (T : Turns) (S : List Bool) (groomers passed : ℕ) where
-  module _ (h : passed < groomers) where
-    parts_split : groomers_from T S (groomers - passed) (passed + 1) ≡ groomer_text T S (passed + 1) ++ groomers_from T S (groomers - (passed + 1)) (passed + 1 + 1)
+module _ (T : Turns) (S : List Bool) (stop g : ℕ) where
+  module _ (h : g ≤ stop) where
+    parts_split : groomers_from T S (stop + 1 - g) g ≡ groomer_text T S g ++ groomers_from T S (stop + 1 - (g + 1)) (g + 1)
     unfolding groomers_from
-    parts_split = let q : groomers - passed ≡ suc (groomers - (passed + 1)) = omega arith in rw q
+    parts_split = let q : stop + 1 - g ≡ suc (stop + 1 - (g + 1)) = omega arith in rw q
 
     module _ (to : ℕ) where
-      pub part_fits : {whole : ℕ} → to + length (groomers_from T S (groomers - passed) (passed + 1)) ≡ whole → whole ≤ last_place → to + length (groomer_text T S (passed + 1)) ≤ last_place
-      part_fits e m = piece_fits (groomers_from T S (groomers - passed) (passed + 1)) (groomer_text T S (passed + 1)) (groomers_from T S (groomers - (passed + 1)) (passed + 1 + 1)) parts_split to e m
+      pub part_fits : {whole : ℕ} → to + length (groomers_from T S (stop + 1 - g) g) ≡ whole → whole ≤ last_place → to + length (groomer_text T S g) ≤ last_place
+      part_fits e m = piece_fits (groomers_from T S (stop + 1 - g) g) (groomer_text T S g) (groomers_from T S (stop + 1 - (g + 1)) (g + 1)) parts_split to e m
 
-      pub part_place : {to' whole : ℕ} → to + length (groomers_from T S (groomers - passed) (passed + 1)) ≡ whole → to' ≡ to + length (groomer_text T S (passed + 1)) → to' + length (groomers_from T S (groomers - (passed + 1)) (passed + 1 + 1)) ≡ whole
-      part_place e p = rest_place (groomers_from T S (groomers - passed) (passed + 1)) (groomer_text T S (passed + 1)) (groomers_from T S (groomers - (passed + 1)) (passed + 1 + 1)) parts_split to e p
+      pub part_place : {to' whole : ℕ} → to + length (groomers_from T S (stop + 1 - g) g) ≡ whole → to' ≡ to + length (groomer_text T S g) → to' + length (groomers_from T S (stop + 1 - (g + 1)) (g + 1)) ≡ whole
+      part_place e p = rest_place (groomers_from T S (stop + 1 - g) g) (groomer_text T S g) (groomers_from T S (stop + 1 - (g + 1)) (g + 1)) parts_split to e p
 
-      pub part_put : (l : List ℕ) {l' z : List ℕ} {to' : ℕ} → puts l to (groomers_from T S (groomers - passed) (passed + 1)) ≡ z → l' ≡ puts l to (groomer_text T S (passed + 1)) → to' ≡ to + length (groomer_text T S (passed + 1)) → puts l' to' (groomers_from T S (groomers - (passed + 1)) (passed + 1 + 1)) ≡ z
-      part_put l e p q = rest_put (groomers_from T S (groomers - passed) (passed + 1)) (groomer_text T S (passed + 1)) (groomers_from T S (groomers - (passed + 1)) (passed + 1 + 1)) parts_split to l e p q
+      pub part_put : (l : List ℕ) {l' z : List ℕ} {to' : ℕ} → puts l to (groomers_from T S (stop + 1 - g) g) ≡ z → l' ≡ puts l to (groomer_text T S g) → to' ≡ to + length (groomer_text T S g) → puts l' to' (groomers_from T S (stop + 1 - (g + 1)) (g + 1)) ≡ z
+      part_put l e p q = rest_put (groomers_from T S (stop + 1 - g) g) (groomer_text T S g) (groomers_from T S (stop + 1 - (g + 1)) (g + 1)) parts_split to l e p q
 
-  module _ (to : ℕ) (h : groomers ≤ passed) where
-    none_left : groomers_from T S (groomers - passed) (passed + 1) ≡ []
+      -- after the last groomer's part nothing is left
+      module _ (none : stop ≤ g) where
+        empty : groomers_from T S (stop + 1 - (g + 1)) (g + 1) ≡ []
+        unfolding groomers_from
+        empty = let q : stop + 1 - (g + 1) ≡ 0 = omega arith in rw q
+
+        pub last_end : {to' whole : ℕ} → to + length (groomers_from T S (stop + 1 - g) g) ≡ whole → to' ≡ to + length (groomer_text T S g) → to' ≡ whole
+        last_end e p = omega (arith, part_place e p, ap length empty)
+
+        pub last_put : (l : List ℕ) {l' z : List ℕ} {to' : ℕ} → puts l to (groomers_from T S (stop + 1 - g) g) ≡ z → l' ≡ puts l to (groomer_text T S g) → to' ≡ to + length (groomer_text T S g) → l' ≡ z
+        last_put l e p q = rw empty at (part_put l e p q)
+
+  module _ (to : ℕ) (h : stop < g) where
+    none_left : groomers_from T S (stop + 1 - g) g ≡ []
     unfolding groomers_from
-    none_left = let q : groomers - passed ≡ 0 = omega arith in rw q
+    none_left = let q : stop + 1 - g ≡ 0 = omega arith in rw q
 
-    pub parts_end : {whole : ℕ} → to + length (groomers_from T S (groomers - passed) (passed + 1)) ≡ whole → to ≡ whole
+    pub parts_end : {whole : ℕ} → to + length (groomers_from T S (stop + 1 - g) g) ≡ whole → to ≡ whole
     parts_end e = omega (arith, ap length none_left)
 
-    pub parts_done : (l : List ℕ) {z : List ℕ} → puts l to (groomers_from T S (groomers - passed) (passed + 1)) ≡ z → l ≡ z
+    pub parts_done : (l : List ℕ) {z : List ℕ} → puts l to (groomers_from T S (stop + 1 - g) g) ≡ z → l ≡ z
     parts_done l e = rw none_left at e
 
-pub parts_start : (T : Turns) (S : List Bool) (groomers : ℕ) → 0 + length (groomers_from T S (groomers - 0) (0 + 1)) ≡ length (groomers_from T S groomers 1)
-parts_start T S groomers = let q : groomers - 0 ≡ groomers = omega arith in rw q (omega arith)
-
-pub parts_begin : (T : Turns) (S : List Bool) (groomers : ℕ) (l : List ℕ) → puts l 0 (groomers_from T S (groomers - 0) (0 + 1)) ≡ puts l 0 (groomers_from T S groomers 1)
-parts_begin T S groomers l = let q : groomers - 0 ≡ groomers = omega arith in rw q
-
-pub ruleset parts_cases = (parts_start, parts_begin, part_fits, part_place, part_put, parts_end, parts_done)
+pub ruleset parts_cases = (part_fits, part_place, part_put, last_end, last_put, parts_end, parts_done)
 
 -- ---- the whole
 

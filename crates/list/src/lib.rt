@@ -10,7 +10,7 @@ ghost use Rattle.std.specs.Prelude.{◌≡◌, ◌≤◌, ◌<◌, length};
 ghost use Rattle.wire.specs.Number.{puts};
 ghost use Rattle.model.specs.Pick.{steps};
 ghost use Rattle.model.specs.Ceiling.{ceiling};
-ghost use Rattle.instance.specs.Columns.{column_places, turns_by, Held};
+ghost use Rattle.instance.specs.Columns.{turns_by, Held};
 ghost use Rattle.choice_map.specs.Choice.{choice_in};
 ghost use Rattle.plan_spec.specs.Plan.{board_for};
 ghost use Rattle.list_spec.specs.Text.{listing_of, refused_line};
@@ -25,7 +25,7 @@ use lines::put_refused;
 use list_spec::Sums;
 use parts::put_listing;
 use plan::BoardMade;
-use refusal::{WriteAnswer, refused};
+use refusal::{Refusal, WriteAnswer, refused};
 
 // Enough for every listing.
 pub const LISTING_BYTES: usize = 3823;
@@ -48,7 +48,7 @@ fn list_map(
     let mut text = [0u8; LISTING_BYTES];
     let bytes = put_listing(&mut text, p, cols, map, groomers, sums);
     if out.len() < bytes {
-        return refused(refusal::BUFFER_TOO_SMALL);
+        return refused(Refusal::BufferTooSmall as u8);
     }
     wire::put_bytes(&mut *out, 0, &text[..bytes]);
     WriteAnswer {
@@ -87,13 +87,19 @@ fn list_problem(
     out: &mut [u8],
     room: &mut [u16; PLACES],
 ) -> WriteAnswer
-    requires { Held p cols.now × (length (listing_for groomers (turns_by p cols.now)) ≤ listing_bytes) × (length room.old ≡ column_places) }
+    requires { Held p cols.now × (length (listing_for groomers (turns_by p cols.now)) ≤ listing_bytes) }
     ensures { beside result out.new ≡ text_answer (listing_for groomers (turns_by p cols.now)) out.old }
 {
     let mut space = [0u8; plan::BOARD_BYTES];
     let made = plan::write_board(p, cols, &mut space, &mut *room);
-    let bytes = made.bytes as usize;
-    list_board(p, cols, groomers, &space[..bytes], made, &mut *out)
+    list_board(
+        p,
+        cols,
+        groomers,
+        &space[..made.bytes as usize],
+        made,
+        &mut *out,
+    )
 }
 
 // Plans any bytes as a sheet, and writes the drivers' listing into any lent bytes.
@@ -103,9 +109,8 @@ pub fn list(s: &[u8], out: &mut [u8]) -> WriteAnswer
     let mut cols = [0u16; PLACES];
     let mut room = [0u16; PLACES];
     let r = instance::load_with(s, &mut cols, &mut room);
-    let fault = r.refusal;
-    if fault != 0 {
-        return refused(fault);
+    if r.refusal != 0 {
+        return refused(r.refusal);
     }
     list_problem(
         instance::shift_size(r.turns),
@@ -121,5 +126,5 @@ pub fn list(s: &[u8], out: &mut [u8]) -> WriteAnswer
 pub fn refused_line(out: &mut [u8], k: u8) -> usize
     ensures { (result ≡ length (refused_line k)) × (result ≤ 12) × (out.new ≡ puts out.old 0 (refused_line k)) }
 {
-    put_refused(&mut *out, k as u32)
+    put_refused(&mut *out, u32::from(k))
 }

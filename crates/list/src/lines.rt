@@ -9,24 +9,6 @@ ghost use Rattle.list_spec.specs.Text.{labelled, two_labelled, heading_of, line_
 use instance::{PLACES, Size, row_at};
 use list_spec::Sums;
 
-const GROOMER: [u8; 8] = *b"groomer ";
-
-const HYPHEN: [u8; 1] = *b"-";
-
-const SLOPE: [u8; 7] = *b" slope ";
-
-const WORTH: [u8; 7] = *b" worth ";
-
-const SUM: [u8; 6] = *b"worth ";
-
-const TALLY: [u8; 7] = *b" tally ";
-
-const CEILING: [u8; 9] = *b" ceiling ";
-
-const REFUSED: [u8; 8] = *b"refused ";
-
-const LINE_FEED: u8 = 10;
-
 // A word and then a number.
 fn put_labelled(out: &mut [u8], at: usize, word: &[u8], x: u32) -> usize
     requires { at + length (labelled word.now x) ≤ last_place }
@@ -53,7 +35,7 @@ fn put_two(out: &mut [u8], at: usize, word: &[u8], x: u32, second: &[u8], y: u32
         × (out.new ≡ puts out.old at (two_labelled word.now x second.now y)) }
 {
     let last = put_pair(&mut *out, at, word, x, second, y);
-    text::put_byte(&mut *out, last, LINE_FEED)
+    text::put_byte(&mut *out, last, b'\n')
 }
 
 // A groomer's heading.
@@ -61,9 +43,8 @@ pub fn put_heading(out: &mut [u8], at: usize, groomer: u32) -> usize
     requires { at + length (heading_of groomer) ≤ last_place }
     ensures { (result ≡ at + length (heading_of groomer)) × (out.new ≡ puts out.old at (heading_of groomer)) }
 {
-    let word = GROOMER;
-    let last = put_labelled(&mut *out, at, &word, groomer);
-    text::put_byte(&mut *out, last, LINE_FEED)
+    let last = put_labelled(&mut *out, at, b"groomer ", groomer);
+    text::put_byte(&mut *out, last, b'\n')
 }
 
 // The line of turn u.
@@ -72,25 +53,14 @@ pub fn put_line(out: &mut [u8], at: usize, p: Size, cols: &[u16; PLACES], u: usi
     ensures { (result ≡ at + length (line_of (turns_by p cols.now) u))
         × (out.new ≡ puts out.old at (line_of (turns_by p cols.now) u)) }
 {
-    let nothing: [u8; 0] = [];
-    let hyphen = HYPHEN;
-    let slope = SLOPE;
-    let worth = WORTH;
     let row = row_at(cols, u);
-    let next = put_pair(
-        &mut *out,
-        at,
-        &nothing,
-        row.start as u32,
-        &hyphen,
-        row.end as u32,
-    );
+    let next = put_pair(&mut *out, at, b"", row.start as u32, b"-", row.end as u32);
     put_two(
         &mut *out,
         next,
-        &slope,
+        b" slope ",
         row.slope as u32,
-        &worth,
+        b" worth ",
         row.worth as u32,
     )
 }
@@ -100,11 +70,15 @@ pub fn put_sums(out: &mut [u8], at: usize, sums: Sums) -> usize
     requires { at + length (sums_line sums) ≤ last_place }
     ensures { (result ≡ at + length (sums_line sums)) × (out.new ≡ puts out.old at (sums_line sums)) }
 {
-    let first = SUM;
-    let second = TALLY;
-    let third = CEILING;
-    let next = put_labelled(&mut *out, at, &first, sums.worth);
-    put_two(&mut *out, next, &second, sums.tally, &third, sums.ceiling)
+    let next = put_labelled(&mut *out, at, b"worth ", sums.worth);
+    put_two(
+        &mut *out,
+        next,
+        b" tally ",
+        sums.tally,
+        b" ceiling ",
+        sums.ceiling,
+    )
 }
 
 // The line of a refusal.
@@ -112,7 +86,6 @@ pub fn put_refused(out: &mut [u8], k: u32) -> usize
     requires { length (refused_line k) ≤ last_place }
     ensures { (result ≡ length (refused_line k)) × (out.new ≡ puts out.old 0 (refused_line k)) }
 {
-    let word = REFUSED;
-    let last = put_labelled(&mut *out, 0, &word, k);
-    text::put_byte(&mut *out, last, LINE_FEED)
+    let last = put_labelled(&mut *out, 0, b"refused ", k);
+    text::put_byte(&mut *out, last, b'\n')
 }

@@ -1,5 +1,5 @@
 // The parts of the listing: one a groomer, by number, then the sums.
-ghost use Rattle.std.specs.Prelude.{◌≡◌, ◌+◌, ◌≤◌, ◌<◌, length};
+ghost use Rattle.std.specs.Prelude.{◌≡◌, ◌+◌, ◌≤◌, length};
 ghost use Rattle.wire.specs.Number.{puts};
 ghost use Rattle.text.specs.Place.{last_place};
 ghost use Rattle.instance.specs.Columns.{turns_by};
@@ -44,10 +44,8 @@ fn put_groomers(out: &mut [u8], p: Size, cols: &[u16; PLACES], map: &[u8], groom
         ≡ puts out.old 0 (groomers_from (turns_by p cols.now) (choice_in p.count map.now) groomers 1) }
 {
     let mut to = 0;
-    let mut passed: u16 = 0;
-    while passed < groomers {
-        to = put_groomer(&mut *out, to, p, cols, map, passed as u32 + 1);
-        passed += 1;
+    for groomer in 1..=u32::from(groomers) {
+        to = put_groomer(&mut *out, to, p, cols, map, groomer);
     }
     to
 }

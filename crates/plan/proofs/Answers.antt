@@ -22,7 +22,7 @@ use Rattle.plan_spec.specs.Plan.{board_for, planned_board, plan_causes, plan_of}
 use Rattle.refusal.specs.Outcome.{beside}
 use Rattle.refusal.specs.Written.{write_refused}
 use Rattle.plan_spec.proofs.Boards.{board_most}
-use Rattle.instance.proofs.Posed.{loaded_held, loaded_turns}
+use Rattle.instance.proofs.Posed.{loaded_turns}
 
 -- ---- the answer
 
@@ -52,4 +52,4 @@ module _ (s cols lent : List ℕ) {r : ReadAnswer} (e : Loaded s r cols) where
         let room : length (board_for T) ≤ length lent = omega (arith, board_most T, sheet_count s sound, (e.posed f).count, g, h) in
         rw (b, l, loaded_turns s cols e f q, puts_front (board_for T) lent room) (sym (wrote_enough (sheet_causes s) _ (board_for T) lent (sheet_numbered s) sound (omega (arith, g, (e.posed f).count))))
 
-pub ruleset plan_cases = (plan_fault, plan_small, loaded_held, plan_room, plan_done)
+pub ruleset plan_cases = (plan_fault, plan_small, plan_done)

@@ -33,10 +33,7 @@ use Rattle.instance_spec.proofs.SheetTurns.{sheet_count, sheet_groomers}
 use Rattle.model.specs.Rules.{Independent}
 use Rattle.model.proofs.Readings.{independent_is}
 use Rattle.play_spec.proofs.Delayed.{taken_few}
-use Rattle.check_board.specs.declared.replay.Judgement.{Judgement}
 use Rattle.check_spec.specs.Check.{board_causes, check_causes}
-use Rattle.check_board.specs.Judged.{judged}
-use Rattle.check_board.proofs.Faults.{judged_number}
 use Rattle.check_spec.proofs.Passing.{board_clear, board_numbered}
 use Rattle.play_spec.specs.Day.{delay_in, delays_fit, day_of}
 use Rattle.play_spec.specs.DayTable.{DelaysFit, Days}
@@ -153,34 +150,30 @@ pub ruleset days_cases = (days_delays, days_small, days_done, days_bits, days_pl
 
 -- ---- for a board and a problem
 
-module _ (T : Turns) (b : List ℕ) (limit : ℕ) {j : Judgement} (e : j ≡ judged (first_of (board_causes T b)) limit) where
-  fault_is : first_of (board_causes T b) ≡ j.fault
-  fault_is = sym (judged_number (first_of (board_causes T b)) limit e)
+module _ (T : Turns) (b : List ℕ) (e : 0 ≡ first_of (board_causes T b)) where
+  pub board_formed : malformed b ≡ false
+  board_formed = (board_clear T b (sym e)).formed
 
-  pub board_formed : j.fault ≡ 0 → malformed b ≡ false
-  board_formed z = (board_clear T b (fault_is ∙ z)).formed
+  pub board_counted : board_turns b ≡ T.count
+  board_counted = (board_clear T b (sym e)).counted
 
-  pub board_counted : j.fault ≡ 0 → board_turns b ≡ T.count
-  board_counted z = (board_clear T b (fault_is ∙ z)).counted
+  pub board_passes : (causes : List Cause) (lent : Lent) (S : List Bool) (delays : List ℕ) (x : Prepared) (table : List ℕ) → PreparedBy causes T lent S delays x table → PreparedBy (board_causes T b ++ causes) T lent S delays x table
+  board_passes causes lent S delays x table w = carried (board_causes T b ++ causes) causes T lent S delays x table (first_goes (board_causes T b) causes (board_numbered T b) (sym e)) w
 
-  module _ (causes : List Cause) (lent : Lent) (S : List Bool) (delays : List ℕ) (x : Prepared) (table : List ℕ) where
-    pub board_refused : (j.fault ≡ 0 → ⊥) → table ≡ blank_table → Refused x j.fault → PreparedBy (board_causes T b ++ causes) T lent S delays x table
-    board_refused z o r = given (board_causes T b ++ causes) T lent S delays j.fault x table (first_stops (board_causes T b) causes j.fault fault_is z) z o r
+pub board_refused : (T : Turns) (b : List ℕ) (causes : List Cause) (lent : Lent) (S : List Bool) (delays : List ℕ) (x : Prepared) (table : List ℕ) {f : ℕ} → f ≡ first_of (board_causes T b) → (f ≡ 0 → ⊥) → table ≡ blank_table → Refused x f → PreparedBy (board_causes T b ++ causes) T lent S delays x table
+board_refused T b causes lent S delays x table {f} e z o r = given (board_causes T b ++ causes) T lent S delays f x table (first_stops (board_causes T b) causes f (sym e) z) z o r
 
-    pub board_passes : j.fault ≡ 0 → PreparedBy causes T lent S delays x table → PreparedBy (board_causes T b ++ causes) T lent S delays x table
-    board_passes z w = carried (board_causes T b ++ causes) causes T lent S delays x table (first_goes (board_causes T b) causes (board_numbered T b) (fault_is ∙ z)) w
-
-pub board_size : (p : Size) (cols b : List ℕ) (limit : ℕ) {j : Judgement} → j ≡ judged (first_of (board_causes (turns_by p cols) b)) limit → j.fault ≡ 0 → board_turns b ≡ p.count
-board_size p cols b limit e z = board_counted (turns_by p cols) b limit e z ∙ count_is p cols
+pub board_size : (p : Size) (cols b : List ℕ) → 0 ≡ first_of (board_causes (turns_by p cols) b) → board_turns b ≡ p.count
+board_size p cols b e = board_counted (turns_by p cols) b e ∙ count_is p cols
 
 -- what a board that passes gives for its days: its turns leave ten minutes to each other
-pub board_playable : (p : Size) (cols b : List ℕ) (limit : ℕ) {j : Judgement} → j ≡ judged (first_of (board_causes (turns_by p cols) b)) limit → j.fault ≡ 0 → Held p cols → p.gap ≡ shift_gap → GroomersKnown (turns_by p cols) → Playable (turns_by p cols) (board_choice b)
-board_playable p cols b limit e z h gap known =
+pub board_playable : (p : Size) (cols b : List ℕ) → 0 ≡ first_of (board_causes (turns_by p cols) b) → Held p cols → p.gap ≡ shift_gap → GroomersKnown (turns_by p cols) → Playable (turns_by p cols) (board_choice b)
+board_playable p cols b e h gap known =
     let T : Turns = turns_by p cols in
-    let apart : Independent T (board_choice b) = (independent_is T (board_choice b) (lengths_are p cols h)).0 (board_clear T b (fault_is T b limit e ∙ z)).apart in
+    let apart : Independent T (board_choice b) = (independent_is T (board_choice b) (lengths_are p cols h)).0 (board_clear T b (sym e)).apart in
     record { known = known; rows = λ g i. taken_few T (board_choice b) (suc g) apart (lengths_are p cols h) (omega (arith, gap_is p cols, gap)) (λ t l. h.ends t (omega (arith, l, count_is p cols))) i }
 
-pub ruleset board_cases = (board_formed, board_size, board_playable, board_refused, board_passes)
+pub ruleset board_cases = (board_formed, board_size, board_playable)
 
 -- ---- for a sheet
 

@@ -3,16 +3,16 @@ use mathlib.Core.Path.{◌≡◌, refl, sym, ◌∙◌, ap}
 use mathlib.Core.Logic.{◌≢◌}
 use mathlib.Core.Bool.{Bool, true, false, cond}
 use mathlib.Core.List.{List, [], ◌∷◌, ◌++◌}
-use Prim.Native.Nat.{ℕ, zero, suc, ◌+◌, ◌-◌, ◌*◌, ◌≤◌, ◌<◌, max}
+use Prim.Native.Nat.{ℕ, zero, suc, ◌+◌, ◌-◌, ◌*◌, ◌≤◌, ◌<◌, max, min}
 use native.Mathlib.Omega.{arith}
 use native.Mathlib.Decide.{dec_lt, ℕ_discrete}
 use native.Mathlib.Nat.{le-max_right, max-le, max-eq_right}
 use lib.Dec.{ltb, eqb}
 use lib.ListN.{length, get_or, set, take, replicate, length-set, length-append, length-replicate}
-use lib.Seq.{take-suc, take_all, take_at, get_or-set_same, get_or-set_other}
+use lib.Seq.{take-suc, take_all, get_or-set_same, get_or-set_other}
 use borrow.Author.Tests.{eq-eqb, ne_eqb, lt-ltb, le-ltb}
 use Rattle.lists.specs.Lists.{every}
-use Rattle.lists.proofs.Bools.{and_of, every_more, every_done, every_fails}
+use Rattle.lists.proofs.Bools.{and_of, every_more, every_fails}
 use Rattle.turn.specs.Turn.{shift_minutes}
 use Rattle.sheet.specs.Kind.{most_groomers, most_turns}
 use Rattle.model.specs.Turns.{Turns}
@@ -25,7 +25,6 @@ use Rattle.instance.specs.Columns.{row_in, turns_by, Held}
 use Rattle.instance.proofs.Rows.{count_is, groomer_at, start_at, end_at}
 use Rattle.instance_spec.specs.ByStart.{order_by_start}
 use Rattle.instance_spec.proofs.ByStart.{order_length, order_turn}
-use Rattle.instance.proofs.OrderPlaces.{order_place, zeros_few, few_zeros}
 use Rattle.play_spec.specs.declared.Stint.{Stint}
 use Rattle.play_spec.specs.Day.{over_minutes, most_delay, delay_in, delays_fit, stint_of, stints_from, takes, taken_of, day_of}
 use Rattle.play_spec.specs.DayTable.{day_rows, day_table_places, cut, stint_place, stint_in, no_stint, cut_stint, stint_row, DelaysFit, Days}
@@ -34,11 +33,8 @@ use Rattle.play_spec.proofs.TableStints.{cut_below, cut_over, cut_most}
 
 -- ---- the leaves
 
-pub cut_progress : (x : ℕ) → x < shift_minutes → x ≡ cut x
-cut_progress x l = sym (cut_below x l)
-
-pub cut_ended : (x : ℕ) → shift_minutes ≤ x → shift_minutes ≡ cut x
-cut_ended x l = sym (cut_over x l)
+pub cut_least : (x : ℕ) {y : ℕ} → y ≡ min x shift_minutes → y ≡ cut x
+cut_least x e = elim (dec_lt x shift_minutes) [ yes l ↦ omega (arith, e, cut_below x l) | no l ↦ omega (arith, e, cut_over x (omega arith)) ]
 
 pub stint_is : (r : Row) (t delay free : ℕ) {b e : ℕ} → b ≡ max r.start free → e ≡ cut (b + (r.end - r.start) + delay) → record { turn = t; begin = b; end = e } ≡ stint_by r t delay free
 unfolding stint_by
@@ -52,48 +48,13 @@ pub stint_read : (table : List ℕ) (g j : ℕ) → record { turn = get_or table
 unfolding stint_in
 stint_read table g j = refl
 
-pub second_place : (table : List ℕ) (g j v : ℕ) → length table ≡ day_table_places → g < most_groomers → j < day_rows → stint_place g j + 1 < length (set table (stint_place g j) v)
-second_place table g j v e l k = rw (length-set table (stint_place g j) v) (omega arith)
-
-pub third_place : (table : List ℕ) (g j v x : ℕ) → length table ≡ day_table_places → g < most_groomers → j < day_rows → stint_place g j + 2 < length (set (set table (stint_place g j) v) (stint_place g j + 1) x)
-third_place table g j v x e l k = rw (length-set (set table (stint_place g j) v) (stint_place g j + 1) x, length-set table (stint_place g j) v) (omega arith)
-
-pub ruleset stint_cases = (stint_put, stint_read, second_place, third_place)
+pub ruleset stint_cases = (stint_put, stint_read)
 
 pub progress_put : (progress : List ℕ) (g : ℕ) (s : Stint) {c : ℕ} → c ≡ cut (s.end + over_minutes) → set (set progress g c) (count_place g) (get_or progress (count_place g) 0 + 1) ≡ after_next progress g s
 unfolding after_next
 progress_put progress g s e = rw e
 
-pub progress_fits : (progress : List ℕ) (g : ℕ) → RoomForTurn progress → g < most_groomers → get_or progress (count_place g) 0 + 1 < 65536
-progress_fits progress g o l = omega (arith, o.few g l)
-
-pub progress_wide : (progress : List ℕ) (g : ℕ) → RoomForTurn progress → g < most_groomers → get_or progress (count_place g) 0 < 18446744073709551616
-progress_wide progress g o l = omega (arith, o.few g l)
-
-pub progress_first : (progress : List ℕ) (g : ℕ) → RoomForTurn progress → g < most_groomers → g < length progress
-progress_first progress g o l = omega (arith, o.progress_size)
-
-pub progress_second : (progress : List ℕ) (g : ℕ) → RoomForTurn progress → g < most_groomers → count_place g < length progress
-progress_second progress g o l = omega (arith, o.progress_size)
-
-pub progress_third : (progress : List ℕ) (g c : ℕ) → RoomForTurn progress → g < most_groomers → count_place g < length (set progress g c)
-progress_third progress g c o l = rw (length-set progress g c) (omega (arith, o.progress_size))
-
-pub progress_row : (progress : List ℕ) (g : ℕ) → RoomForTurn progress → g < most_groomers → get_or progress (count_place g) 0 < day_rows
-progress_row progress g o l = o.few g l
-
-pub progress_free : (progress : List ℕ) (g : ℕ) → RoomForTurn progress → g < most_groomers → get_or progress g 0 ≤ shift_minutes
-progress_free progress g o l = o.free g l
-
-pub ruleset next_cases = (progress_put, progress_fits, progress_wide, progress_first, progress_second, progress_third, progress_row, progress_free)
-
-pub turn_put : (table progress : List ℕ) (g : ℕ) {s x : Stint} {table' : List ℕ} → s ≡ x → table' ≡ with_next table progress g s → table' ≡ with_next table progress g x
-turn_put table progress g e f = f ∙ ap (with_next table progress g) e
-
-pub turn_progress : (progress : List ℕ) (g : ℕ) {s x : Stint} {progress' : List ℕ} → s ≡ x → progress' ≡ after_next progress g s → progress' ≡ after_next progress g x
-turn_progress progress g e f = f ∙ ap (after_next progress g) e
-
-pub ruleset turn_cases = (progress_first, progress_free, turn_put, turn_progress)
+pub ruleset next_cases = (progress_put)
 
 -- ---- the delays' test
 
@@ -109,11 +70,7 @@ pub fit_fails : (delays : List ℕ) (i : ℕ) → i < length delays → most_del
 unfolding delays_fit
 fit_fails delays i l k = sym (every_fails (λ u. ltb (delay_in delays u) (suc most_delay)) (length delays) i l (le-ltb (delay_in delays i) (suc most_delay) (omega arith)))
 
-pub fit_done : (delays : List ℕ) (i : ℕ) → length delays ≤ i → i ≤ length delays → delays_fit delays i ≡ true → true ≡ delays_fit delays (length delays)
-unfolding delays_fit
-fit_done delays i a b w = every_done (λ u. ltb (delay_in delays u) (suc most_delay)) i a b w
-
-pub ruleset fit_cases = (fit_more, fit_none, fit_fails, fit_done)
+pub ruleset fit_cases = (fit_more, fit_none, fit_fails)
 
 -- ---- a stint more
 
@@ -381,9 +338,6 @@ module _ (r' : Row) (u delay : ℕ) (table progress : List ℕ) where
   unfolding progress_with
   put_progress b x e q g = let y : b ≡ true = sym x ∙ e in rw (y, ← q) g
 
-pub row_least : {r : Row} (r' : Row) → r ≡ r' → 1 ≤ r'.groomer → 1 ≤ r.groomer
-row_least r' e l = rw e l
-
 pub row_inside : {r : Row} (r' : Row) → r ≡ r' → 1 ≤ r'.groomer → r'.groomer ≤ most_groomers → r.groomer - 1 < most_groomers
 row_inside {r} r' e l k = let q : r.groomer ≡ r'.groomer = ap (λ (x : Row). x.groomer) e in omega (arith, q, l, k)
 
@@ -393,7 +347,7 @@ row_lengths r' e l = rw e l
 pub row_ends : {r : Row} (r' : Row) → r ≡ r' → r'.end ≤ shift_minutes → r.end ≤ shift_minutes
 row_ends r' e l = rw e l
 
-pub ruleset chosen_cases = (skip_table, skip_progress, put_table, put_progress, row_least, row_inside, row_lengths, row_ends)
+pub ruleset chosen_cases = (skip_table, skip_progress, put_table, put_progress, row_inside, row_lengths, row_ends)
 
 -- ---- the loop
 
@@ -407,12 +361,12 @@ module _ (p : Size) (cols map delays order : List ℕ) (h : Held p cols) (o : or
   long : length order ≡ p.count
   long = ap length o ∙ order_length T ∙ count_is p cols
 
-  module _ (i : ℕ) (l : i < p.count) where
+  module _ (i : ℕ) (l : i < length order) where
     abbrev u : ℕ
     u = get_or order i 0
 
     inside : u < p.count
-    inside = let e : get_or order i 0 ≡ get_or (order_by_start T) i 0 = ap (λ (xs : List ℕ). get_or xs i 0) o in omega (arith, e, order_turn T i (omega (arith, count_is p cols)), count_is p cols)
+    inside = let e : get_or order i 0 ≡ get_or (order_by_start T) i 0 = ap (λ (xs : List ℕ). get_or xs i 0) o in omega (arith, e, order_turn T i (omega (arith, long, count_is p cols)), count_is p cols)
 
     pub loop_turn : get_or order i 0 < most_turns
     loop_turn = omega (arith, inside, h.few)
@@ -453,7 +407,7 @@ module _ (p : Size) (cols map delays order : List ℕ) (h : Held p cols) (o : or
       }
 
       taken : take (i + 1) order ≡ take i order ++ u ∷ []
-      taken = let q : i + 1 ≡ suc i = omega arith in rw q (take-suc order i 0 (order_place p cols order i h o l))
+      taken = let q : i + 1 ≡ suc i = omega arith in rw q (take-suc order i 0 l)
 
       is_has : has S u ≡ chosen_in map u
       is_has = choice_has p.count map u inside
@@ -480,10 +434,10 @@ module _ (p : Size) (cols map delays order : List ℕ) (h : Held p cols) (o : or
       unfolding table_with progress_with
       loop_next x y = rw (x, y, taken) (grown (chosen_in map u) refl)
 
-  pub loop_done : (i : ℕ) (table progress : List ℕ) → p.count ≤ i → RowsPut T S (delay_in delays) (take i order) table progress → Days T S (delay_in delays) table
+  pub loop_done : (i : ℕ) (table progress : List ℕ) → length order ≤ i → RowsPut T S (delay_in delays) (take i order) table progress → Days T S (delay_in delays) table
   unfolding day_of
   loop_done i table progress l w =
-      let e : take i order ≡ order_by_start T = take_all i order (omega (arith, long)) ∙ o in
+      let e : take i order ≡ order_by_start T = take_all i order l ∙ o in
       record { places = w.places; rows = λ g j x y. w.rows g j x y ∙ ap (λ (us : List ℕ). stint_row (stints_from T (delay_in delays) 0 (taken_of T S (suc g) us)) j) e }
 
 filled_at : (n x i : ℕ) → i < n → get_or (replicate n x) i 0 ≡ x
@@ -518,26 +472,12 @@ pub blank_places : {table : List ℕ} → table ≡ blank_table → length table
 unfolding blank_table
 blank_places e = ap length e ∙ length-replicate {A = ℕ} day_table_places shift_minutes
 
-pub loop_same : (T : Turns) (S : List Bool) (delay : ℕ → ℕ) (us table progress table₀ : List ℕ) → table₀ ≡ blank_table → RowsPut T S delay us table progress → length table ≡ length table₀
-loop_same T S delay us table progress table₀ e w = w.places ∙ sym (blank_places e)
-
-pub ruleset loop_cases = (loop_first, loop_same, order_place, loop_turn, loop_bit, loop_delays, loop_delay, loop_starts, loop_ends, loop_least, loop_known, loop_places, loop_open, loop_next, loop_done)
+pub ruleset loop_cases = (loop_first, loop_turn, loop_bit, loop_delays, loop_delay, loop_starts, loop_ends, loop_least, loop_known, loop_places, loop_open, loop_next, loop_done)
 
 pub blank_made : replicate {A = ℕ} day_table_places shift_minutes ≡ blank_table
 unfolding blank_table
 blank_made = refl
 
-pub order_made : (p : Size) (cols order zeros : List ℕ) → order ≡ order_by_start (turns_by p cols) → take p.count (order ++ zeros) ≡ order_by_start (turns_by p cols)
-order_made p cols order zeros e = take_at order zeros p.count (ap length e ∙ order_length (turns_by p cols) ∙ count_is p cols) ∙ e
-
-pub order_places_lem : (p : Size) (cols order zeros : List ℕ) → order ≡ order_by_start (turns_by p cols) → p.count ≡ length (take p.count (order ++ zeros))
-order_places_lem p cols order zeros e = sym (ap length (order_made p cols order zeros e) ∙ order_length (turns_by p cols) ∙ count_is p cols)
-
-pub order_share : (p : Size) (cols order zeros : List ℕ) → order ≡ order_by_start (turns_by p cols) → p.count ≤ length (order ++ zeros)
-order_share p cols order zeros e = omega (arith, length-append order zeros, ap length e ∙ order_length (turns_by p cols) ∙ count_is p cols)
-
-pub ruleset days_cases = (zeros_few, few_zeros, order_made, order_places_lem, order_share)
-
-pub ruleset cut_cases = (cut_progress, cut_ended)
+pub ruleset cut_cases = (cut_least)
 
 pub ruleset by_cases = (stint_is)

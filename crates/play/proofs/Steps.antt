@@ -3,14 +3,12 @@ use mathlib.Core.Path.{◌≡◌, ◌∙◌, ap}
 use mathlib.Core.List.{List}
 use Prim.Native.Nat.{ℕ, ◌+◌, ◌*◌, ◌<◌, ◌≤◌, ◌/◌, ◌%◌}
 use native.Mathlib.Omega.{arith}
-use lib.ListN.{length}
 use borrow.Author.Tests.{lt-ltb, le-ltb}
 use Rattle.turn.specs.Turn.{shift_minutes}
-use Rattle.sheet.specs.Kind.{most_groomers}
 use Rattle.play_spec.specs.declared.Stint.{Stint}
 use Rattle.play_spec.specs.declared.Standing.{Standing}
 use Rattle.play_spec.specs.Day.{over_minutes, Doing, works, drives, stands}
-use Rattle.play_spec.specs.DayTable.{day_rows, day_table_places, stint_in, doing_by}
+use Rattle.play_spec.specs.DayTable.{stint_in, doing_by}
 use Rattle.play_spec.specs.Standing.{no_turn_number, fresh_of, moved_by, total_of}
 use Rattle.play_spec.specs.Minutes.{begun_of, step_of, MinuteReady}
 use Rattle.play.specs.Packed.{driving_unit, standing_unit, turn_unit, packed_counts, packed}
@@ -74,13 +72,4 @@ module _ (s : Standing) (table : List ℕ) (g m : ℕ) {b : Standing} (e : b ≡
     pub begun_room : total_of b < shift_minutes
     begun_room = let t : total_of b ≡ total_of (begun_of s m) = ap total_of e in omega (arith, t, r.3, r.2)
 
-    pub row_room : b.driving / over_minutes < day_rows
-    row_room = omega (arith, begun_room)
-
-pub table_room : (s : Standing) (table : List ℕ) (g m : ℕ) → MinuteReady table g m s → length table ≡ day_table_places
-table_room s table g m r = r.0
-
-pub groomer_room : (s : Standing) (table : List ℕ) (g m : ℕ) → MinuteReady table g m s → g < most_groomers
-groomer_room s table g m r = r.1
-
-pub ruleset step_cases = (step_is, begun_room, row_room, table_room, groomer_room)
+pub ruleset step_cases = (step_is, begun_room)

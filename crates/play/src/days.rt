@@ -42,19 +42,7 @@ const PROGRESS_PLACES: usize = GROOMERS + GROOMERS;
 fn cut_off(x: u16) -> u16
     ensures { (result ≡ cut x) × (result ≤ shift_minutes) }
 {
-    if x < MINUTES {
-        return x;
-    }
-    MINUTES
-}
-
-fn greater(x: u16, y: u16) -> u16
-    ensures { result ≡ max x y }
-{
-    if x < y {
-        return y;
-    }
-    x
+    x.min(MINUTES)
 }
 
 // A turn as a stint, from the minute on which its groomer is free.
@@ -62,12 +50,11 @@ fn stint_by(r: Row, t: u16, delay: u16, free: u16) -> Stint
     requires { (r.start < r.end) × (r.end ≤ shift_minutes) × (delay ≤ most_delay) × (free ≤ shift_minutes) }
     ensures { (result ≡ stint_by r t delay free) × (result.end ≤ shift_minutes) }
 {
-    let begin = greater(r.start, free);
-    let length = r.end - r.start;
+    let begin = r.start.max(free);
     Stint {
         turn: t,
-        begin: begin,
-        end: cut_off(begin + length + delay),
+        begin,
+        end: cut_off(begin + (r.end - r.start) + delay),
     }
 }
 
@@ -167,10 +154,8 @@ fn put_turns(
     ensures { Days (turns_by p cols.now) (choice_in p.count map.now) (delay_in delays.now) table.new }
 {
     let mut progress = [0u16; PROGRESS_PLACES];
-    let mut i = 0;
-    while i < p.count {
-        put_chosen(cols, map, delays, order[i], &mut *table, &mut progress);
-        i += 1;
+    for &u in order {
+        put_chosen(cols, map, delays, u, &mut *table, &mut progress);
     }
 }
 
@@ -186,22 +171,20 @@ pub fn put_days(
     requires playable { Playable (turns_by p cols.now) (choice_in p.count map.now) }
     ensures { Days (turns_by p cols.now) (choice_in p.count map.now) (delay_in delays.now) table.new }
 {
-    let n = p.count;
     let mut places = [0u16; MOST_TURNS];
-    instance::put_order(p, cols, &mut places[..n]);
-    put_turns(p, cols, map, delays, &places[..n], &mut *table);
+    let order = &mut places[..p.count];
+    instance::put_order(p, cols, &mut *order);
+    put_turns(p, cols, map, delays, &*order, &mut *table);
 }
 
 // Whether each of the delays is within its limit.
 pub fn delays_fit(delays: &[u16]) -> bool
     ensures { result ≡ delays_fit delays.now (length delays.now) }
 {
-    let mut i = 0;
-    while i < delays.len() {
-        if MOST_DELAY < delays[i] {
+    for &delay in delays {
+        if MOST_DELAY < delay {
             return false;
         }
-        i += 1;
     }
     true
 }

@@ -29,10 +29,8 @@ pub fn play<'a>(
 {
     let mut table = [MINUTES; DAY_TABLE_PLACES];
     let p = prepare(sheet, board, delays, list.len(), &mut table);
-    let mut m = 0;
-    while m < p.minutes {
+    for m in 0..p.minutes {
         minute(list, &table, p.moved, m);
-        m = m + 1;
     }
     PlayAnswer {
         refusal: p.refusal,

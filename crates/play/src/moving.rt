@@ -10,7 +10,7 @@ use super::days::{OVER_MINUTES, stint_in};
 use play_spec::{Standing, Stint};
 
 // The turn in hand where none is.
-const NO_TURN: u16 = 65535;
+const NO_TURN: u16 = u16::MAX;
 
 // A standing packed into 64 bits, 16 for each: minutes worked, driven over, stood, and the turn in hand.
 const DRIVING_UNIT: u64 = 65536;
@@ -91,9 +91,7 @@ pub fn minute(list: &mut [Standing], table: &[u16], n: usize, m: u16)
     requires { (n ≤ length list.old) × AllReady table.now m n list.old }
     ensures { list.new ≡ minute_of n 0 list.old table.now m }
 {
-    let mut g = 0;
-    while g < n {
+    for g in 0..n {
         list[g] = step(list[g], table, g, m);
-        g = g + 1;
     }
 }

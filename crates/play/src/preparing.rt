@@ -12,6 +12,7 @@ ghost use Rattle.play.specs.Prepared.{PreparedBy, PreparedFor};
 
 use super::days::{DAY_TABLE_PLACES, MINUTES, delays_fit, put_days};
 use instance::{PLACES, Size};
+use refusal::Refusal;
 
 // What is known before the first minute: the answer, and how many minutes are played of how many groomers, none
 // on a refusal.
@@ -45,10 +46,7 @@ fn refused(k: u8) -> Prepared
 fn delays_serve(delays: &[u16], n: usize) -> bool
     ensures { result ≡ serves_for n delays.now }
 {
-    if delays.len() == n {
-        return delays_fit(delays);
-    }
-    false
+    delays.len() == n && delays_fit(delays)
 }
 
 // For a board that passes: the days go into the blank table.
@@ -67,7 +65,7 @@ fn prepare_days(
 {
     if delays_serve(delays, p.count) {
         if lent.places < lent.groomers as usize {
-            return refused(refusal::BUFFER_TOO_SMALL);
+            return refused(Refusal::BufferTooSmall as u8);
         }
         let map = board_open::map(board);
         put_days(p, cols, map, delays, &mut *table);
@@ -78,7 +76,7 @@ fn prepare_days(
             minutes: MINUTES,
         };
     }
-    refused(refusal::BAD_DELAYS)
+    refused(Refusal::BadDelays as u8)
 }
 
 // Judges the board first.
@@ -97,11 +95,10 @@ fn prepare_board(
         (board_choice board.now) delays.now result table.new }
 {
     let mut scratch = [0u16; PLACES];
-    let judgement = check_board::board_fault(board, p, cols, &mut scratch);
-    if judgement.fault != 0 {
-        return refused(judgement.fault);
+    match check_board::board_fault(board, p, cols, &mut scratch) {
+        Err(fault) => refused(u8::from(fault)),
+        Ok(_) => prepare_days(p, cols, lent, board, delays, &mut *table),
     }
-    prepare_days(p, cols, lent, board, delays, &mut *table)
 }
 
 // All that is judged and worked out before the first minute; the days go into the blank table.
@@ -123,7 +120,7 @@ pub fn prepare<'a>(
     let p = instance::shift_size(head.turns);
     let lent = Lent {
         groomers: head.groomers,
-        places: places,
+        places,
     };
     prepare_board(p, &cols, lent, board, delays, &mut *table)
 }

@@ -24,9 +24,7 @@ use Rattle.hall_by_prices_spec.specs.Prices.{minute_price, window_counts, vehicl
 use Rattle.hall_by_prices_spec.proofs.HallLimits.{vehicle_most}
 use Rattle.hall_look.specs.declared.HallSize.{HallSize}
 use Rattle.hall_look.specs.Look.{hall_for, HallPosed}
-use Rattle.price_rule.specs.declared.RuleFor.{RuleFor}
-use Rattle.price_rule.specs.declared.RuleFor.TheVariants.{Shift, Hall}
-use Rattle.price_rule.specs.Rules.{prices_of, rule_limit, RulePosed}
+use Rattle.price_rule.specs.Rules.{RuleFor, Shift, Hall, prices_of, rule_limit, RulePosed}
 
 sum_most : (f : ℕ → ℕ) (most n : ℕ) → ((k : ℕ) → k < n → f k ≤ most) → sum_over f (below n) ≤ n * most
 sum_most f most zero h = omega arith

@@ -9,7 +9,6 @@ use lib.ListN.{length, take, replicate, length-replicate}
 use borrow.Author.Tests.{lt-ltb, le-ltb}
 use Rattle.lists.proofs.Sums.{tab_length}
 use Rattle.turn.specs.Turn.{shift_minutes, most_worth}
-use Rattle.wire.specs.Number.{puts}
 use Rattle.sheet.specs.Kind.{most_turns}
 use Rattle.model.specs.Choice.{chosen, choose_each}
 use Rattle.choice_map.specs.Choice.{map_bytes, choice_in, Clean}
@@ -23,16 +22,13 @@ use Rattle.refine_spec.specs.Selection.{by_worth}
 use Rattle.refine_spec.proofs.Loop.{loop_stops, loop_left, loop_goes, first_same}
 use Rattle.refine_spec.proofs.Shift.{moved_length}
 use Rattle.round_parts.specs.Ranks.{with_chosen}
-use Rattle.round_parts.proofs.RankCases.{all_copied, keys_room, keys_given, list_numbers}
+use Rattle.round_parts.proofs.RankCases.{keys_room, keys_given, list_numbers}
 use Rattle.hall_by_prices_spec.specs.Hall.{moved_minutes}
-use Rattle.price_rule.specs.declared.RuleFor.{RuleFor}
-use Rattle.price_rule.specs.declared.RuleFor.TheVariants.{Shift, Hall}
-use Rattle.price_rule.specs.Rules.{size_of, prices_of, change_of, rule_limit, relaxed_of, fits_of, moved_of, choice_of, rule_worth, round_rule, RulePosed}
+use Rattle.price_rule.specs.Rules.{RuleFor, Shift, Hall, size_of, prices_of, change_of, rule_limit, relaxed_of, fits_of, moved_of, choice_of, rule_worth, round_rule, RulePosed}
 use Rattle.price_rule.proofs.RuleCases.{rule_held, choice_made, choice_worth}
 use Rattle.lists.proofs.Places.{take_zeros}
-use Rattle.price_rounds.specs.declared.Task.{Task}
 use Rattle.price_rounds.specs.declared.Reached.{Reached}
-use Rattle.price_rounds.specs.Rounds.{rounds_from, chosen_from, stage_of, BetterKept, Reaches, RoundsStart, BetweenLooks}
+use Rattle.price_rounds.specs.Rounds.{Task, rounds_from, chosen_from, stage_of, BetterKept, Reaches, RoundsStart, BetweenLooks}
 use Rattle.price_rounds.proofs.FirstLook.{first_limit}
 
 -- ---- the better of two choices
@@ -52,17 +48,14 @@ module _ (r : RuleFor) (cols list best map : List ℕ) (worth : ℕ) {found : �
   pub better_none : found ≤ worth → BetterKept r cols (chosen_from r cols list) (choice_in (size_of r).count best) worth (choice_in (size_of r).count best) worth
   better_none h = let n : ltb worth (rule_worth r cols made) ≡ false = le-ltb worth (rule_worth r cols made) (omega (arith, found_is)) in record { choice_is = rw n; worth_is = rw n }
 
-  pub better_put : {best' : List ℕ} → Clean (size_of r).count best → Clean (size_of r).count map → best' ≡ puts best 0 map → worth < found
+  pub better_put : {best' : List ℕ} → best' ≡ map → worth < found
       → BetterKept r cols (chosen_from r cols list) (choice_in (size_of r).count best) worth (choice_in (size_of r).count best') found
-  better_put c d e h =
+  better_put e h =
       let n : ltb worth (rule_worth r cols made) ≡ true = lt-ltb worth (rule_worth r cols made) (omega (arith, found_is)) in
-      record { choice_is = rw n (ap (choice_in (size_of r).count) (all_copied best map (d.size ∙ sym c.size) e) ∙ made_is); worth_is = rw n found_is }
+      record { choice_is = rw n (ap (choice_in (size_of r).count) e ∙ made_is); worth_is = rw n found_is }
 
-pub better_clean : {n : ℕ} {best map best' : List ℕ} → Clean n best → Clean n map → best' ≡ puts best 0 map → Clean n best'
-better_clean {n} {best} {map} c d e = rw (all_copied best map (d.size ∙ sym c.size) e) d
-
-pub better_room : {n : ℕ} {best map : List ℕ} → Clean n best → Clean n map → 0 + length map ≤ length best
-better_room c d = omega (arith, c.size, d.size)
+pub better_clean : {n : ℕ} {map best' : List ℕ} → Clean n map → best' ≡ map → Clean n best'
+better_clean d e = rw e d
 
 -- a map beside the best so far
 pub rule_few : (r : RuleFor) (cols : List ℕ) → RulePosed r cols → (size_of r).count ≤ most_turns
@@ -74,7 +67,7 @@ map_fits h c = omega (arith, c.size)
 pub map_size : {n : ℕ} {map : List ℕ} → Clean n map → length map ≡ map_bytes n
 map_size c = c.size
 
-pub ruleset better_cases = (better_none, better_put, better_clean, better_room, rule_few, map_fits, map_size)
+pub ruleset better_cases = (better_none, better_put, better_clean, rule_few, map_fits, map_size)
 
 -- ---- at the start
 

@@ -6,21 +6,18 @@ use Rattle.choice_map.specs.Choice.{choice_in, Clean}
 use Rattle.instance.specs.Columns.{column_places, turns_by}
 use Rattle.refine_spec.specs.Rounds.{Stage, start_from, refined}
 use Rattle.refine_spec.specs.Selection.{by_worth}
-use Rattle.shift_look.specs.declared.Extent.{Extent}
-use Rattle.hall_look.specs.declared.HallSize.{HallSize}
-use Rattle.price_rule.specs.declared.RuleFor.{RuleFor}
-use Rattle.price_rule.specs.declared.RuleFor.TheVariants.{Shift, Hall}
-use Rattle.price_rule.specs.Rules.{size_of, prices_of, change_of, fits_of, rule_worth, round_rule, RulePosed, OrderedFor, RowsFor}
+use Rattle.price_rule.specs.Rules.{RuleFor, size_of, prices_of, change_of, fits_of, rule_worth, round_rule, RulePosed, OrderedFor, RowsFor}
 use Rattle.price_rounds.specs.declared.Start.{Start}
-use Rattle.price_rounds.specs.declared.Task.{Task}
 use Rattle.price_rounds.specs.declared.Reached.{Reached}
 
--- what to make rounds for: those of a shift, and those of a hall
-abbrev pub shift_task : Extent → Start → Task
-shift_task e s = record { rule = Shift e; rounds = s.rounds; worth = s.worth }
+-- what to make rounds for: a rule, the most rounds, and the worth of the choice to start from
+pub record Task : Type 0 where
+  pub rule : RuleFor
+  pub rounds : ℕ
+  pub worth : ℕ
 
-abbrev pub hall_task : HallSize → Start → Task
-hall_task h s = record { rule = Hall h; rounds = s.rounds; worth = s.worth }
+abbrev pub task_by : RuleFor → Start → Task
+task_by r s = record { rule = r; rounds = s.rounds; worth = s.worth }
 
 -- at most so many rounds by a rule, from prices of 0 and some choice
 unfoldable pub rounds_from : RuleFor → List ℕ → ℕ → List Bool → Stage

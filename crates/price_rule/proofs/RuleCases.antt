@@ -36,9 +36,7 @@ use Rattle.hall_by_prices_spec.specs.Hall.{moved_minutes}
 use Rattle.hall_look.specs.declared.HallSize.{HallSize}
 use Rattle.hall_look.specs.Look.{hall_for, HallPosed}
 use Rattle.lists.specs.Lists.{keep}
-use Rattle.price_rule.specs.declared.RuleFor.{RuleFor}
-use Rattle.price_rule.specs.declared.RuleFor.TheVariants.{Shift, Hall}
-use Rattle.price_rule.specs.Rules.{size_of, prices_of, change_of, rule_limit, relaxed_of, fits_of, moved_of, choice_of, choosing_list, rule_worth, ShiftPosed, RulePosed, OrderedFor, RowsFor}
+use Rattle.price_rule.specs.Rules.{RuleFor, Shift, Hall, size_of, prices_of, change_of, rule_limit, relaxed_of, fits_of, moved_of, choice_of, choosing_list, rule_worth, ShiftPosed, RulePosed, OrderedFor, RowsFor}
 
 -- ---- for a shift
 

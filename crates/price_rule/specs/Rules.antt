@@ -21,8 +21,12 @@ use Rattle.charge_spec.specs.Hall.{stays_allowed}
 use Rattle.hall_by_prices_spec.specs.Prices.{hall_limit, hall_relaxed}
 use Rattle.hall_by_prices_spec.specs.Hall.{moved_minutes}
 use Rattle.hall_look.specs.Look.{hall_for, HallPosed}
-use Rattle.price_rule.specs.declared.RuleFor.{RuleFor}
-use Rattle.price_rule.specs.declared.RuleFor.TheVariants.{Shift, Hall}
+use Rattle.hall_look.specs.declared.HallSize.{HallSize}
+
+-- whose rule it is: of a shift, or of a hall
+pub data RuleFor : Type 0 where
+  Shift : Extent → RuleFor
+  Hall : HallSize → RuleFor
 
 -- how many turns or windows there are, and the gap between them
 unfoldable pub size_of : RuleFor → Size

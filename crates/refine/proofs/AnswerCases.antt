@@ -44,8 +44,7 @@ use Rattle.lists.proofs.Places.{taken_length}
 use Rattle.plan.proofs.Answers.{plan_room}
 use Rattle.model.proofs.Promised.{planned_length}
 use Rattle.refine.specs.declared.planned.Planned.{Planned}
-use Rattle.price_rule.specs.declared.RuleFor.TheVariants.{Shift}
-use Rattle.price_rule.specs.Rules.{size_of, prices_of, change_of, rule_limit, relaxed_of, fits_of, moved_of, choice_of, rule_worth, round_rule, ShiftPosed, RulePosed}
+use Rattle.price_rule.specs.Rules.{Shift, size_of, prices_of, change_of, rule_limit, relaxed_of, fits_of, moved_of, choice_of, rule_worth, round_rule, ShiftPosed, RulePosed}
 use Rattle.price_rounds.specs.declared.Reached.{Reached}
 use Rattle.price_rounds.specs.Rounds.{rounds_from, Reaches, RoundsStart}
 use Rattle.refine.specs.PlannedBoard.{shift_rounds, PlannedIn}

@@ -26,7 +26,6 @@ use Rattle.refine_spec.specs.Refine.{board_with}
 use Rattle.refine_spec.proofs.Boards.{with_size, with_most}
 use Rattle.plan.proofs.Space.{board_opens, board_header_lem}
 use Rattle.model.proofs.Promised.{planned_length}
-use Rattle.round_parts.proofs.RankCases.{all_copied}
 
 -- ---- what the planned board has
 
@@ -51,18 +50,18 @@ module _ (p : Size) (cols b : List ℕ) (held : Held p cols) (e : b ≡ board_fo
   map_size = ap (λ (l : List ℕ). length l) map_of_lem ∙ map_length (choice T) ∙ ap map_bytes choice_size
 
   module _ (map : List ℕ) (l : length map ≡ map_bytes p.count) where
-    pub plan_room : {m : List ℕ} → m ≡ board_map b → 0 + length m ≤ length map
+    pub plan_room : {m : List ℕ} → m ≡ board_map b → length map ≡ length m
     plan_room h = rw h (omega (arith, map_size))
 
-    module _ {m map' : List ℕ} (h : m ≡ board_map b) (q : map' ≡ puts map 0 m) where
-      copied : map' ≡ map_of (choice T)
-      copied = all_copied map m (rw h (map_size ∙ sym l)) q ∙ h ∙ map_of_lem
+  module _ {m map' : List ℕ} (h : m ≡ board_map b) (q : map' ≡ m) where
+    copied : map' ≡ map_of (choice T)
+    copied = q ∙ h ∙ map_of_lem
 
-      pub plan_choice : choice_in p.count map' ≡ choice (turns_by p cols)
-      plan_choice = rw copied (rw choice_size at (map_choice (choice T)))
+    pub plan_choice : choice_in p.count map' ≡ choice (turns_by p cols)
+    plan_choice = rw copied (rw choice_size at (map_choice (choice T)))
 
-      pub plan_clean : Clean p.count map'
-      plan_clean = rw copied (rw choice_size at (map_clean (choice T)))
+    pub plan_clean : Clean p.count map'
+    plan_clean = rw copied (rw choice_size at (map_clean (choice T)))
 
 pub ruleset plan_cases = (board_opens, board_header_lem, plan_worth, plan_room, plan_choice, plan_clean)
 

@@ -8,7 +8,7 @@ use Rattle.instance.specs.Columns.{turns_by}
 use Rattle.plan_spec.specs.Plan.{board_for}
 use Rattle.refine_spec.specs.Rounds.{Stage}
 use Rattle.shift_look.specs.declared.Extent.{Extent}
-use Rattle.price_rule.specs.declared.RuleFor.TheVariants.{Shift}
+use Rattle.price_rule.specs.Rules.{Shift}
 use Rattle.price_rounds.specs.Rounds.{rounds_from}
 use Rattle.refine.specs.declared.planned.Planned.{Planned}
 

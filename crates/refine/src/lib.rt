@@ -5,7 +5,6 @@
 ghost use Rattle.std.specs.Prelude.{◌≡◌, ◌+◌, ◌≤◌, length};
 ghost use Rattle.model.specs.Choice.{choice};
 ghost use Rattle.board.specs.Board.{board_length};
-ghost use Rattle.instance.specs.Columns.{column_places};
 ghost use Rattle.shift_look.specs.OrdersAndCounts.{turns_in};
 ghost use Rattle.refine_spec.specs.Refine.{refinement_of, refine_of};
 ghost use Rattle.refine_spec.specs.Answer.{refined_by, refine_refused};
@@ -16,8 +15,9 @@ mod planned;
 
 use instance::{MAP_BYTES, PLACES};
 use planned::{plan_board, write_choice};
-use price_rounds::{Start, shift_rounds};
+use price_rounds::{Start, make_rounds};
 use refine_spec::RefineAnswer;
+use refusal::Refusal;
 use shift_look::Extent;
 
 // Plans a board and makes it better by rounds, where the lent places suffice.
@@ -30,7 +30,7 @@ fn refine_with(
     room: &mut [u16; PLACES],
 ) -> RefineAnswer
     requires shift_posed { ShiftPosed e cols.now × (e.slopes + e.size.count ≤ length prices.old) }
-    requires count_in_bounds { (board_length e.size.count e.size.count ≤ length board.old) × (length room.old ≡ column_places) }
+    requires count_in_bounds { board_length e.size.count e.size.count ≤ length board.old }
     ensures { refined_by result board.new prices.new ≡ refinement_of (turns_in e cols.now)
         (shift_rounds e cols.now rounds (choice (turns_in e cols.now))) board.old prices.old }
 {
@@ -40,11 +40,11 @@ fn refine_with(
     let map = &mut space[..size];
     let plan = plan_board(p, cols, &mut *board, &mut *map, &mut *room);
     let start = Start {
-        rounds: rounds,
+        rounds,
         worth: plan.worth,
     };
     let k = e.slopes + p.count;
-    let r = shift_rounds(e, start, cols, &mut prices[..k], &mut *map, &mut *room);
+    let r = make_rounds(e, start, cols, &mut prices[..k], &mut *map, &mut *room);
     write_choice(&mut *board, r.worth, &*map);
     RefineAnswer {
         refusal: 0,
@@ -76,21 +76,20 @@ pub fn refine(s: &[u8], rounds: u32, board: &mut [u8], prices: &mut [u16]) -> Re
     let mut cols = [0u16; PLACES];
     let mut room = [0u16; PLACES];
     let r = instance::load_with(s, &mut cols, &mut room);
-    let fault = r.refusal;
-    if fault != 0 {
-        return refused(fault);
+    if r.refusal != 0 {
+        return refused(r.refusal);
     }
     let n = r.turns;
     if board.len() < board::board_bytes(n, n) {
-        return refused(refusal::BUFFER_TOO_SMALL);
+        return refused(Refusal::BufferTooSmall as u8);
     }
     let slopes = r.slopes as usize;
     if prices.len() < slopes + n as usize {
-        return refused(refusal::BUFFER_TOO_SMALL);
+        return refused(Refusal::BufferTooSmall as u8);
     }
     let e = Extent {
         size: instance::shift_size(n),
-        slopes: slopes,
+        slopes,
     };
     refine_with(e, rounds, &cols, &mut *board, &mut *prices, &mut room)
 }

@@ -4,7 +4,7 @@ ghost use Rattle.wire.specs.Number.{bytes_of, puts};
 ghost use Rattle.model.specs.Choice.{choice, worth_of_choice};
 ghost use Rattle.choice_map.specs.Choice.{map_bytes, choice_in, Clean};
 ghost use Rattle.board.specs.Board.{worth_place, board_header, board_length};
-ghost use Rattle.instance.specs.Columns.{column_places, turns_by, Held};
+ghost use Rattle.instance.specs.Columns.{turns_by, Held};
 ghost use Rattle.plan_spec.specs.Plan.{board_for};
 ghost use Rattle.refine.specs.PlannedBoard.{PlannedIn};
 
@@ -23,8 +23,7 @@ fn copy_choice(p: Size, cols: &[u16; PLACES], b: &[u8], map: &mut [u8]) -> u32
     ensures value { result ≡ worth_of_choice (turns_by p cols.now) (choice (turns_by p cols.now)) }
     ensures map_after { (choice_in p.count map.new ≡ choice (turns_by p cols.now)) × Clean p.count map.new }
 {
-    let planned = board_open::map(b);
-    wire::put_bytes(&mut *map, 0, planned);
+    map.copy_from_slice(board_open::map(b));
     board::worth(b)
 }
 
@@ -37,16 +36,15 @@ pub fn plan_board(
     room: &mut [u16; PLACES],
 ) -> Planned
     requires held { Held p cols.now × (board_length p.count p.count ≤ length out.old) }
-    requires map_len { (length map.old ≡ map_bytes p.count) × (length room.old ≡ column_places) }
+    requires map_len { length map.old ≡ map_bytes p.count }
     ensures planned_in { PlannedIn p cols.now out.old result out.new map.new }
-    ensures room_len { length room.new ≡ column_places }
 {
     let made = plan::write_board(p, cols, &mut *out, &mut *room);
     let bytes = made.bytes as usize;
     let worth = copy_choice(p, cols, &out[..bytes], &mut *map);
     Planned {
         bytes: made.bytes,
-        worth: worth,
+        worth,
     }
 }
 

@@ -3,10 +3,10 @@ use Prim.Native.Nat.{ℕ, ◌+◌, ◌*◌, ◌/◌, ◌≤◌, ◌<◌, max}
 use mathlib.Core.Path.{◌≡◌, refl, ap, ◌∙◌}
 use mathlib.Core.List.{List}
 use native.Mathlib.Omega.{arith}
+use Rattle.std.proofs.Math.Nat.{max_comm}
 use native.Mathlib.Numerals.{add-one}
 use Rattle.lists.specs.Lists.{below}
 use Rattle.turn.specs.Turn.{most_worth}
-use Rattle.sheet.specs.Kind.{most_turns}
 use Rattle.instance.specs.declared.ways.Row.{Row}
 use Rattle.instance.specs.declared.columns.Size.{Size}
 use Rattle.instance.specs.Columns.{row_in, turns_by, Held}
@@ -14,11 +14,11 @@ use Rattle.instance.proofs.Rows.{worth_at}
 use Rattle.refine_spec.specs.Rounds.{next_change, greatest_of}
 use Rattle.refine_spec.specs.Shift.{greatest_worth}
 
-pub next_is : (c : ℕ) {r : ℕ} → r ≡ max 1 (15 * c / 16) → r ≡ next_change c
+pub next_is : (c : ℕ) {r : ℕ} → r ≡ max (15 * c / 16) 1 → r ≡ next_change c
 unfolding next_change
-next_is c e = e
+next_is c e = e ∙ max_comm (15 * c / 16) 1
 
-pub next_most : (c : ℕ) {r : ℕ} → c ≤ most_worth → r ≡ max 1 (15 * c / 16) → r ≤ most_worth
+pub next_most : (c : ℕ) {r : ℕ} → c ≤ most_worth → r ≡ max (15 * c / 16) 1 → r ≤ most_worth
 next_most c l e = omega arith
 
 pub ruleset change_cases = (next_is, next_most)
@@ -35,10 +35,7 @@ module _ (p : Size) (cols : List ℕ) (w : Held p cols) where
   greatest_start = record { within = omega arith; is = refl; most = omega arith }
 
   module _ {t : ℕ} (h : t < p.count) where
-    pub greatest_inside : t < most_turns
-    greatest_inside = omega (arith, w.few)
-
-    pub greatest_more : {g x r : ℕ} {a : Row} → GreatestOf p cols t g → a ≡ row_in cols t → x ≡ a.worth → r ≡ max x g → GreatestOf p cols (t + 1) r
+    pub greatest_more : {g x r : ℕ} {a : Row} → GreatestOf p cols t g → a ≡ row_in cols t → x ≡ a.worth → r ≡ max g x → GreatestOf p cols (t + 1) r
     unfolding greatest_of
     greatest_more s e f q =
         let z = worth_at p cols t h e in
@@ -48,7 +45,4 @@ module _ (p : Size) (cols : List ℕ) (w : Held p cols) where
   unfolding greatest_worth turns_by
   greatest_done {t} h s = let q : t ≡ p.count = omega (arith, s.within) in s.is ∙ ap (λ (n : ℕ). greatest_of (turns_by p cols).worth (below n)) q
 
-  pub greatest_most : {t g : ℕ} → GreatestOf p cols t g → g ≤ most_worth
-  greatest_most s = s.most
-
-pub ruleset greatest_cases = (greatest_start, greatest_inside, greatest_more, greatest_done, greatest_most)
+pub ruleset greatest_cases = (greatest_start, greatest_more, greatest_done)

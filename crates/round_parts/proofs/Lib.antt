@@ -1,4 +1,3 @@
 pub mod RankCases
-pub mod LowerCases
 pub mod ChangeCases
 pub mod WorthCases

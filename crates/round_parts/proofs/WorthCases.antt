@@ -12,7 +12,6 @@ use lib.ListN.{length}
 use Rattle.lists.specs.Lists.{sum_over, below}
 use Rattle.lists.proofs.Sums.{sum_zero, sum_same, sum_split, all_below}
 use Rattle.turn.specs.Turn.{most_worth}
-use Rattle.sheet.specs.Kind.{most_turns}
 use Rattle.model.specs.Turns.{Turns}
 use Rattle.model.specs.Choice.{has, chosen}
 use Rattle.choice_map.specs.Choice.{chosen_in, choice_in, next_chosen, Clean}
@@ -64,20 +63,11 @@ module _ (p : Size) (cols map : List ℕ) (w : Held p cols) (c : Clean p.count m
   next_here : (t : ℕ) {u : ℕ} → u ≡ next_chosen map t → u < p.count → chosen_in map u ≡ true
   next_here t e l = let k : next_chosen map t < 8 * length map = omega (arith, e, clean_bits c) in rw e (next_chosen_lem map t k)
 
-  pub worth_few : length map ≤ 65536
-  worth_few = omega (arith, c.size, w.few)
-
   pub worth_start : {t : ℕ} → t ≡ next_chosen map 0 → t ≤ 8 * length map → WorthTo p cols map 0 t
   unfolding worth_before
   worth_start {t} e l = record { within = l; here = next_here 0 e; is = sym (worth_skip T map 0 t (omega arith) (λ u a b. next_clear map 0 u a (omega (arith, e)))) }
 
   module _ {t : ℕ} (l : t < p.count) where
-    pub worth_place_lem : t < most_turns
-    worth_place_lem = omega (arith, w.few)
-
-    pub worth_next : t + 1 ≤ 8 * length map
-    worth_next = omega (arith, clean_bits c)
-
     pub worth_less : {u : ℕ} → u ≡ next_chosen map (t + 1) → 8 * length map - u < 8 * length map - t
     worth_less e = omega (arith, e, next_from map (t + 1), clean_bits c)
 
@@ -100,4 +90,4 @@ module _ (p : Size) (cols map : List ℕ) (w : Held p cols) (c : Clean p.count m
       k.is ∙ worth_skip T map p.count t l (λ u a b. clear_bits p.count map c.clear u a (omega (arith, k.within, c.size)))
       ∙ sum_same (λ u. cond (chosen_in map u) (T.worth u) 0) (λ u. cond (has (choice_in p.count map) u) (T.worth u) 0) p.count (λ u h. ap (λ (b : Bool). cond b (T.worth u) 0) (sym (choice_has p.count map u h)))
 
-pub ruleset worth_cases = (worth_few, worth_start, worth_place_lem, worth_next, worth_less, worth_fits, worth_more, worth_done)
+pub ruleset worth_cases = (worth_start, worth_less, worth_fits, worth_more, worth_done)

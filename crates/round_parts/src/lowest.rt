@@ -1,8 +1,6 @@
 // The lowest limit so far, and whether the rounds are over.
 ghost use Rattle.std.specs.Prelude.{◌≡◌, cond, ◌||◌, ltb, eqb, length};
 
-use super::ranking::copy_numbers;
-
 // The limit of some prices takes the place of the lowest so far only if it is lower, and these prices that of
 // its list; returns the limit that stays.
 pub fn keep_lower(seen: u32, limit: u32, prices: &[u16], lowest: &mut [u16]) -> u32
@@ -13,7 +11,7 @@ pub fn keep_lower(seen: u32, limit: u32, prices: &[u16], lowest: &mut [u16]) -> 
     if limit <= seen {
         return limit;
     }
-    copy_numbers(prices, &mut *lowest);
+    lowest.copy_from_slice(prices);
     seen
 }
 

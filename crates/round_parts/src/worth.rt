@@ -5,7 +5,6 @@ ghost use Rattle.choice_map.specs.Choice.{choice_in, Clean};
 ghost use Rattle.instance.specs.Columns.{turns_by, Held};
 
 use instance::{PLACES, Size, row_at};
-use numbers::as_u32;
 
 // The worths of the turns that a map has chosen, together; only these are gone through.
 pub fn worth_chosen(p: Size, cols: &[u16; PLACES], map: &[u8]) -> u32
@@ -15,8 +14,7 @@ pub fn worth_chosen(p: Size, cols: &[u16; PLACES], map: &[u8]) -> u32
     let mut sum = 0;
     let mut t = choice_map::next_chosen(map, 0);
     while t < p.count {
-        let row = row_at(cols, t);
-        sum += as_u32(row.worth);
+        sum += u32::from(row_at(cols, t).worth);
         t = choice_map::next_chosen(map, t + 1);
     }
     sum

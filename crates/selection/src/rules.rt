@@ -1,10 +1,10 @@
 // The rules for a choice that is held in a choice map: no two chosen turns conflict, and no further turn
 // fits beside them. Also the worth of a choice.
-ghost use Rattle.std.specs.Prelude.{◌≡◌, cond, ◌<◌, length, replicate};
+ghost use Rattle.std.specs.Prelude.{◌≡◌, cond, ◌<◌, replicate};
 ghost use Rattle.model.specs.Choice.{has, chosen};
 ghost use Rattle.model.specs.Rules.{independent, maximal};
 ghost use Rattle.choice_map.specs.Choice.{choice_in};
-ghost use Rattle.instance.specs.Columns.{column_places, slope_places, turns_by};
+ghost use Rattle.instance.specs.Columns.{slope_places, turns_by};
 ghost use Rattle.selection.specs.Bounds.{HeldWithMap};
 ghost use Rattle.selection.specs.Gathered.{Gathered};
 
@@ -14,23 +14,17 @@ use instance::{PLACES, SLOPES, Size, row_at};
 // Whether no two chosen turns conflict: each must fit beside those of lower numbers. Their rows are
 // gathered in the lent columns.
 pub fn is_independent(p: Size, cols: &[u16; PLACES], map: &[u8], rows: &mut [u16; PLACES]) -> bool
-    requires { HeldWithMap p cols.now map.now × (length rows.old ≡ column_places) }
-    ensures value { result ≡ independent (turns_by p cols.now) (choice_in p.count map.now) }
-    ensures rows_len { length rows.new ≡ column_places }
+    requires { HeldWithMap p cols.now map.now }
+    ensures { result ≡ independent (turns_by p cols.now) (choice_in p.count map.now) }
 {
-    let n = p.count;
     let mut flags = [0u8; SLOPES];
     let mut c = 0;
-    let mut x = 0;
-    while x < n {
+    for x in 0..p.count {
         if choice_map::is_chosen(map, x) {
             if !gather_if_fits(p.gap, &mut *rows, &mut flags, c, row_at(cols, x)) {
                 return false;
             }
             c += 1;
-            x += 1;
-        } else {
-            x += 1;
         }
     }
     true
@@ -44,18 +38,14 @@ fn gather_chosen(
     rows: &mut [u16; PLACES],
     flags: &mut [u8; SLOPES],
 ) -> usize
-    requires { HeldWithMap p cols.now map.now × (length rows.old ≡ column_places) × (flags.old ≡ replicate slope_places 0) }
+    requires { HeldWithMap p cols.now map.now × (flags.old ≡ replicate slope_places 0) }
     ensures { Gathered (turns_by p cols.now) (choice_in p.count map.now) p.count result rows.new flags.new }
 {
     let mut c = 0;
-    let mut x = 0;
-    while x < p.count {
+    for x in 0..p.count {
         if choice_map::is_chosen(map, x) {
             gather_row(&mut *rows, &mut *flags, c, row_at(cols, x));
             c += 1;
-            x += 1;
-        } else {
-            x += 1;
         }
     }
     c
@@ -73,16 +63,9 @@ fn are_settled(
     requires { HeldWithMap p cols.now map.now × Gathered (turns_by p cols.now) (choice_in p.count map.now) p.count c rows.now flags.now }
     ensures { result ≡ maximal (turns_by p cols.now) (choice_in p.count map.now) }
 {
-    let n = p.count;
-    let mut t = 0;
-    while t < n {
-        if choice_map::is_chosen(map, t) {
-            t += 1;
-        } else {
-            if fits_beside(p.gap, rows, flags, c, row_at(cols, t)) {
-                return false;
-            }
-            t += 1;
+    for t in 0..p.count {
+        if !choice_map::is_chosen(map, t) && fits_beside(p.gap, rows, flags, c, row_at(cols, t)) {
+            return false;
         }
     }
     true
@@ -91,9 +74,8 @@ fn are_settled(
 // Whether every turn is chosen or conflicts with a chosen one. The rows of the chosen turns are gathered
 // in the lent columns.
 pub fn is_maximal(p: Size, cols: &[u16; PLACES], map: &[u8], rows: &mut [u16; PLACES]) -> bool
-    requires { HeldWithMap p cols.now map.now × (length rows.old ≡ column_places) }
-    ensures value { result ≡ maximal (turns_by p cols.now) (choice_in p.count map.now) }
-    ensures rows_len { length rows.new ≡ column_places }
+    requires { HeldWithMap p cols.now map.now }
+    ensures { result ≡ maximal (turns_by p cols.now) (choice_in p.count map.now) }
 {
     let mut flags = [0u8; SLOPES];
     let c = gather_chosen(p, cols, map, &mut *rows, &mut flags);
@@ -117,12 +99,9 @@ pub fn chosen_worth(p: Size, cols: &[u16; PLACES], map: &[u8]) -> u32
     requires { HeldWithMap p cols.now map.now }
     ensures { result ≡ chosen p.count (choice_in p.count map.now) (turns_by p cols.now).worth }
 {
-    let n = p.count;
     let mut sum: u32 = 0;
-    let mut t = 0;
-    while t < n {
+    for t in 0..p.count {
         sum += worth_if_chosen(p, cols, map, t);
-        t += 1;
     }
     sum
 }

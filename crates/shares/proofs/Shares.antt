@@ -6,9 +6,7 @@ use Prim.Native.Nat.{ℕ, ◌+◌, ◌-◌, ◌*◌, ◌/◌, ◌≤◌, ◌<◌
 use native.Mathlib.Omega.{arith}
 use native.Mathlib.Nat.{div-add-mod', mul-le-mul_right, lt_of_mul-lt-mul_left}
 use lib.IntN.{ℤ}
-use lib.ListN.{length, get_or, set, length-set}
-use mir.Syntax.{w16, w32}
-use mir.Val.{Fits}
+use lib.ListN.{get_or, set, length-set}
 use borrow.Author.Tests.{eq-eqb, ne_eqb}
 use Rattle.lists.proofs.Places.{put_more}
 use Rattle.turn.specs.Turn.{most_worth}
@@ -24,7 +22,7 @@ use Rattle.local_ratio.proofs.Blocks.{stepped_none, stepped_more, stepped_done}
 use Rattle.local_ratio.proofs.Steps.{closed_after}
 use Rattle.charge_spec.specs.Hall.{hall_gap, most_units, same_vehicle, share_minute}
 use Rattle.charge_spec.specs.Plan.{rounded_up, small_takes}
-use Rattle.shares.specs.Taking.{hall_by, row_takes, share_places, SharesTo, SharesBy, HalfDraws}
+use Rattle.shares.specs.Taking.{hall_by, row_takes, SharesTo, SharesBy, HalfDraws}
 
 -- ---- a share of the amount
 
@@ -32,36 +30,21 @@ module _ (units draw amount : ℕ) {d m u : ℕ} (e : d ≡ draw) (f : m ≡ amo
   by_units : 2 * d * m ≤ u * m
   by_units = mul-le-mul_right m (omega arith)
 
-  at_most : u * m ≤ 65535 * m
-  at_most = mul-le-mul_right m (omega arith)
-
-  pub share_whole : Fits w32 (2 * d * m)
-  share_whole = omega (arith, by_units, at_most)
-
-  pub share_sum : Fits w32 (2 * d * m + (u - 1))
-  share_sum = omega (arith, by_units, at_most)
-
   module _ (n : 1 ≤ units) where
     pub share_least : (2 * d * m + (u - 1)) / u ≤ amount
     share_least =
         let below : u * ((2 * d * m + (u - 1)) / u) < u * (m + 1) = omega (arith, div-add-mod' (2 * d * m + (u - 1)) u, by_units) in
         omega (arith, lt_of_mul-lt-mul_left u below)
 
-    pub share_fits : Fits w16 ((2 * d * m + (u - 1)) / u)
-    share_fits = omega (arith, share_least)
-
   pub share_rounded : (2 * d * m + (u - 1)) / u ≡ rounded_up (2 * draw * amount) units
   unfolding rounded_up
   share_rounded = rw (e, f, g)
 
-pub ruleset share_cases = (share_whole, share_sum, share_least, share_fits, share_rounded)
+pub ruleset share_cases = (share_least, share_rounded)
 
 -- ---- the table of shares
 
 module _ (units amount : ℕ) where
-  pub table_start : (shares : List ℕ) → length shares ≡ share_places → SharesTo units amount 0 shares
-  table_start shares l = record { places = l; each = λ d h. absurd (omega arith) }
-
   pub table_more : (k : ℕ) (shares : List ℕ) {share : ℕ} → 2 * k ≤ units → units ≤ most_units → share ≡ rounded_up (2 * k * amount) units → share ≤ amount → SharesTo units amount k shares → SharesTo units amount (k + 1) (set shares k share)
   table_more k shares {share} h u e f c =
       record {
@@ -70,11 +53,6 @@ module _ (units amount : ℕ) where
             put_more (λ d x. 2 * d ≤ units → (x ≡ rounded_up (2 * d * amount) units) × (x ≤ amount)) shares k share
             (omega (arith, c.places)) c.each (λ m. (e, f));
       }
-
-  pub table_done : (k : ℕ) (shares : List ℕ) → units < 2 * k → SharesTo units amount k shares → SharesBy units amount shares
-  table_done k shares h c = record { places = c.places; each = λ d m. c.each d (omega arith) m }
-
-pub ruleset table_cases = (table_start, table_more, table_done)
 
 -- ---- from one window
 

@@ -15,7 +15,6 @@ ghost use Rattle.shares.specs.Taking.{hall_by, row_takes, SharesBy, HalfDraws};
 
 use instance::{PLACES, Row, Size, overlap, row_at};
 use local_ratio::{lessen, value_if};
-use numbers::as_u32;
 
 // The free minutes between two windows: none.
 pub const HALL_GAP: u16 = 0;
@@ -36,8 +35,8 @@ fn share_of(units: u16, draw: u16, amount: u16) -> u16
     requires { (1 ≤ units) × (2 * draw ≤ units) × (amount ≤ most_worth) }
     ensures { (result ≡ rounded_up (2 * draw * amount) units) × (result ≤ amount) }
 {
-    let whole = 2 * as_u32(draw) * as_u32(amount);
-    let by = as_u32(units);
+    let whole = 2 * u32::from(draw) * u32::from(amount);
+    let by = u32::from(units);
     ((whole + (by - 1)) / by) as u16
 }
 
@@ -48,11 +47,8 @@ fn shares_of(units: u16, amount: u16) -> [u16; SHARES]
     ensures { SharesBy units amount result }
 {
     let mut shares = [0u16; SHARES];
-    let mut draw: u16 = 0;
-    while 2 * draw <= units {
-        let share = share_of(units, draw, amount);
-        shares[draw as usize] = share;
-        draw += 1;
+    for draw in 0..=units / 2 {
+        shares[draw as usize] = share_of(units, draw, amount);
     }
     shares
 }
@@ -63,10 +59,9 @@ fn take_of(s: Share, x: Row, y: Row, shares: &[u16; SHARES]) -> u16
     requires { SharesBy s.units s.amount shares.now × (2 * y.groomer ≤ s.units) × (s.units ≤ most_units) }
     ensures { (result ≡ row_takes s.units x s.amount y) × (result ≤ s.amount) }
 {
-    let draw = y.groomer as usize;
     let part = value_if(
         overlap(HALL_GAP, x.start, x.end, y.start, y.end),
-        shares[draw],
+        shares[y.groomer as usize],
     );
     if x.slope == y.slope { s.amount } else { part }
 }
@@ -79,14 +74,10 @@ pub fn apply_shares(residuals: &mut [i32], p: Size, cols: &[u16; PLACES], s: Sha
         (record { turn = s.turn; amount = s.amount }) }
     ensures residuals_2 { Residuals p.count residuals.new × ClosedTo from residuals.new }
 {
-    let j = s.turn;
-    let x = row_at(cols, j);
+    let x = row_at(cols, s.turn);
     let shares = shares_of(s.units, s.amount);
-    let mut t = from;
-    while t < p.count {
-        let y = row_at(cols, t);
-        let less = take_of(s, x, y, &shares);
+    for t in from..p.count {
+        let less = take_of(s, x, row_at(cols, t), &shares);
         lessen(&mut *residuals, t, less);
-        t += 1;
     }
 }

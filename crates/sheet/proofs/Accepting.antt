@@ -19,9 +19,8 @@ use Rattle.wire.proofs.Numbers.{value_read, bytes_rest}
 use Rattle.turn.specs.declared.Turn.{Turn}
 use Rattle.turn.specs.declared.Counts.{Counts}
 use Rattle.turn.specs.Turn.{row_numbers, Numbered}
-use Rattle.sheet.specs.declared.kind.Kind.{Kind}
 use Rattle.sheet.specs.declared.record.Cursor.{Cursor}
-use Rattle.sheet.specs.Kind.{most_turns, shift_sheet, ThreeBytes, three, Sound}
+use Rattle.sheet.specs.Kind.{Kind, most_turns, shift_sheet, ThreeBytes, three, Sound}
 use Rattle.sheet.specs.Record.{record_causes, cursor_after, first_cursor}
 use Rattle.sheet.specs.Read.{header_bytes, counts_in, turn_count, count_causes, header_causes, records_causes, turns_from, turns_of, causes_for, read_causes_for, read_for, sheet_causes, read_of}
 use Rattle.sheet.specs.Layout.{header_for}

@@ -6,9 +6,8 @@ use borrow.Author.Tests.{le-ltb}
 use Rattle.refusal.specs.Cause.{Cause, first_of}
 use Rattle.turn.specs.declared.Counts.{Counts}
 use Rattle.turn.specs.Turn.{turn_causes}
-use Rattle.sheet.specs.declared.kind.Kind.{Kind}
 use Rattle.sheet.specs.declared.record.Cursor.{Cursor}
-use Rattle.sheet.specs.Kind.{with_turns}
+use Rattle.sheet.specs.Kind.{Kind, with_turns}
 use Rattle.sheet.specs.Record.{cursor_after, record_causes, first_cursor}
 use Rattle.sheet.specs.Read.{counts_in, turn_count, count_causes, header_causes, records_causes, causes_for, read_causes_for, answer_for, read_for}
 use Rattle.refusal.proofs.Outcome.{unless_same}

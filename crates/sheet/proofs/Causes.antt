@@ -13,8 +13,7 @@ use Rattle.refusal.proofs.Places.{cause_at, there_at, at_there, there_left, ther
 use Rattle.wire.specs.Mark.{opens_with}
 use Rattle.turn.specs.Turn.{most_worth, most_driver, turn_causes}
 use Rattle.turn.proofs.Ranges.{outside_iff, past_iff}
-use Rattle.sheet.specs.declared.kind.Kind.{Kind}
-use Rattle.sheet.specs.Kind.{shift_sheet, ThreeBytes}
+use Rattle.sheet.specs.Kind.{Kind, shift_sheet, ThreeBytes}
 use Rattle.sheet.specs.Record.{width_of, end_at, first_cursor, record_causes}
 use Rattle.sheet.specs.Read.{header_bytes, counts_in, turn_count, count_causes, header_causes, records_causes, causes_for, sheet_causes}
 use Rattle.sheet.proofs.SoundKinds.{shift_sheet_sound, mark_iff}

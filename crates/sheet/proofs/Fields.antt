@@ -18,7 +18,7 @@ use Rattle.turn.specs.declared.Turn.{Turn}
 use Rattle.turn.specs.declared.Counts.{Counts}
 use Rattle.turn.specs.Turn.{InRange, Numbered}
 use Rattle.turn.proofs.Ranges.{in_range_fine, fine_in_range}
-use Rattle.sheet.specs.declared.kind.Kind.{Kind}
+use Rattle.sheet.specs.Kind.{Kind}
 use Rattle.sheet.specs.declared.record.Cursor.{Cursor}
 use Rattle.sheet.specs.Record.{width_of, record_bytes, field, turn_from, bad_map_for, map_at, end_at, turn_at, record_causes}
 use Rattle.sheet.specs.Layout.{field_bytes, record_of}

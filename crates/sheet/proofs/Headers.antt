@@ -6,7 +6,7 @@ use mathlib.Core.List.{List, []}
 use native.Mathlib.Omega.{arith}
 use lib.ListN.{length}
 use lib.Dec.{ltb}
-use borrow.Author.Tests.{eq-eqb, ne_eqb, lt-ltb, le-ltb, ltb-false, not-false}
+use borrow.Author.Tests.{lt-ltb, le-ltb, ltb-false, not-false}
 use Rattle.refusal.specs.Number.{truncated, bad_magic}
 use Rattle.refusal.specs.Cause.{◌when◌, first_of}
 use Rattle.refusal.proofs.Order.{numbered, clear_cons}
@@ -15,12 +15,9 @@ use Rattle.wire.specs.Mark.{opens_with}
 use Rattle.turn.specs.declared.Counts.{Counts}
 use Rattle.turn.specs.Turn.{counts_of, outside_range, Numbered}
 use Rattle.turn.proofs.Ranges.{inside_iff}
-use Rattle.sheet.specs.declared.kind.Kind.{Kind}
-use Rattle.sheet.specs.declared.header.Header.{Header}
-use Rattle.sheet.specs.declared.header.Header.TheVariants.{Found, Refused}
-use Rattle.sheet.specs.Read.{header_bytes, counts_in, turn_count, count_causes, header_causes, header_of, counts_header}
+use Rattle.sheet.specs.Kind.{Kind}
+use Rattle.sheet.specs.Read.{header_bytes, counts_in, turn_count, count_causes, header_causes}
 use Rattle.sheet.specs.Accepted.{Legal}
-use Rattle.refusal.specs.Outcome.{unless}
 
 -- ---- the counts, from wherever they come
 
@@ -72,29 +69,27 @@ module _ (K : Kind) (counts : Counts) (n : ℕ) where
 
 -- ---- the header of a sheet
 
-module _ (K : Kind) (s : List ℕ) {g k n f : ℕ} (p : g ≡ value_at s 3 1) (q : k ≡ value_at s 4 1) (r : n ≡ value_at s 5 2) (e : f ≡ first_of (count_causes K (counts_of g k) n)) where
-  pub counts_refused : (f ≡ 0 → ⊥) → Refused f ≡ counts_header K s
-  unfolding counts_header unless
-  counts_refused z = rw (← p, ← q, ← r, ← e, ne_eqb f 0 z)
+module _ (K : Kind) (s : List ℕ) {g k n : ℕ} (p : g ≡ value_at s 3 1) (q : k ≡ value_at s 4 1) (r : n ≡ value_at s 5 2) where
+  pub counts_judged : {f : ℕ} → f ≡ first_of (count_causes K (counts_of g k) n) → f ≡ first_of (count_causes K (counts_in s) (turn_count s))
+  counts_judged e = rw (← p, ← q, ← r) e
 
-  pub counts_found : f ≡ 0 → Found (counts_of g k) n ≡ counts_header K s
-  unfolding counts_header unless
-  counts_found z = rw (← p, ← q, ← r, ← e, eq-eqb f 0 z)
+  pub counts_found : counts_of g k ≡ counts_in s
+  counts_found = rw (p, q)
 
-pub ruleset counts_cases = (counts_refused, counts_found)
+pub ruleset counts_cases = (counts_judged, counts_found)
 
 module _ (K : Kind) (s : List ℕ) where
-  pub header_short : length s < header_bytes → Refused truncated ≡ header_of K s
-  unfolding header_of header_causes first_of unless
+  pub header_short : length s < header_bytes → truncated ≡ first_of (header_causes K s)
+  unfolding header_causes first_of
   header_short h = rw (lt-ltb (length s) header_bytes h)
 
   module _ {m : Bool} (h : header_bytes ≤ length s) (e : m ≡ opens_with K.mark s) where
-    pub header_mark : m ≡ false → Refused bad_magic ≡ header_of K s
-    unfolding header_of header_causes first_of unless
+    pub header_mark : m ≡ false → bad_magic ≡ first_of (header_causes K s)
+    unfolding header_causes first_of
     header_mark f = rw (le-ltb (length s) header_bytes h, ← e, f)
 
-    pub header_counts : {r : Header} → m ≡ true → r ≡ counts_header K s → r ≡ header_of K s
-    unfolding header_of header_causes first_of counts_header unless
+    pub header_counts : {f : ℕ} → m ≡ true → f ≡ first_of (count_causes K (counts_in s) (turn_count s)) → f ≡ first_of (header_causes K s)
+    unfolding header_causes first_of
     header_counts t k = rw (le-ltb (length s) header_bytes h, ← e, t) k
 
 pub ruleset header_cases = (header_short, header_mark, header_counts)

@@ -9,8 +9,7 @@ use lib.Seq.{take_at, drop_at}
 use Rattle.refusal.specs.Number.{too_many_turns, too_many_for_short}
 use Rattle.wire.specs.Number.{Bytes}
 use Rattle.turn.specs.Turn.{row_numbers}
-use Rattle.sheet.specs.declared.kind.Kind.{Kind}
-use Rattle.sheet.specs.Kind.{shift_sheet, with_turns, most_turns, Sound}
+use Rattle.sheet.specs.Kind.{Kind, shift_sheet, with_turns, most_turns, Sound}
 use Rattle.sheet.specs.Read.{turn_count, table_of, causes_for, read_causes_for, read_for, read_of, Reading}
 use Rattle.refusal.specs.Written.{at_front}
 use Rattle.sheet.specs.Promises.{ReadPromisedFor}

@@ -15,9 +15,8 @@ use Rattle.wire.specs.Number.{value_of, bytes_at, value_at}
 use Rattle.wire.specs.Mark.{opens_with}
 use Rattle.turn.specs.declared.Turn.{Turn}
 use Rattle.turn.specs.declared.Counts.{Counts}
-use Rattle.sheet.specs.declared.kind.Kind.{Kind}
 use Rattle.sheet.specs.declared.record.Cursor.{Cursor}
-use Rattle.sheet.specs.Kind.{most_turns, shift_sheet, Sound}
+use Rattle.sheet.specs.Kind.{Kind, most_turns, shift_sheet, Sound}
 use Rattle.sheet.specs.Record.{record_bytes, field, turn_from, map_at, end_at, turn_at, cursor_after, record_causes, first_cursor}
 use Rattle.sheet.specs.Read.{header_bytes, counts_in, turn_count, header_causes, records_causes, causes_for, sheet_causes}
 use Rattle.sheet.proofs.SoundKinds.{shift_sheet_sound}

@@ -8,8 +8,7 @@ use lib.Seq.{take_at, drop_at}
 use Rattle.wire.specs.Number.{Bytes}
 use Rattle.turn.specs.Turn.{row_numbers, rows}
 use Rattle.turn.proofs.Rows.{rows_length}
-use Rattle.sheet.specs.declared.kind.Kind.{Kind}
-use Rattle.sheet.specs.Kind.{shift_sheet, Sound}
+use Rattle.sheet.specs.Kind.{Kind, shift_sheet, Sound}
 use Rattle.sheet.specs.Read.{turn_count, table_of, read_refused, read_answer, read_causes_for, read_for, read_of, Reading}
 use Rattle.refusal.specs.Written.{at_front}
 use Rattle.sheet.specs.Accepted.{AcceptedFor}

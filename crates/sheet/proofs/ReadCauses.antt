@@ -8,9 +8,8 @@ use lib.ListN.{length}
 use Rattle.refusal.specs.Cause.{first_of, ◌when◌, FirstAmong}
 use Rattle.turn.specs.declared.Counts.{Counts}
 use Rattle.turn.specs.Turn.{row_numbers, turn_causes}
-use Rattle.sheet.specs.declared.kind.Kind.{Kind}
 use Rattle.sheet.specs.declared.record.Cursor.{Cursor}
-use Rattle.sheet.specs.Kind.{shift_sheet, Sound}
+use Rattle.sheet.specs.Kind.{Kind, shift_sheet, Sound}
 use Rattle.sheet.specs.Record.{cursor_after, first_cursor, record_causes}
 use Rattle.sheet.specs.Read.{counts_in, turn_count, count_causes, header_causes, records_causes, causes_for, read_causes_for, read_for, sheet_causes, read_of, Reading}
 use Rattle.sheet.specs.Accepted.{place_of, LentCauseFor, ReadCauseFor, LentCause, FirstReadCause, CauseFor, SheetCause, MoreCauseFor, MoreCause}

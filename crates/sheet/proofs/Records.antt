@@ -14,11 +14,9 @@ use Rattle.turn.specs.declared.Turn.{Turn}
 use Rattle.turn.specs.declared.Counts.{Counts}
 use Rattle.turn.specs.Turn.{turn_causes}
 use Rattle.sheet.specs.declared.kind.Maps.{Maps}
-use Rattle.sheet.specs.declared.kind.Kind.{Kind}
+use Rattle.sheet.specs.Kind.{Kind}
 use Rattle.sheet.specs.declared.record.Cursor.{Cursor}
-use Rattle.sheet.specs.declared.record.Next.TheVariants.{Read, Refused}
-use Rattle.sheet.specs.Record.{width_of, field, turn_from, bad_map_for, end_at, turn_at, cursor_after, record_causes, next_of}
-use Rattle.refusal.specs.Outcome.{unless}
+use Rattle.sheet.specs.Record.{width_of, field, turn_from, bad_map_for, end_at, turn_at, cursor_after, record_causes}
 
 -- ---- a field, at every width
 
@@ -66,27 +64,33 @@ pub ruleset map_cases = (map_above, map_later, map_least, map_other)
 -- ---- the record at a cursor
 
 module _ (K : Kind) (s : List ℕ) (limits : Counts) (c : Cursor) where
-  pub next_no_map : length s ≤ c.at → Refused truncated ≡ next_of K s limits c
-  unfolding next_of record_causes first_of unless
+  pub next_no_map : length s ≤ c.at → truncated ≡ first_of (record_causes K s limits c)
+  unfolding record_causes first_of
   next_no_map h = rw (le-leb (length s) c.at h)
 
   module _ {b : Bool} (h : c.at < length s) (e : b ≡ bad_map_for K.maps c.first (get_or s c.at 0)) where
-    pub next_bad_map : b ≡ true → Refused bad_map ≡ next_of K s limits c
-    unfolding next_of record_causes first_of unless
+    pub next_bad_map : b ≡ true → bad_map ≡ first_of (record_causes K s limits c)
+    unfolding record_causes first_of
     next_bad_map t = rw (lt-leb (length s) c.at h, ← e, t)
 
     module _ {w : ℕ} (f : b ≡ false) (g : w ≡ width_of (get_or s c.at 0)) where
-      pub next_cut : length s < c.at + 1 + w → Refused truncated ≡ next_of K s limits c
-      unfolding next_of record_causes first_of end_at unless
+      pub next_cut : length s < c.at + 1 + w → truncated ≡ first_of (record_causes K s limits c)
+      unfolding record_causes first_of end_at
       next_cut k = rw (lt-leb (length s) c.at h, ← e, f, ← g, lt-ltb (length s) (c.at + 1 + w) k)
 
-      module _ {t : Turn} {n : ℕ} (k : c.at + 1 + w ≤ length s) (p : t ≡ turn_from s (c.at + 1) (get_or s c.at 0) c.prev) (q : n ≡ first_of (turn_causes K.refusals limits t)) where
-        pub next_fault : (n ≡ 0 → ⊥) → Refused n ≡ next_of K s limits c
-        unfolding next_of record_causes first_of end_at turn_at unless
-        next_fault z = rw (lt-leb (length s) c.at h, ← e, f, ← g, le-ltb (length s) (c.at + 1 + w) k, ← p, ← q, ne_eqb n 0 z)
+      module _ {t : Turn} (k : c.at + 1 + w ≤ length s) (p : t ≡ turn_from s (c.at + 1) (get_or s c.at 0) c.prev) where
+        pub next_judged : {n : ℕ} → n ≡ first_of (turn_causes K.refusals limits t) → n ≡ first_of (record_causes K s limits c)
+        unfolding record_causes first_of end_at turn_at
+        next_judged q = rw (lt-leb (length s) c.at h, ← e, f, ← g, le-ltb (length s) (c.at + 1 + w) k, ← p) q
 
-        pub next_read : n ≡ 0 → Read t (record { at = c.at + 1 + w; first = false; prev = t }) ≡ next_of K s limits c
-        unfolding next_of record_causes first_of end_at turn_at cursor_after unless
-        next_read z = rw (lt-leb (length s) c.at h, ← e, f, ← g, le-ltb (length s) (c.at + 1 + w) k, ← p, ← q, eq-eqb n 0 z)
+-- what is read, and the cursor behind it
+module _ (s : List ℕ) (c : Cursor) {t : Turn} (p : t ≡ turn_from s (c.at + 1) (get_or s c.at 0) c.prev) where
+  pub next_turn : t ≡ turn_at s c
+  unfolding turn_at
+  next_turn = p
 
-pub ruleset next_cases = (next_no_map, next_bad_map, next_cut, next_fault, next_read)
+  pub next_cursor : {w : ℕ} → w ≡ width_of (get_or s c.at 0) → ◌≡◌ {A = Cursor} (record { at = c.at + 1 + w; first = false; prev = t }) (cursor_after s c)
+  unfolding cursor_after end_at turn_at
+  next_cursor g = rw (g, p)
+
+pub ruleset next_cases = (next_no_map, next_bad_map, next_cut, next_judged, next_turn, next_cursor)

@@ -8,8 +8,7 @@ use native.Mathlib.Omega.{arith}
 use lib.ListN.{take}
 use Rattle.wire.specs.Mark.{opens_with}
 use Rattle.wire.proofs.Marks.{opens_iff}
-use Rattle.sheet.specs.declared.kind.Kind.{Kind}
-use Rattle.sheet.specs.Kind.{shift_sheet, ThreeBytes, three, Sound}
+use Rattle.sheet.specs.Kind.{Kind, shift_sheet, ThreeBytes, three, Sound}
 
 pub shift_sheet_sound : Sound shift_sheet
 unfolding shift_sheet

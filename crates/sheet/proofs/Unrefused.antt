@@ -8,8 +8,7 @@ use native.Mathlib.Decide.{dec_lt, ℕ_discrete}
 use Rattle.refusal.specs.Cause.{first_of}
 use Rattle.refusal.proofs.Order.{none_given, clear_append}
 use Rattle.turn.specs.Turn.{turn_in, InRange, shift_minutes, most_worth, most_driver}
-use Rattle.sheet.specs.declared.kind.Kind.{Kind}
-use Rattle.sheet.specs.Kind.{most_groomers, most_slopes, most_turns, shift_sheet, Sound}
+use Rattle.sheet.specs.Kind.{Kind, most_groomers, most_slopes, most_turns, shift_sheet, Sound}
 use Rattle.sheet.specs.Read.{counts_in, turn_count, header_causes, causes_for, sheet_causes, table_of}
 use Rattle.sheet.specs.Accepted.{Legal, CauseFor, slope, groomer, time, worth, driver, turn_of, Outside}
 use Rattle.sheet.proofs.SoundKinds.{shift_sheet_sound}

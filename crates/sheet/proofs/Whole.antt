@@ -1,19 +1,15 @@
 -- What reading into a table with places for every sheet gives: the answer is the sheet's own. Assumes nothing.
-use Prim.Native.Nat.{ℕ, ◌+◌, ◌*◌, ◌<◌, ◌≤◌}
-use mathlib.Core.Path.{◌≡◌, refl, sym, ◌∙◌, ap}
-use mathlib.Core.List.{List, ◌∷◌}
+use Prim.Native.Nat.{ℕ, ◌*◌, ◌<◌, ◌≤◌}
+use mathlib.Core.Path.{◌≡◌, refl, sym, ◌∙◌, ap, ap₂}
+use mathlib.Core.List.{List, ◌++◌}
 use native.Mathlib.Omega.{arith}
-use native.Mathlib.Numerals.{add-one}
-use lib.ListN.{length, get_or, set, take, drop, length-append}
-use lib.Seq.{take_at, drop-cons, drop-length}
+use lib.ListN.{length, take, drop, length-append}
+use lib.Seq.{take_at}
 use Rattle.refusal.specs.Number.{buffer_too_small}
 use Rattle.refusal.specs.Cause.{first_of}
-use Rattle.wire.specs.Number.{puts}
-use Rattle.wire.proofs.Puts.{puts_front}
 use Rattle.turn.specs.Turn.{row_numbers}
-use Rattle.sheet.specs.declared.kind.Kind.{Kind}
 use Rattle.sheet.specs.declared.answer.ReadAnswer.{ReadAnswer}
-use Rattle.sheet.specs.Kind.{most_turns, shift_sheet, Sound}
+use Rattle.sheet.specs.Kind.{Kind, most_turns, shift_sheet, Sound}
 use Rattle.sheet.specs.Read.{turn_count, table_of, causes_for, read_causes_for, read_refused, read_answer, answer_for, read_for, sheet_causes, answer_of, read_of, Reading}
 use Rattle.refusal.specs.Written.{at_front}
 use Rattle.sheet.proofs.SoundKinds.{shift_sheet_sound, shift_sheet_given}
@@ -58,15 +54,6 @@ module _ (K : Kind) (s : List ℕ) {a : ReadAnswer} (e : a ≡ answer_for K s) w
 
 -- ---- the reader: from its own table to the lent one
 
-module _ (l numbers : List ℕ) (i : ℕ) where
-  pub front_more : {z : List ℕ} → i < length numbers → puts l i (drop i numbers) ≡ z → puts (set l i (get_or numbers i 0)) (i + 1) (drop (i + 1) numbers) ≡ z
-  front_more h e = let d : drop i numbers ≡ get_or numbers i 0 ∷ drop (i + 1) numbers = rw add-one (drop-cons numbers i 0 h) in rw d at e
-
-  pub front_done : {z : List ℕ} → length numbers ≤ i → i ≤ length numbers → puts l i (drop i numbers) ≡ z → l ≡ z
-  front_done h k e = let q : i ≡ length numbers = omega arith in rw (q, drop-length numbers) at e
-
-pub ruleset front_cases = (front_more, front_done)
-
 module _ (K : Kind) (s lent : List ℕ) {a : ReadAnswer} (e : a ≡ answer_for K s) where
   pub read_fault : (a.refusal ≡ 0 → ⊥) → beside a lent ≡ read_for K s lent
   unfolding read_for read_causes_for answer_for
@@ -82,12 +69,12 @@ module _ (K : Kind) (s lent : List ℕ) {a : ReadAnswer} (e : a ≡ answer_for K
         let n = causes_numbered K sound.numbers s in
         rw x (sym (room_short (causes_for K s) (row_numbers * turn_count s) (length lent) _ _ n (whole_accepted_for K s e z) (omega (arith, whole_turns_for K s e z))))
 
-    pub read_done : (zeros : List ℕ) {t u : List ℕ} → row_numbers * a.turns ≤ length lent → (a.refusal ≡ 0 → t ≡ at_front (table_of s) zeros) → u ≡ puts lent 0 (take (row_numbers * a.turns) t)
+    pub read_done : (zeros : List ℕ) {t u : List ℕ} → row_numbers * a.turns ≤ length lent → (a.refusal ≡ 0 → t ≡ at_front (table_of s) zeros) → u ≡ take (row_numbers * a.turns) t ++ drop (row_numbers * a.turns) lent
         → beside a u ≡ read_for K s lent
     unfolding read_for read_causes_for
     read_done zeros {t} {u} l w p =
-        let room : length (table_of s) ≤ length lent = omega (arith, table_length s, whole_turns_for K s e z) in
-        let q : u ≡ at_front (table_of s) lent = p ∙ rw (whole_table_for K s e z zeros w) (puts_front (table_of s) lent room) in
+        let size : row_numbers * a.turns ≡ length (table_of s) = omega (arith, table_length s, whole_turns_for K s e z) in
+        let q : u ≡ at_front (table_of s) lent = p ∙ ap₂ (λ (x : List ℕ) (y : ℕ). x ++ drop y lent) (whole_table_for K s e z zeros w) size in
         let n = causes_numbered K sound.numbers s in
         rw (q, whole_answer_for K s e z) (sym (room_enough (causes_for K s) (row_numbers * turn_count s) (length lent) _ _ n (whole_accepted_for K s e z) (omega (arith, whole_turns_for K s e z))))
 

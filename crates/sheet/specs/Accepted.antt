@@ -6,9 +6,8 @@ use Rattle.turn.specs.declared.Turn.{Turn}
 use Rattle.turn.specs.declared.Counts.{Counts}
 use Rattle.turn.specs.Turn.{row_numbers, InRange, shift_minutes, most_worth, most_driver}
 use Rattle.sheet.specs.declared.kind.Maps.{Maps}
-use Rattle.sheet.specs.declared.kind.Kind.{Kind}
 use Rattle.sheet.specs.declared.record.Cursor.{Cursor}
-use Rattle.sheet.specs.Kind.{shift_sheet}
+use Rattle.sheet.specs.Kind.{Kind, shift_sheet}
 use Rattle.sheet.specs.Record.{width_of, map_at, turn_at, cursor_after, first_cursor}
 use Rattle.sheet.specs.Read.{header_bytes, counts_in, turn_count}
 use Rattle.sheet.specs.Layout.{record_of, header_for}

@@ -2,8 +2,21 @@
 use Rattle.std.specs.Prelude.{ℕ, ◌*◌, ◌≤◌, List, [], ◌∷◌}
 use Rattle.refusal.specs.Number.{bad_counts, too_many_turns, bad_slope, bad_groomer}
 use Rattle.wire.specs.Mark.{sheet_mark}
-use Rattle.turn.specs.Turn.{row_numbers, Numbered}
-use Rattle.sheet.specs.declared.kind.Kind.{Kind}
+use Rattle.turn.specs.Turn.{row_numbers, Refusals, numbers_of, Numbered}
+use Rattle.sheet.specs.declared.kind.Most.{Most}
+use Rattle.sheet.specs.declared.kind.Maps.{Maps}
+use Rattle.sheet.specs.declared.kind.Kind as declared
+
+-- what opens a sheet, what its header and its maps may be, and the numbers of the refusals that are its own
+pub record Kind : Type 0 where
+  pub mark : List ℕ
+  pub most : Most
+  pub maps : Maps
+  pub refusals : Refusals
+
+-- a kind as the code has it, by its refusals' numbers
+abbrev pub kind_in_numbers : declared.Kind → Kind
+kind_in_numbers k = record { mark = k.mark; most = k.most; maps = k.maps; refusals = numbers_of k.refusals }
 
 -- a map with every field of a turn but the driver, which is then none
 abbrev pub first_map : ℕ

@@ -1,8 +1,7 @@
 -- What reading a sheet hands back: said of the answer and of the lent table, beside the sheet's reading in words (document 01: the sheet, and what the box says). Assumes nothing.
 use Rattle.std.specs.Prelude.{ℕ, ◌*◌, ◌≤◌, ◌≡◌, ◌↔◌, List, length, take, drop}
 use Rattle.turn.specs.Turn.{row_numbers, rows}
-use Rattle.sheet.specs.declared.kind.Kind.{Kind}
-use Rattle.sheet.specs.Kind.{shift_sheet}
+use Rattle.sheet.specs.Kind.{Kind, shift_sheet}
 use Rattle.sheet.specs.Read.{read_refused, read_of, Reading}
 use Rattle.sheet.specs.Accepted.{AcceptedFor}
 use Rattle.refusal.specs.Outcome.{beside}

@@ -7,12 +7,9 @@ use Rattle.wire.specs.Mark.{opens_with}
 use Rattle.turn.specs.declared.Turn.{Turn}
 use Rattle.turn.specs.declared.Counts.{Counts}
 use Rattle.turn.specs.Turn.{row_numbers, rows, outside_range}
-use Rattle.sheet.specs.declared.kind.Kind.{Kind}
 use Rattle.sheet.specs.declared.record.Cursor.{Cursor}
-use Rattle.sheet.specs.declared.header.Header.{Header}
-use Rattle.sheet.specs.declared.header.Header.TheVariants.{Found, Refused}
 use Rattle.sheet.specs.declared.answer.ReadAnswer.{ReadAnswer}
-use Rattle.sheet.specs.Kind.{shift_sheet}
+use Rattle.sheet.specs.Kind.{Kind, shift_sheet}
 use Rattle.sheet.specs.Record.{record_causes, turn_at, cursor_after, first_cursor}
 use Rattle.refusal.specs.Written.{at_front}
 use Rattle.refusal.specs.Outcome.{Outcome, beside, unless, then_room}
@@ -43,18 +40,6 @@ header_causes K s =
     truncated when ltb (length s) header_bytes
     ∷ bad_magic when not (opens_with K.mark s)
     ∷ count_causes K (counts_in s) (turn_count s)
-
--- a header's answer, by its case: the counts, or the number of the first cause
-abbrev pub header_answer : List Cause → List ℕ → Header
-header_answer causes s = unless causes (Found (counts_in s) (turn_count s)) Refused
-
--- reading the header: its counts and turns, or the first cause
-unfoldable pub header_of : Kind → List ℕ → Header
-header_of K s = header_answer (header_causes K s) s
-
--- the same once the mark is right
-unfoldable pub counts_header : Kind → List ℕ → Header
-counts_header K s = header_answer (count_causes K (counts_in s) (turn_count s)) s
 
 -- what may be wrong with the next k records, one after another, and then after the last
 unfoldable pub records_causes : Kind → ℕ → List ℕ → Counts → Cursor → List Cause

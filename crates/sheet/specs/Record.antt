@@ -7,11 +7,8 @@ use Rattle.turn.specs.declared.Turn.{Turn}
 use Rattle.turn.specs.declared.Counts.{Counts}
 use Rattle.turn.specs.Turn.{turn_causes}
 use Rattle.sheet.specs.declared.kind.Maps.{Maps}
-use Rattle.sheet.specs.declared.kind.Kind.{Kind}
+use Rattle.sheet.specs.Kind.{Kind}
 use Rattle.sheet.specs.declared.record.Cursor.{Cursor}
-use Rattle.sheet.specs.declared.record.Next.{Next}
-use Rattle.sheet.specs.declared.record.Next.TheVariants.{Read, Refused}
-use Rattle.refusal.specs.Outcome.{unless}
 
 -- the bytes of the fields that a map names: slope 1, groomer 1, start 2, length 2, worth 2, driver 1
 unfoldable pub width_of : ℕ → ℕ
@@ -64,10 +61,6 @@ record_causes K s limits c =
     ∷ bad_map when bad_map_for K.maps c.first (map_at s c)
     ∷ truncated when ltb (length s) (end_at s c)
     ∷ turn_causes K.refusals limits (turn_at s c)
-
--- the reader's next answer, by its case: the turn and the cursor after it, or the number of the first cause
-unfoldable pub next_of : Kind → List ℕ → Counts → Cursor → Next
-next_of K s limits c = unless (record_causes K s limits c) (Read (turn_at s c) (cursor_after s c)) Refused
 
 -- before the first record: the seven bytes of the header are read, and there is no turn to carry
 unfoldable pub first_cursor : Cursor

@@ -3,8 +3,7 @@ use Rattle.std.specs.Prelude.{ℕ, ◌*◌, ◌≡◌, List, take, drop}
 use Rattle.refusal.specs.Number.{too_many_for_short}
 use Rattle.turn.specs.Turn.{row_numbers}
 use Rattle.refusal.specs.Cause.{FirstAmong}
-use Rattle.sheet.specs.declared.kind.Kind.{Kind}
-use Rattle.sheet.specs.Kind.{shift_sheet, with_turns}
+use Rattle.sheet.specs.Kind.{Kind, shift_sheet, with_turns}
 use Rattle.sheet.specs.Read.{read_for, Reading}
 use Rattle.sheet.specs.Accepted.{AcceptedFor, ReadCauseFor}
 

@@ -8,8 +8,8 @@ mod kind;
 mod record;
 
 pub use answer::ReadAnswer;
-pub use header::{HEADER_BYTES, Header};
+pub use header::HEADER_BYTES;
 pub use kind::{
     FIRST_MAP, FULL_MAP, Kind, MOST_GROOMERS, MOST_SLOPES, MOST_TURNS, Maps, Most, TABLE_PLACES,
 };
-pub use record::{Cursor, Next, bad_map_for, byte_field, width, word_field};
+pub use record::{Cursor, bad_map_for, byte_field, width, word_field};

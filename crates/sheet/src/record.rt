@@ -1,8 +1,12 @@
 // One record of a sheet: a map byte, then the fields whose bit stands.
-ghost use Rattle.std.specs.Prelude.{◌≡◌, ◌+◌, ◌*◌, ◌≤◌, ◌<◌, length};
-ghost use Rattle.sheet.specs.Record.{width_of, record_bytes, field, turn_from, bad_map_for, next_of};
+ghost use Rattle.sheet.specs.Kind.{kind_in_numbers};
+ghost use Rattle.std.specs.Prelude.{◌≡◌, ◌+◌, ◌*◌, ◌≤◌, ◌<◌, length, IfOk};
+ghost use Rattle.refusal.specs.Cause.{first_of};
+ghost use Rattle.refusal.specs.Failure.{failure};
+ghost use Rattle.sheet.specs.Record.{width_of, record_bytes, field, turn_from, bad_map_for, turn_at, cursor_after, record_causes};
 
 use super::kind::{Kind, Maps};
+use refusal::Refusal;
 use turn::{Counts, Turn};
 
 // Where the next record starts, and the turn before it.
@@ -11,12 +15,6 @@ pub struct Cursor {
     pub at: usize,
     pub first: bool,
     pub prev: Turn,
-}
-
-#[derive(Clone, Copy)]
-pub enum Next {
-    Read(Turn, Cursor),
-    Refused(u8),
 }
 
 // How many bytes the fields of a map take.
@@ -28,7 +26,8 @@ pub fn width(m: u8) -> usize
 }
 
 // A one-byte field where its bit stands, else the value before. The byte is read in both cases, so that no step depends
-// on the bit; where there is none, the bit does not stand.
+// on the bit; where there is none, the bit does not stand. Beside word_field, and not one function with a width: it
+// would choose between wire's two reads by an if, and be no plainer.
 pub fn byte_field(s: &[u8], at: usize, bit: u8, old: u16) -> u16
     requires { at + bit ≤ length s.now }
     ensures { result ≡ field 1 s.now at bit old }
@@ -93,37 +92,32 @@ pub fn bad_map_for(maps: Maps, first: bool, m: u8) -> bool
 
 impl Cursor {
     // The next turn and where the record after it starts, or the first cause to refuse this record.
-    pub fn next(self, kind: Kind, s: &[u8], limits: Counts) -> Next
-        ensures { result ≡ next_of kind s.now limits self }
+    pub fn next(self, kind: Kind, s: &[u8], limits: Counts) -> Result<(Turn, Cursor), Refusal>
+        ensures refused { failure result ≡ first_of (record_causes (kind_in_numbers kind) s.now limits self) }
+        ensures read { IfOk result (λ r. (r.0 ≡ turn_at s.now self) × (r.1 ≡ cursor_after s.now self)) }
     {
         let at = self.at;
         if s.len() <= at {
-            return Next::Refused(refusal::TRUNCATED);
+            return Err(Refusal::Truncated);
         }
         let m = s[at];
-        let maps = kind.maps;
-        let first = self.first;
-        if bad_map_for(maps, first, m) {
-            return Next::Refused(refusal::BAD_MAP);
+        if bad_map_for(kind.maps, self.first, m) {
+            return Err(Refusal::BadMap);
         }
         let fields = at + 1;
         let end = fields + width(m);
         if s.len() < end {
-            return Next::Refused(refusal::TRUNCATED);
+            return Err(Refusal::Truncated);
         }
         let t = turn_from(s, fields, m, self.prev);
-        let refusals = kind.refusals;
-        let fault = turn::turn_fault(t, limits, refusals);
-        if fault != 0 {
-            return Next::Refused(fault);
-        }
-        Next::Read(
+        turn::turn_fault(t, limits, kind.refusals)?;
+        Ok((
             t,
             Cursor {
                 at: end,
                 first: false,
                 prev: t,
             },
-        )
+        ))
     }
 }

@@ -1,13 +1,14 @@
 // A shift's kind of sheet, as a value.
 ghost use Rattle.std.specs.Prelude.{◌≡◌};
-ghost use Rattle.sheet.specs.Kind.{shift_sheet};
+ghost use Rattle.sheet.specs.Kind.{shift_sheet, kind_in_numbers};
 
+use refusal::Refusal;
 use sheet::{FIRST_MAP, FULL_MAP, Kind, MOST_GROOMERS, MOST_SLOPES, MOST_TURNS, Maps, Most};
 use turn::Refusals;
 
 // A shift's sheet.
 pub fn shift_sheet() -> Kind
-    ensures { result ≡ shift_sheet }
+    ensures { kind_in_numbers result ≡ shift_sheet }
 {
     Kind {
         mark: wire::GRM,
@@ -21,10 +22,10 @@ pub fn shift_sheet() -> Kind
             full: FULL_MAP,
         },
         refusals: Refusals {
-            counts: refusal::BAD_COUNTS,
-            turns: refusal::TOO_MANY_TURNS,
-            slope: refusal::BAD_SLOPE,
-            groomer: refusal::BAD_GROOMER,
+            counts: Refusal::BadCounts,
+            turns: Refusal::TooManyTurns,
+            slope: Refusal::BadSlope,
+            groomer: Refusal::BadGroomer,
         },
     }
 }

@@ -1,9 +1,10 @@
 // Reading a whole sheet.
-ghost use Rattle.std.specs.Prelude.{◌≡◌, ◌+◌, ◌*◌, ◌≤◌, ◌<◌, length};
+ghost use Rattle.std.specs.Prelude.{◌≡◌, ◌+◌, ◌*◌, ◌≤◌, ◌<◌, length, OnOk};
 ghost use Rattle.refusal.specs.Cause.{first_of};
+ghost use Rattle.refusal.specs.Failure.{number_of, failure};
 ghost use Rattle.wire.specs.Number.{puts};
-ghost use Rattle.turn.specs.Turn.{row_numbers, row_of, rows, Numbered};
-ghost use Rattle.sheet.specs.Kind.{table_places, Sound};
+ghost use Rattle.turn.specs.Turn.{row_numbers, row_of, rows};
+ghost use Rattle.sheet.specs.Kind.{table_places, Sound, kind_in_numbers};
 ghost use Rattle.sheet.specs.Record.{first_cursor};
 ghost use Rattle.sheet.specs.Read.{records_causes, turns_from, table_of, read_refused, answer_for, answer_of, read_for, read_of};
 ghost use Rattle.refusal.specs.Written.{at_front};
@@ -11,7 +12,8 @@ ghost use Rattle.refusal.specs.Outcome.{beside};
 
 use super::header::read_header;
 use super::kind::shift_sheet;
-use sheet::{Cursor, HEADER_BYTES, Header, Kind, Next, ReadAnswer, TABLE_PLACES};
+use refusal::Refusal;
+use sheet::{Cursor, HEADER_BYTES, Kind, ReadAnswer, TABLE_PLACES};
 use turn::{Counts, ROW_NUMBERS, Turn};
 
 // The cursor before the first record.
@@ -52,41 +54,39 @@ pub fn put_turn(table: &mut [u16], at: usize, t: Turn) -> usize
     at + ROW_NUMBERS
 }
 
-// Goes through the next n records and puts each turn's row into the table as it is read. The first
-// cause to refuse a record or what follows them, 0 if none.
-fn read_records(kind: Kind, s: &[u8], n: u16, limits: Counts, from: Cursor, table: &mut [u16]) -> u8
-    requires { Numbered kind.refusals × (row_numbers * n ≤ length table.old) }
-    ensures value { result ≡ first_of (records_causes kind n s.now limits from) }
-    ensures table_after { result ≡ 0 → table.new ≡ puts table.old 0 (rows (turns_from n s.now from)) }
+// Goes through the next n records and puts each turn's row into the table as it is read; or the first
+// cause to refuse a record or what follows them.
+fn read_records(
+    kind: Kind,
+    s: &[u8],
+    n: u16,
+    limits: Counts,
+    from: Cursor,
+    table: &mut [u16],
+) -> Result<(), Refusal>
+    requires { row_numbers * n ≤ length table.old }
+    ensures refused { failure result ≡ first_of (records_causes (kind_in_numbers kind) n s.now limits from) }
+    ensures table_after { OnOk result (table.new ≡ puts table.old 0 (rows (turns_from n s.now from))) }
 {
     let mut c = from;
-    let mut left = n;
     let mut at: usize = 0;
-    while 0 < left {
-        match c.next(kind, s, limits) {
-            Next::Read(t, next) => {
-                at = put_turn(&mut *table, at, t);
-                c = next;
-                left -= 1;
-            }
-            Next::Refused(fault) => {
-                return fault;
-            }
-        }
+    for i in 0..n {
+        let (t, next) = c.next(kind, s, limits)?;
+        at = put_turn(&mut *table, at, t);
+        c = next;
     }
-    let end = c.at;
-    if end < s.len() {
-        refusal::TRAILING_BYTES
+    if c.at < s.len() {
+        Err(Refusal::TrailingBytes)
     } else {
-        0
+        Ok(())
     }
 }
 
-fn refused(k: u8) -> ReadAnswer
-    ensures { result ≡ read_refused k }
+fn refused(k: Refusal) -> ReadAnswer
+    ensures { result ≡ read_refused (number_of k) }
 {
     ReadAnswer {
-        refusal: k,
+        refusal: k as u8,
         groomers: 0,
         slopes: 0,
         turns: 0,
@@ -97,25 +97,20 @@ fn refused(k: u8) -> ReadAnswer
 // is written as the records are read, and after a refusal nothing is said of what it holds. It is for
 // those who own their table and look at it only where nothing is refused.
 pub fn read_table_of(kind: Kind, s: &[u8], table: &mut [u16]) -> ReadAnswer
-    requires { Sound kind × (table_places ≤ length table.old) }
-    ensures { (result ≡ answer_for kind s.now) × (result.refusal ≡ 0 → table.new ≡ at_front (table_of s.now) table.old) }
+    requires { Sound (kind_in_numbers kind) × (table_places ≤ length table.old) }
+    ensures { (result ≡ answer_for (kind_in_numbers kind) s.now) × (result.refusal ≡ 0 → table.new ≡ at_front (table_of s.now) table.old) }
 {
-    let h = read_header(kind, s);
-    match h {
-        Header::Refused(fault) => refused(fault),
-        Header::Found(limits, n) => {
-            let c = first_cursor();
-            let fault = read_records(kind, s, n, limits, c, &mut *table);
-            if fault != 0 {
-                return refused(fault);
-            }
-            ReadAnswer {
+    match read_header(kind, s) {
+        Err(fault) => refused(fault),
+        Ok((limits, n)) => match read_records(kind, s, n, limits, first_cursor(), &mut *table) {
+            Err(fault) => refused(fault),
+            Ok(()) => ReadAnswer {
                 refusal: 0,
                 groomers: limits.groomers,
                 slopes: limits.slopes,
                 turns: n,
-            }
-        }
+            },
+        },
     }
 }
 
@@ -127,24 +122,12 @@ pub fn read_table(s: &[u8], table: &mut [u16]) -> ReadAnswer
     read_table_of(shift_sheet(), s, &mut *table)
 }
 
-// Copies numbers to the front of a table.
-fn put_numbers(table: &mut [u16], numbers: &[u16])
-    requires { length numbers.now ≤ length table.old }
-    ensures { table.new ≡ puts table.old 0 numbers.now }
-{
-    let mut i = 0;
-    while i < numbers.len() {
-        table[i] = numbers[i];
-        i += 1;
-    }
-}
-
 // Reads any bytes as a sheet of a kind into any lent table. Whether the last record is right is known
 // only at the end, so the turns go into a table of its own first: the lent one is not touched on a
 // refusal.
 pub fn read_as(kind: Kind, s: &[u8], table: &mut [u16]) -> ReadAnswer
-    requires { Sound kind }
-    ensures { beside result table.new ≡ read_for kind s.now table.old }
+    requires { Sound (kind_in_numbers kind) }
+    ensures { beside result table.new ≡ read_for (kind_in_numbers kind) s.now table.old }
 {
     let mut own = [0u16; TABLE_PLACES];
     let r = read_table_of(kind, s, &mut own);
@@ -153,9 +136,9 @@ pub fn read_as(kind: Kind, s: &[u8], table: &mut [u16]) -> ReadAnswer
     }
     let end = ROW_NUMBERS * (r.turns as usize);
     if table.len() < end {
-        return refused(refusal::BUFFER_TOO_SMALL);
+        return refused(Refusal::BufferTooSmall);
     }
-    put_numbers(&mut *table, &own[..end]);
+    table[..end].copy_from_slice(&own[..end]);
     r
 }
 

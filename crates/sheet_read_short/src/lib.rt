@@ -2,39 +2,33 @@
 
 #![tactic(auto)]
 
+ghost use Rattle.sheet.specs.Kind.{kind_in_numbers};
 ghost use Rattle.std.specs.Prelude.{◌≡◌};
 ghost use Rattle.sheet.specs.Short.{short_sheet, read_short_of};
 ghost use Rattle.refusal.specs.Outcome.{beside};
 
+use refusal::Refusal;
 use sheet::{Kind, Most, ReadAnswer};
 use turn::Refusals;
 
 // The most turns that the short reader takes.
 const SHORT_TURNS: u16 = 96;
 
-// A shift's sheet with that limit, and a number of its own for more.
+// A shift's sheet with that limit, and a refusal of its own of more.
 fn short_sheet() -> Kind
-    ensures { result ≡ short_sheet }
+    ensures { kind_in_numbers result ≡ short_sheet }
 {
     let shift = sheet_read::shift_sheet();
-    let mark = shift.mark;
-    let most = shift.most;
-    let maps = shift.maps;
-    let refusals = shift.refusals;
     Kind {
-        mark: mark,
         most: Most {
-            groomers: most.groomers,
-            slopes: most.slopes,
             turns: SHORT_TURNS,
+            ..shift.most
         },
-        maps: maps,
         refusals: Refusals {
-            counts: refusals.counts,
-            turns: refusal::TOO_MANY_FOR_SHORT,
-            slope: refusals.slope,
-            groomer: refusals.groomer,
+            turns: Refusal::TooManyForShort,
+            ..shift.refusals
         },
+        ..shift
     }
 }
 

@@ -4,12 +4,10 @@ use mathlib.Core.Path.{◌≡◌, refl, ap, ◌∙◌}
 use mathlib.Core.Bool.{Bool, true, false, cond}
 use mathlib.Core.List.{List}
 use native.Mathlib.Omega.{arith}
-use native.Mathlib.Decide.{ℕ_discrete}
 use mir.Syntax.{w32}
 use mir.Val.{Fits}
 use lib.Dec.{ltb, leb}
-use lib.ListN.{length, get_or, set, length-set}
-use lib.Seq.{get_or-set_same, get_or-set_other}
+use lib.ListN.{length, get_or}
 use borrow.Author.Tests.{lt-ltb}
 use Rattle.lists.specs.Lists.{sum_over, below}
 use Rattle.lists.proofs.Bools.{and_1}
@@ -138,31 +136,7 @@ pub count_is_left : (e : Extent) (cols prices : List ℕ) (t : ℕ) {a : Row} {p
 unfolding counts_for
 count_is_left e cols prices t h ea f g = g ∙ rw (f, worth_at e.size cols t h ea)
 
--- a list that gets a number for each turn
-module _ (number : ℕ → ℕ) (numbers : List ℕ) where
-  pub numbers_start : length numbers ≡ most_turns → NumbersTo number numbers 0
-  numbers_start l = record { places = l; values = λ t a. absurd (omega arith) }
-
-  module _ (i : ℕ) (s : NumbersTo number numbers i) where
-    pub numbers_more : {r : ℕ} → i < most_turns → r ≡ number i → NumbersTo number (set numbers i r) (i + 1)
-    numbers_more {r} h q = record { places = length-set numbers i r ∙ s.places; values = λ t a. go t a (ℕ_discrete t i) }
-      where
-        go : (t : ℕ) → t < i + 1 → Dec (t ≡ i) → get_or (set numbers i r) t 0 ≡ number t
-        go t a (yes d) = rw d (get_or-set_same numbers i r 0 (omega (arith, s.places)) ∙ q)
-        go t a (no d) = get_or-set_other numbers i t r 0 d ∙ s.values t (omega arith)
-
-    pub numbers_done : (n : ℕ) → n ≤ i → i ≤ n → NumbersTo number numbers n
-    numbers_done n a b = let z : i ≡ n = omega arith in rw z at s
-
-pub numbers_few : (e : Extent) (cols prices : List ℕ) (i : ℕ) → i < e.size.count → Priced e cols prices → i < most_turns
-numbers_few e cols prices i h w = omega (arith, w.few)
-
-pub ruleset numbers_cases = (numbers_start, numbers_more, numbers_done, numbers_few)
-
 -- what is left of the worths, of turns in columns
-pub left_few : (p : Size) (t : ℕ) → t < p.count → p.count ≤ most_turns → t < most_turns
-left_few p t h few = omega arith
-
 module _ (p : Size) (cols paid : List ℕ) where
   pub left_is : (t : ℕ) {a : Row} {r : ℕ} → t < p.count → a ≡ row_in cols t → r ≡ a.worth - get_or paid t 0 → r ≡ left_after (turns_by p cols) paid t
   unfolding left_after

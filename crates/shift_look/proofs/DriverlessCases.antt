@@ -1,5 +1,5 @@
 -- Turns of which none names a driver, by cases in the form in which the code leaves them. Assumes nothing.
-use Prim.Native.Nat.{ℕ, zero, suc, ◌+◌, ◌-◌, ◌*◌, ◌≤◌, ◌<◌, max}
+use Prim.Native.Nat.{ℕ, zero, suc, ◌+◌, ◌-◌, ◌≤◌, ◌<◌, max}
 use mathlib.Core.Path.{◌≡◌, refl, sym, ap, ◌∙◌}
 use mathlib.Core.Bool.{Bool, true, false, cond}
 use mathlib.Core.List.{List}
@@ -7,12 +7,9 @@ use native.Mathlib.Omega.{arith}
 use native.Mathlib.Numerals.{add-one}
 use native.Mathlib.Decide.{ℕ_discrete}
 use borrow.Author.Tests.{lt-ltb, ltb-false}
-use mir.Syntax.{w32}
-use mir.Val.{Fits}
 use lib.Dec.{ltb}
 use lib.ListN.{length, get_or}
 use Rattle.lists.proofs.Sums.{sum_zero, all_below}
-use Rattle.sheet.specs.Kind.{most_slopes}
 use Rattle.model.specs.Turns.{Turns, one_driver, by_driver, NoDrivers}
 use Rattle.instance.specs.declared.ways.Row.{Row}
 use Rattle.instance.specs.declared.columns.Size.{Size}
@@ -20,7 +17,7 @@ use Rattle.instance.specs.Columns.{row_in, turns_by}
 use Rattle.instance.proofs.Rows.{count_is, slope_at}
 use Rattle.best_spec.specs.Table.{best_worth}
 use Rattle.best_table.specs.OrderAndTable.{InTurnOrder, Befores, Chained, Filled}
-use Rattle.limit_spec.specs.Prices.{slope_price, turn_price, pays_turn, paid_by, counts_for, price_sum, most_price}
+use Rattle.limit_spec.specs.Prices.{slope_price, turn_price, pays_turn, paid_by, counts_for, price_sum}
 use Rattle.shift_look.specs.declared.Extent.{Extent}
 use Rattle.shift_look.specs.OrdersAndCounts.{counted_turns, turns_in, slopes_sum, greatest_driver, Priced, CountsTo}
 use Rattle.shift_look.proofs.SumCases.{driver_at}
@@ -38,10 +35,7 @@ module _ (p : Size) (cols : List ℕ) where
   unfolding greatest_driver
   greatest_more i g h ea e q = rw (add-one, q, e, driver_at (record { size = p; slopes = 0 }) cols i h ea) refl
 
-  pub greatest_done : (i g : ℕ) → p.count ≤ i → i ≤ p.count → g ≡ greatest_driver (turns_by p cols) i → g ≡ greatest_driver (turns_by p cols) p.count
-  greatest_done i g a b e = let q : i ≡ p.count = omega arith in rw q at e
-
-pub ruleset greatest_cases = (greatest_start, greatest_more, greatest_done)
+pub ruleset greatest_cases = (greatest_start, greatest_more)
 
 greatest_above : (T : Turns) (i t : ℕ) → t < i → T.driver t ≤ greatest_driver T i
 unfolding greatest_driver
@@ -63,10 +57,7 @@ module _ (p : Size) (cols : List ℕ) where
       let l : 0 < p.count = omega (arith, n) in
       sym (lt-ltb 0 (greatest_driver (turns_by p cols) p.count) (omega (arith, h, driver_at (record { size = p; slopes = 0 }) cols 0 l ea, greatest_above (turns_by p cols) p.count 0 l)))
 
-  pub any_greatest : {g : ℕ} → g ≡ greatest_driver (turns_by p cols) p.count → ltb 0 g ≡ ltb 0 (greatest_driver (turns_by p cols) p.count)
-  any_greatest e = rw e refl
-
-pub ruleset any_cases = (any_none, any_first, any_greatest)
+pub ruleset any_cases = (any_none, any_first)
 
 -- where there is none, no turn names one
 pub none_named : (e : Extent) (cols : List ℕ) {r : Bool} → r ≡ false → r ≡ ltb 0 (greatest_driver (turns_by e.size cols) e.size.count) → NoDrivers (turns_in e cols)
@@ -113,13 +104,10 @@ module _ (e : Extent) (cols prices : List ℕ) (none : NoDrivers (turns_in e col
       pub driverless_limit : a ≡ slopes_sum prices e.slopes → a + get_or worths 0 0 ≡ price_sum (turns_in e cols) e.slopes prices + best_worth (counted_turns (turns_in e cols) e.slopes prices)
       driverless_limit q = rw (q, prices_slopes (turns_in e cols) e.slopes prices none, table_first e cols prices w.few orders o b counts c worths firsts f)
 
-      pub driverless_fits : a ≤ most_slopes * most_price → Fits w32 (a + get_or worths 0 0)
-      driverless_fits l = omega (arith, f.most 0 (omega arith) (omega arith), w.few)
-
 -- the prices that the limit has in it are those of the slopes
 pub driverless_prices : (e : Extent) (cols prices : List ℕ) {r : Bool} {a : ℕ} → r ≡ false → r ≡ ltb 0 (greatest_driver (turns_by e.size cols) e.size.count) → a ≡ slopes_sum prices e.slopes → a ≡ price_sum (turns_in e cols) e.slopes prices
 driverless_prices e cols prices z u q = q ∙ sym (prices_slopes (turns_in e cols) e.slopes prices (none_named e cols z u))
 
 pub ruleset slope_count_cases = (slope_counts, slope_above, slope_listed)
 
-pub ruleset driverless_cases = (driverless_chained, driverless_limit, driverless_fits)
+pub ruleset driverless_cases = (driverless_chained, driverless_limit)

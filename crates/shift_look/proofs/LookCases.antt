@@ -1,19 +1,17 @@
 -- A look at prices by cases: the table over the counts, and the set read back from it. Assumes nothing.
-use Prim.Native.Nat.{ℕ, ◌+◌, ◌*◌, ◌≤◌}
+use Prim.Native.Nat.{ℕ, ◌+◌, ◌≤◌}
 use mathlib.Core.Path.{◌≡◌, refl, sym, ap, ◌∙◌}
 use mathlib.Core.Bool.{Bool, false}
 use mathlib.Core.List.{List, [], ◌∷◌}
 use native.Mathlib.Omega.{arith}
-use mir.Syntax.{w32}
-use mir.Val.{Fits}
 use lib.ListN.{drop, get_or, replicate}
-use Rattle.sheet.specs.Kind.{most_turns, most_slopes}
+use Rattle.sheet.specs.Kind.{most_turns}
 use Rattle.model.specs.Turns.{Turns, one_groomer}
 use Rattle.instance.specs.Columns.{turns_by}
 use Rattle.best_spec.specs.Table.{later_first, turn_order, in_the_way, blocked, best_worth, marked, best_choice}
 use Rattle.best_table.specs.OrderAndTable.{place_before, whole_way, InTurnOrder, Befores, Counts, Chained, Filled, Readable, Firsts}
 use Rattle.best_table.proofs.BestCases.{turns_chained, filled_entries, filled_firsts, turns_readable, way_best, first_entry}
-use Rattle.limit_spec.specs.Prices.{price_sum, most_price}
+use Rattle.limit_spec.specs.Prices.{price_sum}
 use Rattle.shift_look.specs.declared.Extent.{Extent}
 use Rattle.shift_look.specs.OrdersAndCounts.{counted_turns, turns_in, CountsTo, Ordered, Priced}
 
@@ -113,9 +111,6 @@ module _ (e : Extent) (cols orders prices : List ℕ) (w : Priced e cols prices)
       pub look_sum : {a : ℕ} → a ≡ price_sum (turns_in e cols) e.slopes prices → a + get_or worths 0 0 ≡ price_sum (turns_in e cols) e.slopes prices + best_worth (counted_turns (turns_in e cols) e.slopes prices)
       look_sum q = rw (q, table_first e cols prices w.few orders in_order in_befores counts c worths firsts f)
 
-      pub look_fits : {a : ℕ} → a ≤ (most_slopes + most_turns) * most_price → Fits w32 (a + get_or worths 0 0)
-      look_fits l = omega (arith, f.most 0 (omega arith) (omega arith), w.few)
-
   module _ (firsts : List ℕ) (s : Firsts (counted_turns (turns_in e cols) e.slopes prices) firsts) where
     pub look_readable : Readable e.size.count orders firsts
     look_readable = table_readable e cols prices w.few orders in_order in_befores firsts s
@@ -123,4 +118,4 @@ module _ (e : Extent) (cols orders prices : List ℕ) (w : Priced e cols prices)
     pub look_best : {S S' : List Bool} → S ≡ replicate e.size.count false → S' ≡ marked S (whole_way orders firsts e.size.count) → S' ≡ best_choice (counted_turns (turns_in e cols) e.slopes prices)
     look_best q r = table_best e cols prices w.few orders in_order in_befores firsts s q r
 
-pub ruleset look_cases = (look_chained, look_firsts, look_sum, look_fits, look_readable, look_best)
+pub ruleset look_cases = (look_chained, look_firsts, look_sum, look_readable, look_best)

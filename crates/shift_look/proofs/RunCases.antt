@@ -22,7 +22,7 @@ use Rattle.best_table.specs.OrderAndTable.{placed_row, place_before, KeysFit, In
 use Rattle.best_table.proofs.OrderCases.{placed_is, placed_most, order_within}
 use Rattle.shift_look.specs.declared.Extent.{Extent}
 use Rattle.shift_look.specs.OrdersAndCounts.{by_drivers, turns_in, with_run, paid_from, paid_to, order_places, Driven, DriversPut, OneRun, RunStart, RunBefore, PlaceRun, PlaceRunsTo, PaidRun, Ordered}
-use Rattle.shift_look.proofs.PaidRuns.{order_place, order_apart, run_first, run_again, run_new, run_none, run_is, pays_as}
+use Rattle.shift_look.proofs.PaidRuns.{order_place, order_apart, run_again, run_new, run_none, run_is, pays_as}
 
 -- ---- one place
 
@@ -48,9 +48,6 @@ module _ (p : Size) (cols : List ℕ) (held : Held p cols) (order : List ℕ) (o
         (eq-eqb a.end b.end (ap (λ (r : Row). r.end) x ∙ s.end ∙ sym (ap (λ (r : Row). r.end) y)))
 
   module _ (i from : ℕ) (h : i < p.count) where
-    pub start_first : i ≡ 0 → RunStart (turns_by p cols) i 0
-    start_first e = rw e (run_first (turns_by p cols))
-
     module _ {a b : Row} {r : Bool} (d : i ≡ 0 → ⊥) (ea : a ≡ placed_row cols order (i - 1)) (eb : b ≡ placed_row cols order i) (er : r ≡ (eqb a.groomer b.groomer && eqb a.end b.end)) where
       pub start_again : r ≡ true → RunBefore (turns_by p cols) i from → RunStart (turns_by p cols) i from
       unfolding RunBefore
@@ -76,7 +73,7 @@ module _ (p : Size) (cols : List ℕ) (held : Held p cols) (order : List ℕ) (o
       pub place_run : {to : ℕ} → (a.groomer ≡ 0 → ⊥) → to ≡ place_before (turns_by p cols) i → RunStart (turns_by p cols) i from → PlaceRun (turns_by p cols) i from to
       place_run d e s = rw e (run_is (turns_by p cols) i from (lengths_are p cols held) (omega (arith, count_is p cols)) (λ z. d (groomer_here ∙ z)) s)
 
-pub ruleset start_cases = (start_first, start_again, start_new, last_place_lem, last_most)
+pub ruleset start_cases = (start_again, start_new, last_place_lem, last_most)
 
 pub ruleset place_cases = (place_none, place_run)
 
@@ -163,44 +160,9 @@ module _ (p : Size) (cols : List ℕ) where
     pub runs_few : i < most_turns
     runs_few = omega (arith, held.few)
 
-  pub runs_size : (old orders : List ℕ) (i : ℕ) → PlaceRunsTo (turns_by p cols) old orders i → length orders ≡ order_places
-  runs_size old orders i w = w.places
-
-  pub runs_done : (old orders : List ℕ) (i : ℕ) → p.count ≤ i → i ≤ p.count → PlaceRunsTo (turns_by p cols) old orders i → PlaceRunsTo (turns_by p cols) old orders p.count
-  runs_done old orders i a b w = let e : i ≡ p.count = omega arith in rw e at w
-
-pub ruleset runs_cases = (runs_start, before_start, runs_turn, runs_place, runs_few, runs_size, runs_done)
+pub ruleset runs_cases = (runs_start, before_start, runs_turn, runs_place, runs_few)
 
 -- ---- drivers in the groomers' place
-
-module _ (cols room : List ℕ) where
-  pub drivers_start : room ≡ cols → DriversPut cols room 0
-  drivers_start e = rw e (record { places = refl; drivers = λ k l. absurd (omega arith); front = λ k l. refl; back = λ k l. refl })
-
-  module _ (t : ℕ) (w : DriversPut cols room t) where
-    pub drivers_more : (n : ℕ) → t < n → n ≤ most_turns → length cols ≡ column_places → DriversPut cols (set room (most_turns + t) (get_or cols (5 * most_turns + t) 0)) (t + 1)
-    drivers_more n l f s =
-        record {
-          places = length-set room (most_turns + t) v ∙ w.places;
-          drivers = λ k m. go k m (ℕ_discrete k t);
-          front = λ k m. get_or-set_other room (most_turns + t) k v 0 (omega arith) ∙ w.front k m;
-          back = λ k m. get_or-set_other room (most_turns + t) k v 0 (omega arith) ∙ w.back k m;
-        }
-      where
-        v : ℕ
-        v = get_or cols (5 * most_turns + t) 0
-
-        go : (k : ℕ) → k < t + 1 → Dec (k ≡ t) → get_or (set room (most_turns + t) v) (most_turns + k) 0 ≡ get_or cols (5 * most_turns + k) 0
-        go k m (yes d) = rw d (get_or-set_same room (most_turns + t) v 0 (omega (arith, w.places)))
-        go k m (no d) = get_or-set_other room (most_turns + t) (most_turns + k) v 0 (omega arith) ∙ w.drivers k (omega arith)
-
-    pub drivers_done : (n : ℕ) → n ≤ t → t ≤ n → DriversPut cols room n
-    drivers_done n a b = let e : t ≡ n = omega arith in rw e at w
-
-    pub drivers_size : length room ≡ length cols
-    drivers_size = w.places
-
-pub ruleset drivers_cases = (drivers_start, drivers_more, drivers_done)
 
 module _ (p : Size) (cols room : List ℕ) (held : Held p cols) (w : DriversPut cols room p.count) where
   field_same : (f g : Row → ℕ) → ((k : ℕ) → k < p.count → f (row_in room k) ≡ g (row_in cols k)) → (t : ℕ) → within p.count (λ k. f (row_in room k)) t ≡ within p.count (λ k. g (row_in cols k)) t
@@ -223,9 +185,6 @@ module _ (p : Size) (cols room : List ℕ) (held : Held p cols) (w : DriversPut 
     worth = λ t. field_same (λ (r : Row). r.worth) (λ (r : Row). r.worth) (λ k l. w.back (4 * most_turns + k) (omega arith)) t j;
     driver = λ t. field_same (λ (r : Row). r.driver) (λ (r : Row). r.driver) (λ k l. w.back (5 * most_turns + k) (omega arith)) t j;
   }
-
-  pub drivers_places : length room ≡ column_places
-  drivers_places = w.places ∙ held.places
 
 -- ---- the whole
 

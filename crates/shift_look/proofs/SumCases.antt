@@ -6,8 +6,6 @@ use mathlib.Core.List.{List, [], ◌∷◌}
 use native.Mathlib.Omega.{arith}
 use native.Mathlib.Numerals.{add-one}
 use native.Mathlib.Decide.{ℕ_discrete}
-use mir.Syntax.{w32, w64}
-use mir.Val.{Fits}
 use lib.Dec.{ltb}
 use lib.ListN.{length, get_or, set, replicate, length-set, length-replicate, get_or-replicate}
 use lib.Seq.{get_or-set_same, get_or-set_other}
@@ -42,16 +40,7 @@ module _ (prices : List ℕ) (slopes : ℕ) where
         let q : get_or prices (k + 1 - 1) 0 ≡ get_or prices k 0 = ap (λ (i : ℕ). get_or prices i 0) (omega arith) in
         record { within = omega arith; is = rw (add-one k) (omega (arith, s.is, e, q)); most = omega (arith, s.most) }
 
-    pub slopes_fit : {r : ℕ} → slopes ≤ most_slopes → r ≤ most_price → Fits w32 (total + r)
-    slopes_fit h l = omega (arith, s.within, s.most)
-
-    pub slopes_done : slopes ≤ k → total ≡ slopes_sum prices slopes
-    slopes_done h = let e : k ≡ slopes = omega (arith, s.within) in s.is ∙ ap (slopes_sum prices) e
-
-    pub slopes_most : slopes ≤ most_slopes → total ≤ most_slopes * most_price
-    slopes_most l = omega (arith, s.within, s.most)
-
-pub ruleset slopes_cases = (slopes_start, slopes_more, slopes_fit, slopes_done, slopes_most)
+pub ruleset slopes_cases = (slopes_start, slopes_more)
 
 -- ---- a place of the drivers' order
 
@@ -70,23 +59,12 @@ module _ (e : Extent) (cols orders prices : List ℕ) (w : Priced e cols prices)
   place_within : get_or orders (2 * most_turns + j) 0 < e.size.count
   place_within = omega (arith, place_is, drivers_within (turns_in e cols) j (omega (arith, count_is e.size cols)), count_is e.size cols)
 
-  pub place_few : get_or orders (2 * most_turns + j) 0 < most_turns
-  place_few = omega (arith, place_within, w.few)
-
-  pub place_fits : Fits w64 (get_or orders (2 * most_turns + j) 0)
-  place_fits = omega (arith, place_few)
-
-  pub price_fits : Fits w64 (e.slopes + get_or orders (2 * most_turns + j) 0)
-  price_fits = omega (arith, place_few, w.few_slopes)
-
   pub price_inside : e.slopes + get_or orders (2 * most_turns + j) 0 < length prices
   price_inside = omega (arith, place_within, w.list)
 
   named_price : {r : ℕ} → r ≡ get_or prices (e.slopes + get_or orders (2 * most_turns + j) 0) 0 → 0 < place_driver (turns_in e cols) j → r ≡ place_price (turns_in e cols) e.slopes prices j
   unfolding place_price turn_price
   named_price g d = g ∙ rw (lt-ltb 0 (place_driver (turns_in e cols) j) d, place_is)
-
-pub ruleset price_cases = (place_few, place_fits, price_fits, price_inside)
 
 -- the driver there
 module _ (e : Extent) (cols orders : List ℕ) (o : Ordered (turns_in e cols) orders) (j : ℕ) (h : j < e.size.count) where
@@ -99,14 +77,11 @@ module _ (e : Extent) (cols orders : List ℕ) (o : Ordered (turns_in e cols) or
   pub turn_few : e.size.count ≤ most_turns → get_or orders (2 * most_turns + j) 0 < most_turns
   turn_few l = omega (arith, turn_within)
 
-  pub turn_fits : e.size.count ≤ most_turns → Fits w64 (get_or orders (2 * most_turns + j) 0)
-  turn_fits l = omega (arith, turn_within)
-
   pub driver_there : {a : Row} → a ≡ row_in cols (get_or orders (2 * most_turns + j) 0) → a.driver ≡ place_driver (turns_in e cols) j
   unfolding place_driver
   driver_there q = driver_at e cols (get_or orders (2 * most_turns + j) 0) turn_within q ∙ ap (turns_in e cols).driver turn_is
 
-pub ruleset driver_cases = (turn_few, turn_fits, driver_there)
+pub ruleset driver_cases = (turn_few, driver_there)
 
 -- ---- the first place with a driver
 
@@ -127,28 +102,13 @@ module _ (e : Extent) (cols : List ℕ) where
     pub within : j ≤ e.size.count
     pub none : (i : ℕ) → i < j → place_driver (turns_in e cols) i ≡ 0
 
-  pub none_start : NoneTo 0
-  none_start = record { within = omega arith; none = λ i l. absurd (omega arith) }
-
   module _ {j : ℕ} (s : NoneTo j) where
-    pub none_more : {d : ℕ} → j < e.size.count → d ≡ place_driver (turns_in e cols) j → d ≤ 0 → NoneTo (j + 1)
-    none_more h q z = record { within = omega arith; none = λ i l. go i l (ℕ_discrete i j) }
-      where
-        go : (i : ℕ) → i < j + 1 → Dec (i ≡ j) → place_driver (turns_in e cols) i ≡ 0
-        go i l (yes p) = rw p (omega arith)
-        go i l (no p) = s.none i (omega arith)
-
     pub named_found : {d : ℕ} → j < e.size.count → d ≡ place_driver (turns_in e cols) j → 0 < d → NamedFrom (turns_in e cols) e.size.count j
     named_found h q z = record { within = s.within; none = s.none; named = λ i a b. go i a b (ℕ_discrete i j) }
       where
         go : (i : ℕ) → j ≤ i → i < e.size.count → Dec (i ≡ j) → 0 < place_driver (turns_in e cols) i
         go i a b (yes p) = rw p (omega arith)
         go i a b (no p) = omega (arith, drivers_rise (turns_in e cols) j i (omega arith) (omega (arith, count_is e.size cols)))
-
-    pub none_named : e.size.count ≤ j → NamedFrom (turns_in e cols) e.size.count j
-    none_named h = record { within = s.within; none = s.none; named = λ i a b. absurd (omega (arith, s.within)) }
-
-pub ruleset named_cases = (none_start, none_more, named_found, none_named)
 
 -- ---- sums from the front
 
@@ -169,13 +129,7 @@ module _ (e : Extent) (cols prices sums : List ℕ) (w : Priced e cols prices) w
       zero_at : (k : ℕ) → k ≤ r → get_or sums k 0 ≡ 0
       zero_at k l = rw q (get_or-replicate {A = ℕ} entry_places k 0 0 (omega (arith, f.within, w.few)))
 
-  pub sums_within : (r : ℕ) → NamedFrom (turns_in e cols) e.size.count r → r ≤ e.size.count
-  sums_within r f = f.within
-
   module _ (j : ℕ) (s : SumsTo (turns_in e cols) e.slopes prices sums j) where
-    pub sums_fit : {r : ℕ} → j < e.size.count → r ≤ most_price → Fits w32 (get_or sums j 0 + r)
-    sums_fit h l = omega (arith, s.most j (omega arith), w.few)
-
     sums_more : {r : ℕ} → j < e.size.count → r ≡ place_price (turns_in e cols) e.slopes prices j → r ≤ most_price → SumsTo (turns_in e cols) e.slopes prices (set sums (j + 1) (get_or sums j 0 + r)) (j + 1)
     unfolding places_sum
     sums_more {r} h q l =
@@ -201,16 +155,7 @@ module _ (e : Extent) (cols prices sums : List ℕ) (w : Priced e cols prices) w
         → r ≡ get_or prices (e.slopes + get_or orders (2 * most_turns + j) 0) 0 → r ≤ most_price → SumsTo (turns_in e cols) e.slopes prices (set sums (j + 1) (get_or sums j 0 + r)) (j + 1)
     sums_next orders first o f a h q l = sums_more h (named_price e cols orders prices w o j h q (f.named j a h)) l
 
-    pub sums_inside : j < e.size.count → j + 1 < entry_places
-    sums_inside h = omega (arith, w.few)
-
-    pub sums_here : j < e.size.count → j < entry_places
-    sums_here h = omega (arith, w.few)
-
-    pub sums_done : e.size.count ≤ j → j ≤ e.size.count → SumsTo (turns_in e cols) e.slopes prices sums e.size.count
-    sums_done a b = let z : j ≡ e.size.count = omega arith in rw z at s
-
-pub ruleset sums_cases = (sums_start, sums_within, sums_fit, sums_next, sums_inside, sums_here, sums_done)
+pub ruleset sums_cases = (sums_start, sums_next)
 
 -- ---- a sum over an order's places is one over all turns
 
@@ -240,16 +185,7 @@ module _ (e : Extent) (cols prices sums : List ℕ) (s : SumsTo (turns_in e cols
   pub both_most : e.size.count ≤ most_turns → a ≤ most_slopes * most_price → a + get_or sums e.size.count 0 ≤ (most_slopes + most_turns) * most_price
   both_most l m = omega (arith, s.most e.size.count (omega arith))
 
-  pub both_fit : e.size.count ≤ most_turns → a ≤ most_slopes * most_price → Fits w32 (a + get_or sums e.size.count 0)
-  both_fit l m = omega (arith, both_most l m)
-
 pub priced_slopes : (e : Extent) (cols prices : List ℕ) → Priced e cols prices → e.slopes ≤ most_slopes
 priced_slopes e cols prices w = w.few_slopes
 
-pub priced_list : (e : Extent) (cols prices : List ℕ) → Priced e cols prices → e.slopes ≤ length prices
-priced_list e cols prices w = omega (arith, w.list)
-
-pub priced_count : (e : Extent) (cols prices : List ℕ) → Priced e cols prices → e.size.count < entry_places
-priced_count e cols prices w = omega (arith, w.few)
-
-pub ruleset both_cases = (both_are, both_most, both_fit, priced_slopes, priced_list, priced_count)
+pub ruleset both_cases = (both_are, both_most)

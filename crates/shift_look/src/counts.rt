@@ -1,5 +1,5 @@
 // What each turn pays, and what it counts for.
-ghost use Rattle.std.specs.Prelude.{◌≡◌, ◌+◌, ◌-◌, ◌*◌, ◌≤◌, ◌<◌, length, get_or};
+ghost use Rattle.std.specs.Prelude.{◌≡◌, ◌+◌, ◌-◌, ◌*◌, ◌≤◌, ◌<◌, get_or};
 ghost use Rattle.sheet.specs.Kind.{most_turns, most_slopes};
 ghost use Rattle.instance.specs.Columns.{turns_by};
 ghost use Rattle.limit_spec.specs.Prices.{paid_by, price_sum, most_price};
@@ -22,18 +22,11 @@ fn run_sum(orders: &[u16; ORDERS], sums: &[u32; ENTRIES], t: usize) -> u32
     sums[orders[TOS + t] as usize] - sums[orders[FROMS + t] as usize]
 }
 
-// The greater of x and least.
-fn at_least(x: u32, least: u32) -> u32
-    ensures { result ≡ least + (x - least) }
-{
-    if x <= least { least } else { x }
-}
-
 // What is left of a worth, nothing if all of it is paid. Branch-free: a branch per turn would be mispredicted.
 pub fn net_of(worth: u16, paid: u32) -> u16
     ensures { result ≡ worth - paid }
 {
-    (at_least(worth as u32, paid) - paid) as u16
+    u32::from(worth).saturating_sub(paid) as u16
 }
 
 // All that turn t pays.
@@ -62,15 +55,12 @@ fn put_payments(
     sums: &[u32; ENTRIES],
     paid: &mut [u32; MOST_TURNS],
 )
-    requires priced { Priced e cols.now prices.now × Ordered (turns_in e cols.now) orders.now × (length paid.old ≡ most_turns) }
+    requires priced { Priced e cols.now prices.now × Ordered (turns_in e cols.now) orders.now }
     requires sums_to { SumsTo (turns_in e cols.now) e.slopes prices.now sums.now e.size.count }
     ensures { PaymentsTo (turns_in e cols.now) e.slopes prices.now paid.new e.size.count }
 {
-    let n = e.size.count;
-    let mut t = 0;
-    while t < n {
+    for t in 0..e.size.count {
         paid[t] = paid_by(e, cols, orders, prices, sums, t);
-        t += 1;
     }
 }
 
@@ -86,14 +76,11 @@ fn net_at(p: Size, cols: &[u16; PLACES], paid: &[u32; MOST_TURNS], t: usize) -> 
 // What is left of all turns' worths. It has a loop of its own: in one with the payments the compiler would make
 // a branch for each turn, and the branches would be mispredicted.
 fn put_nets(p: Size, cols: &[u16; PLACES], paid: &[u32; MOST_TURNS], counts: &mut [u16; MOST_TURNS])
-    requires { (p.count ≤ most_turns) × (length counts.old ≡ most_turns) }
+    requires { p.count ≤ most_turns }
     ensures { NumbersTo (left_after (turns_by p cols.now) paid.now) counts.new p.count }
 {
-    let n = p.count;
-    let mut t = 0;
-    while t < n {
+    for t in 0..p.count {
         counts[t] = net_at(p, cols, paid, t);
-        t += 1;
     }
 }
 
@@ -105,7 +92,7 @@ fn put_counts_with_drivers(
     prices: &[u16],
     counts: &mut [u16; MOST_TURNS],
 ) -> u32
-    requires { Priced e cols.now prices.now × Ordered (turns_in e cols.now) orders.now × (length counts.old ≡ most_turns) }
+    requires { Priced e cols.now prices.now × Ordered (turns_in e cols.now) orders.now }
     ensures counts_to { CountsTo (turns_in e cols.now) e.slopes prices.now counts.new e.size.count }
     ensures value { (result ≡ price_sum (turns_in e cols.now) e.slopes prices.now) × (result ≤ (most_slopes + most_turns) * most_price) }
 {
@@ -113,9 +100,8 @@ fn put_counts_with_drivers(
     put_sums(e, cols, orders, prices, &mut sums);
     let mut paid = [0u32; MOST_TURNS];
     put_payments(e, cols, orders, prices, &sums, &mut paid);
-    put_nets(e.size, cols, &paid, &mut *counts);
-    let n = e.size.count;
-    slope_prices(prices, e.slopes) + sums[n]
+    put_nets(e.size, cols, &paid, counts);
+    slope_prices(prices, e.slopes) + sums[e.size.count]
 }
 
 // What all turns count for; returns the limit's part that is prices.
@@ -126,13 +112,13 @@ pub fn put_counts(
     prices: &[u16],
     counts: &mut [u16; MOST_TURNS],
 ) -> u32
-    requires { Priced e cols.now prices.now × Ordered (turns_in e cols.now) orders.now × (length counts.old ≡ most_turns) }
+    requires { Priced e cols.now prices.now × Ordered (turns_in e cols.now) orders.now }
     ensures counts_to { CountsTo (turns_in e cols.now) e.slopes prices.now counts.new e.size.count }
     ensures value { (result ≡ price_sum (turns_in e cols.now) e.slopes prices.now) × (result ≤ (most_slopes + most_turns) * most_price) }
 {
     if any_driver(e.size, cols) {
-        return put_counts_with_drivers(e, cols, orders, prices, &mut *counts);
+        return put_counts_with_drivers(e, cols, orders, prices, counts);
     }
-    put_slope_counts(e, cols, prices, &mut *counts);
+    put_slope_counts(e, cols, prices, counts);
     slope_prices(prices, e.slopes)
 }

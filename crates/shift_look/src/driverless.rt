@@ -1,20 +1,19 @@
 // Turns of which none names a driver. Each pays for its slope alone, so the sums along the drivers' order are
 // left out, and for the limit that order too.
-ghost use Rattle.std.specs.Prelude.{◌≡◌, ◌+◌, ◌≤◌, ◌<◌, ltb, length};
+ghost use Rattle.std.specs.Prelude.{◌≡◌, ◌+◌, ◌≤◌, ◌<◌, ltb};
 ghost use Rattle.sheet.specs.Kind.{most_turns};
 ghost use Rattle.model.specs.Turns.{NoDrivers};
 ghost use Rattle.instance.specs.Columns.{turns_by, Held};
 ghost use Rattle.best_spec.specs.Table.{best_worth};
 ghost use Rattle.best_table.specs.OrderAndTable.{Ranged};
 ghost use Rattle.limit_spec.specs.Prices.{counts_for, price_sum};
-ghost use Rattle.shift_look.specs.OrdersAndCounts.{counted_turns, turns_in, order_places, greatest_driver, Priced, CountsTo};
+ghost use Rattle.shift_look.specs.OrdersAndCounts.{counted_turns, turns_in, greatest_driver, Priced, CountsTo};
 
 use super::counts::net_of;
 use super::sums::{price_at, slope_prices};
 use super::{Extent, ORDERS};
 use best_table::{ENTRIES, fill_table};
 use instance::{MOST_TURNS, PLACES, Size, row_at};
-use numbers::greater_u16;
 
 // The greatest driver that a turn names, 0 where none does.
 fn greatest_driver(p: Size, cols: &[u16; PLACES]) -> u16
@@ -22,11 +21,8 @@ fn greatest_driver(p: Size, cols: &[u16; PLACES]) -> u16
     ensures { result ≡ greatest_driver (turns_by p cols.now) p.count }
 {
     let mut greatest: u16 = 0;
-    let mut t = 0;
-    while t < p.count {
-        let row = row_at(cols, t);
-        greatest = greater_u16(row.driver, greatest);
-        t += 1;
+    for t in 0..p.count {
+        greatest = row_at(cols, t).driver.max(greatest);
     }
     greatest
 }
@@ -40,8 +36,7 @@ pub fn any_driver(p: Size, cols: &[u16; PLACES]) -> bool
     if p.count == 0 {
         return false;
     }
-    let first = row_at(cols, 0);
-    if 0 < first.driver {
+    if 0 < row_at(cols, 0).driver {
         return true;
     }
     0 < greatest_driver(p, cols)
@@ -64,14 +59,11 @@ pub fn put_slope_counts(
     prices: &[u16],
     counts: &mut [u16; MOST_TURNS],
 )
-    requires { Priced e cols.now prices.now × NoDrivers (turns_in e cols.now) × (length counts.old ≡ most_turns) }
+    requires { Priced e cols.now prices.now × NoDrivers (turns_in e cols.now) }
     ensures { CountsTo (turns_in e cols.now) e.slopes prices.now counts.new e.size.count }
 {
-    let n = e.size.count;
-    let mut t = 0;
-    while t < n {
+    for t in 0..e.size.count {
         counts[t] = slope_count(e, cols, prices, t);
-        t += 1;
     }
 }
 
@@ -82,16 +74,15 @@ pub fn limit_driverless(
     prices: &[u16],
     orders: &mut [u16; ORDERS],
 ) -> u32
-    requires held { Held e.size cols.now × Ranged e.size cols.now × Priced e cols.now prices.now × NoDrivers (turns_in e cols.now) }
-    requires orders_len { length orders.old ≡ order_places }
+    requires { Held e.size cols.now × Ranged e.size cols.now × Priced e cols.now prices.now × NoDrivers (turns_in e cols.now) }
     ensures { result ≡ price_sum (turns_in e cols.now) e.slopes prices.now
         + best_worth (counted_turns (turns_in e cols.now) e.slopes prices.now) }
 {
-    best_table::put_places(e.size, cols, &mut *orders);
+    best_table::put_places(e.size, cols, orders);
     let mut counts = [0u16; MOST_TURNS];
     put_slope_counts(e, cols, prices, &mut counts);
     let mut worths = [0u32; ENTRIES];
     let mut firsts = [0u16; ENTRIES];
-    fill_table(e.size.count, &*orders, &counts, &mut worths, &mut firsts);
+    fill_table(e.size.count, orders, &counts, &mut worths, &mut firsts);
     slope_prices(prices, e.slopes) + worths[0]
 }

@@ -1,8 +1,8 @@
 // A look at some prices: the limit, and the groomers' best sets.
-ghost use Rattle.std.specs.Prelude.{◌≡◌, false, ◌+◌, length, replicate};
+ghost use Rattle.std.specs.Prelude.{◌≡◌, false, ◌+◌, replicate};
 ghost use Rattle.choice_map.specs.Choice.{choice_in, Clean};
 ghost use Rattle.best_spec.specs.Table.{best_worth, best_choice};
-ghost use Rattle.best_table.specs.OrderAndTable.{entry_places, Firsts};
+ghost use Rattle.best_table.specs.OrderAndTable.{Firsts};
 ghost use Rattle.limit_spec.specs.Prices.{price_sum};
 ghost use Rattle.shift_look.specs.OrdersAndCounts.{counted_turns, turns_in, Priced, Ordered};
 
@@ -20,15 +20,14 @@ fn limit_with(
     worths: &mut [u32; ENTRIES],
     firsts: &mut [u16; ENTRIES],
 ) -> u32
-    requires priced { Priced e cols.now prices.now × Ordered (turns_in e cols.now) orders.now }
-    requires worths_len { (length worths.old ≡ entry_places) × (length firsts.old ≡ entry_places) }
+    requires { Priced e cols.now prices.now × Ordered (turns_in e cols.now) orders.now }
     ensures value { result ≡ price_sum (turns_in e cols.now) e.slopes prices.now
         + best_worth (counted_turns (turns_in e cols.now) e.slopes prices.now) }
     ensures firsts { Firsts (counted_turns (turns_in e cols.now) e.slopes prices.now) firsts.new }
 {
     let mut counts = [0u16; MOST_TURNS];
     let sum = put_counts(e, cols, orders, prices, &mut counts);
-    fill_table(e.size.count, orders, &counts, &mut *worths, &mut *firsts);
+    fill_table(e.size.count, orders, &counts, worths, firsts);
     sum + worths[0]
 }
 
@@ -50,7 +49,7 @@ pub fn look_at(
     let mut worths = [0u32; ENTRIES];
     let mut firsts = [0u16; ENTRIES];
     let limit = limit_with(e, cols, orders, prices, &mut worths, &mut firsts);
-    read_back(e.size.count, orders, &firsts, &mut *map);
+    read_back(e.size.count, orders, &firsts, map);
     limit
 }
 

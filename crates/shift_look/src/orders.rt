@@ -1,10 +1,10 @@
 // What does not depend on prices: the groomers' order and where its sets go on, the drivers' order and what each turn
 // pays for in it.
-ghost use Rattle.std.specs.Prelude.{◌≡◌, ◌≤◌, length};
+ghost use Rattle.std.specs.Prelude.{◌≡◌, ◌≤◌};
 ghost use Rattle.sheet.specs.Kind.{most_turns};
-ghost use Rattle.instance.specs.Columns.{column_places, turns_by, Held};
+ghost use Rattle.instance.specs.Columns.{turns_by, Held};
 ghost use Rattle.best_table.specs.OrderAndTable.{Ranged};
-ghost use Rattle.shift_look.specs.OrdersAndCounts.{by_drivers, turns_in, order_places, Driven, DriversPut, Ordered};
+ghost use Rattle.shift_look.specs.OrdersAndCounts.{by_drivers, turns_in, Driven, DriversPut, Ordered};
 
 use super::runs::put_drivers;
 use super::{Extent, ORDERS};
@@ -15,32 +15,23 @@ const GROOMER_COLUMN: usize = MOST_TURNS;
 
 const DRIVER_COLUMN: usize = 5 * MOST_TURNS;
 
-// Copies all columns.
-fn copy_columns(cols: &[u16; PLACES], room: &mut [u16; PLACES])
-    ensures { room.new ≡ cols.now }
-{
-    *room = *cols;
-}
-
 // Writes the driver of each of the first n turns where its groomer stands.
 fn put_drivers_as_groomers(cols: &[u16; PLACES], n: usize, room: &mut [u16; PLACES])
-    requires { (n ≤ most_turns) × (room.old ≡ cols.now) × (length cols.now ≡ column_places) }
+    requires { (n ≤ most_turns) × (room.old ≡ cols.now) }
     ensures { DriversPut cols.now room.new n }
 {
-    let mut t = 0;
-    while t < n {
+    for t in 0..n {
         room[GROOMER_COLUMN + t] = cols[DRIVER_COLUMN + t];
-        t += 1;
     }
 }
 
 // Copies the columns, with each turn's driver where its groomer stands.
 fn put_by_drivers(p: Size, cols: &[u16; PLACES], room: &mut [u16; PLACES])
     requires { Held p cols.now }
-    ensures { (turns_by p room.new ≡ by_drivers (turns_by p cols.now)) × (length room.new ≡ column_places) }
+    ensures { turns_by p room.new ≡ by_drivers (turns_by p cols.now) }
 {
-    copy_columns(cols, &mut *room);
-    put_drivers_as_groomers(cols, p.count, &mut *room);
+    *room = *cols;
+    put_drivers_as_groomers(cols, p.count, room);
 }
 
 // Puts both orders, with what stands beside them. The room is for the columns by drivers; what it holds
@@ -51,11 +42,11 @@ pub fn put_orders(
     orders: &mut [u16; ORDERS],
     room: &mut [u16; PLACES],
 )
-    requires { Held e.size cols.now × Ranged e.size cols.now × Driven e.size cols.now × (length orders.old ≡ order_places) }
-    ensures { Ordered (turns_in e cols.now) orders.new × (length room.new ≡ column_places) }
+    requires { Held e.size cols.now × Ranged e.size cols.now × Driven e.size cols.now }
+    ensures { Ordered (turns_in e cols.now) orders.new }
 {
     let p = e.size;
-    best_table::put_places(p, cols, &mut *orders);
-    put_by_drivers(p, cols, &mut *room);
-    put_drivers(p, &*room, &mut *orders);
+    best_table::put_places(p, cols, orders);
+    put_by_drivers(p, cols, room);
+    put_drivers(p, room, orders);
 }

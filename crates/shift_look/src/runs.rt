@@ -4,7 +4,7 @@ ghost use Rattle.std.specs.Prelude.{◌≡◌, ◌&&◌, ◌*◌, ◌≤◌, ◌
 ghost use Rattle.sheet.specs.Kind.{most_turns};
 ghost use Rattle.instance.specs.Columns.{turns_by, Held};
 ghost use Rattle.best_table.specs.OrderAndTable.{KeysFit, InTurnOrder};
-ghost use Rattle.shift_look.specs.OrdersAndCounts.{order_places, with_run, RunStart, RunBefore, PlaceRun, PlaceRunsTo};
+ghost use Rattle.shift_look.specs.OrdersAndCounts.{with_run, RunStart, RunBefore, PlaceRun, PlaceRunsTo};
 
 use super::ORDERS;
 use best_table::{row_at_place, skip_blocked};
@@ -67,7 +67,7 @@ fn run_of(p: Size, cols: &[u16; PLACES], order: &[u16], i: usize, from: usize) -
 
 // Puts turn t and its run at place i.
 fn put_run(orders: &mut [u16; ORDERS], i: usize, t: u16, run: Run)
-    requires { (i < most_turns) × (t < most_turns) × (length orders.old ≡ order_places) }
+    requires { (i < most_turns) × (t < most_turns) }
     ensures { orders.new ≡ with_run orders.old i t run.from run.to }
 {
     let at = t as usize;
@@ -78,34 +78,30 @@ fn put_run(orders: &mut [u16; ORDERS], i: usize, t: u16, run: Run)
 
 // All turns in the drivers' order, with their runs.
 fn put_runs(p: Size, cols: &[u16; PLACES], order: &[u16], orders: &mut [u16; ORDERS])
-    requires { Held p cols.now × InTurnOrder (turns_by p cols.now) order.now × (length orders.old ≡ order_places) }
+    requires { Held p cols.now × InTurnOrder (turns_by p cols.now) order.now }
     ensures { PlaceRunsTo (turns_by p cols.now) orders.old orders.new p.count }
 {
     let mut from = 0;
-    let mut i = 0;
-    while i < p.count {
+    for i in 0..p.count {
         from = run_start(p, cols, order, i, from);
-        let run = run_of(p, cols, order, i, from);
-        put_run(&mut *orders, i, order[i], run);
-        i += 1;
+        put_run(orders, i, order[i], run_of(p, cols, order, i, from));
     }
 }
 
 // Puts the turns in the drivers' order, in a place for it, and then with their runs into the orders.
 fn put_drivers_with(p: Size, cols: &[u16; PLACES], order: &mut [u16], orders: &mut [u16; ORDERS])
-    requires { Held p cols.now × KeysFit p cols.now × (p.count ≤ length order.old) × (length orders.old ≡ order_places) }
+    requires { Held p cols.now × KeysFit p cols.now × (p.count ≤ length order.old) }
     ensures { PlaceRunsTo (turns_by p cols.now) orders.old orders.new p.count }
 {
-    let n = p.count;
-    best_table::put_any_order(p, cols, &mut order[0..n]);
-    put_runs(p, cols, &*order, &mut *orders);
+    best_table::put_any_order(p, cols, &mut order[..p.count]);
+    put_runs(p, cols, order, orders);
 }
 
 // Puts the turns in the drivers' order and their runs into the orders.
 pub fn put_drivers(p: Size, cols: &[u16; PLACES], orders: &mut [u16; ORDERS])
-    requires { Held p cols.now × KeysFit p cols.now × (length orders.old ≡ order_places) }
+    requires { Held p cols.now × KeysFit p cols.now }
     ensures { PlaceRunsTo (turns_by p cols.now) orders.old orders.new p.count }
 {
     let mut order = [0u16; MOST_TURNS];
-    put_drivers_with(p, cols, &mut order, &mut *orders);
+    put_drivers_with(p, cols, &mut order, orders);
 }

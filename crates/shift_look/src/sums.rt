@@ -9,14 +9,13 @@ use super::runs::DRIVERS;
 use super::{Extent, ORDERS};
 use best_table::ENTRIES;
 use instance::{PLACES, row_at};
-use numbers::as_u32;
 
 // The price at place i.
 pub fn price_at(prices: &[u16], i: usize) -> u32
     requires { i < length prices.now }
     ensures { (result ≡ get_or prices.now i 0) × (result ≤ most_price) }
 {
-    as_u32(prices[i])
+    u32::from(prices[i])
 }
 
 // The prices of all slopes, which come first.
@@ -25,10 +24,8 @@ pub fn slope_prices(prices: &[u16], slopes: usize) -> u32
     ensures { (result ≡ slopes_sum prices.now slopes) × (result ≤ most_slopes * most_price) }
 {
     let mut sum = 0;
-    let mut k = 0;
-    while k < slopes {
+    for k in 0..slopes {
         sum += price_at(prices, k);
-        k += 1;
     }
     sum
 }
@@ -38,9 +35,7 @@ fn driver_at(e: Extent, cols: &[u16; PLACES], orders: &[u16; ORDERS], j: usize) 
     requires { (j < e.size.count) × (e.size.count ≤ most_turns) × Ordered (turns_in e cols.now) orders.now }
     ensures { result ≡ place_driver (turns_in e cols.now) j }
 {
-    let u = orders[DRIVERS + j] as usize;
-    let row = row_at(cols, u);
-    row.driver
+    row_at(cols, orders[DRIVERS + j] as usize).driver
 }
 
 // The first place of the drivers' order whose turn names a driver: turns without one all stand before it. As many
@@ -49,15 +44,12 @@ fn first_named(e: Extent, cols: &[u16; PLACES], orders: &[u16; ORDERS]) -> usize
     requires { (e.size.count ≤ most_turns) × Ordered (turns_in e cols.now) orders.now }
     ensures { NamedFrom (turns_in e cols.now) e.size.count result }
 {
-    let n = e.size.count;
-    let mut j = 0;
-    while j < n {
+    for j in 0..e.size.count {
         if 0 < driver_at(e, cols, orders, j) {
             return j;
         }
-        j += 1;
     }
-    j
+    e.size.count
 }
 
 // The sums of what is paid at the first places, from none of them to all. They come in as zeros, and stay so for turns
@@ -72,11 +64,8 @@ pub fn put_sums(
     requires { Priced e cols.now prices.now × Ordered (turns_in e cols.now) orders.now × (sums.old ≡ replicate entry_places 0) }
     ensures { SumsTo (turns_in e cols.now) e.slopes prices.now sums.new e.size.count }
 {
-    let n = e.size.count;
-    let mut j = first_named(e, cols, orders);
-    while j < n {
+    for j in first_named(e, cols, orders)..e.size.count {
         let u = orders[DRIVERS + j] as usize;
         sums[j + 1] = sums[j] + price_at(prices, e.slopes + u);
-        j += 1;
     }
 }

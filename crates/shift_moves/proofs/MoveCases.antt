@@ -5,10 +5,8 @@ use mathlib.Core.Logic.{◌≢◌}
 use mathlib.Core.Bool.{Bool, cond, false}
 use mathlib.Core.List.{List, ◌++◌}
 use native.Mathlib.Omega.{arith}
-use native.Mathlib.Nat.{suc-mul, mul-le-mul}
+use native.Mathlib.Nat.{suc-mul}
 use native.Mathlib.Decide.{dec_lt, ℕ_discrete}
-use mir.Syntax.{w32, w64}
-use mir.Val.{Fits}
 use lib.Dec.{ltb, eqb}
 use lib.ListN.{length, get_or, set, length-set, get_or-append}
 use lib.Seq.{get_or-set_same, get_or-set_other, get_or-append-add, ext_get_or}
@@ -16,7 +14,7 @@ use borrow.Author.Tests.{lt-ltb, le-ltb, eq-eqb, ne_eqb}
 use Rattle.lists.specs.Lists.{tab}
 use Rattle.lists.proofs.Sums.{all_map, all_at, tab_length, tab_at}
 use Rattle.turn.specs.Turn.{most_worth}
-use Rattle.sheet.specs.Kind.{most_turns, most_slopes}
+use Rattle.sheet.specs.Kind.{most_turns}
 use Rattle.model.specs.Turns.{Turns, NoDrivers}
 use Rattle.instance.specs.Columns.{row_in, turns_by}
 use Rattle.instance.proofs.Rows.{slope_at}
@@ -27,30 +25,22 @@ use Rattle.shift_look.proofs.DriverlessCases.{none_named}
 use Rattle.refine_spec.specs.Shift.{highest_price, slope_payers, turn_payers, moved_price, turn_change, moved_prices}
 use Rattle.refine_spec.proofs.Shift.{moved_length}
 use Rattle.shift_look.proofs.SumCases.{priced_slopes}
-use Rattle.shift_moves.specs.Moves.{payer_places, number_behind, times_taken, payers_before, nobody, payers_at, payers_after, slope_payers_in, turn_payers_in, own_place, place_behind, turn_price_place, Taken, TurnsOf, SmallNumbers, Times, PaidRuns, Payers, FewPayers, EachOnce, MovedBy, MovedFor}
+use Rattle.shift_moves.specs.Moves.{number_behind, times_taken, payers_before, nobody, payers_at, payers_after, slope_payers_in, turn_payers_in, own_place, place_behind, turn_price_place, Taken, TurnsOf, SmallNumbers, Times, PaidRuns, Payers, FewPayers, EachOnce, MovedBy, MovedFor}
 use Rattle.shift_moves.proofs.DriversOrder.{turn_place_lem, payers_are, no_payers}
 use Rattle.shift_moves.proofs.PayerCases.{sum_equal, times_most, payers_most}
 
 -- ---- the change
 
-pub half_is : (c : ℕ) {r : ℕ} → r ≡ max 1 (c / 2) → r ≡ turn_change c
+pub half_is : (c : ℕ) {r : ℕ} → r ≡ max (c / 2) 1 → r ≡ turn_change c
 unfolding turn_change
-half_is c e = e
+half_is c e = omega (arith, e)
 
-pub half_most : (c : ℕ) {r : ℕ} → c ≤ most_worth → r ≡ max 1 (c / 2) → r ≤ most_worth
+pub half_most : (c : ℕ) {r : ℕ} → c ≤ most_worth → r ≡ max (c / 2) 1 → r ≤ most_worth
 half_most c l e = omega arith
 
 pub ruleset change_cases = (half_is, half_most)
 
 -- ---- one price
-
-pub most_low : (payers : ℕ) → payers < 2 → most_price ≡ cond (ltb payers 2) most_price highest_price
-most_low payers h = rw (lt-ltb payers 2 h)
-
-pub most_high : (payers : ℕ) → 2 ≤ payers → highest_price ≡ cond (ltb payers 2) most_price highest_price
-most_high payers h = rw (le-ltb payers 2 h)
-
-pub ruleset most_cases = (most_low, most_high)
 
 -- without a payer a price falls, with one it stays, with more it rises; each by few facts, since omega is dear with many
 module _ (change payers price : ℕ) {a b : ℕ} (e : a ≡ price) {l m r : ℕ} (g : l ≡ a + b * change - change) (k : r ≡ min l m) where
@@ -74,15 +64,6 @@ module _ (change payers price : ℕ) {a b : ℕ} (e : a ≡ price) {l m r : ℕ}
       omega (arith, same, h, k)
 
 module _ (change payers price : ℕ) {a b : ℕ} (e : a ≡ price) (f : b ≡ payers) where
-  rise_most : change ≤ most_worth → payers ≤ most_turns → b * change ≤ 24000000
-  rise_most l m = mul-le-mul {n₁ = b} {m₁ = change} {n₂ = most_turns} {m₂ = most_worth} (omega arith) l
-
-  pub rise_fits : change ≤ most_worth → payers ≤ most_turns → Fits w32 (b * change)
-  rise_fits l m = omega (arith, rise_most l m)
-
-  pub raised_fits : change ≤ most_worth → payers ≤ most_turns → a < 65536 → Fits w32 (a + b * change)
-  raised_fits l m n = omega (arith, rise_most l m)
-
   pub moved_is : {l m r : ℕ} → a < 65536 → l ≡ a + b * change - change → m ≡ cond (ltb payers 2) most_price highest_price → r ≡ min l m → r ≡ moved_price change payers price
   unfolding moved_price
   moved_is {l} {m} {r} n g h k = go (ℕ_discrete payers 0) (ℕ_discrete payers 1)
@@ -92,19 +73,11 @@ module _ (change payers price : ℕ) {a b : ℕ} (e : a ≡ price) (f : b ≡ pa
       go (no z) (yes d) = rw (ne_eqb payers 0 z, eq-eqb payers 1 d) (kept change payers price e g k (f ∙ d) n (rw (lt-ltb payers 2 (omega (arith, d))) at h))
       go (no z) (no d) = rw (ne_eqb payers 0 z, ne_eqb payers 1 d) (risen change payers price e g k f z (rw (le-ltb payers 2 (omega (arith, z, d))) at h))
 
-pub ruleset moved_cases = (rise_fits, raised_fits, moved_is)
-
-pub price_put : (prices : List ℕ) (i : ℕ) {x y : ℕ} → x ≡ y → set prices i x ≡ set prices i y
-price_put prices i e = ap (set prices i) e
-
-pub ruleset price_put_cases = (price_put)
+pub ruleset moved_cases = (moved_is)
 
 -- ---- prices at some places
 
 module _ (change : ℕ) (payers place : ℕ → ℕ) (old : List ℕ) where
-  moved_none : MovedBy change payers place 0 old old
-  moved_none = record { size = refl; done = λ i l. absurd (omega arith); others = λ x h. refl }
-
   moved_more : (n : ℕ) (new : List ℕ) → place n < length old → ((i : ℕ) → i < n → place i ≢ place n) → MovedBy change payers place n old new →
       MovedBy change payers place (n + 1) old (set new (place n) (moved_price change (payers n) (get_or new (place n) 0)))
   moved_more n new l apart s =
@@ -132,30 +105,10 @@ module _ (change slopes : ℕ) (payers old : List ℕ) where
     pub within : k ≤ slopes
     pub moved : MovedBy change (payers_after payers) own_place k old new
 
-  pub slopes_start : SlopesMoved old 0
-  slopes_start = record { within = omega arith; moved = moved_none change (payers_after payers) own_place old }
-
   module _ (new : List ℕ) {k : ℕ} (s : SlopesMoved new k) where
-    pub slopes_long : length new ≡ length old
-    slopes_long = s.moved.size
-
-    pub slopes_inside : k < slopes → slopes ≤ length old → k < length new
-    slopes_inside h l = omega (arith, slopes_long)
-
-    pub slopes_place : k < slopes → slopes ≤ most_slopes → k + 1 < payer_places
-    slopes_place h l = omega arith
-
     pub slopes_few : k < slopes → FewPayers (slopes + 1) payers → get_or payers (k + 1) 0 ≤ most_turns
     unfolding FewPayers
     slopes_few h f = f (k + 1) (omega arith)
-
-    pub slopes_more : {new' : List ℕ} → k < slopes → slopes ≤ length old → new' ≡ set new k (moved_price change (get_or payers (k + 1) 0) (get_or new k 0)) → SlopesMoved new' (k + 1)
-    slopes_more h l e = rw e (record { within = omega arith; moved = moved_more change (payers_after payers) own_place old k new (omega arith) (λ i m q. omega arith) s.moved })
-
-    pub slopes_done : slopes ≤ k → MovedBy change (payers_after payers) own_place slopes old new
-    slopes_done h = let q : k ≡ slopes = omega (arith, s.within) in rw q at s.moved
-
-pub ruleset slopes_moved_cases = (slopes_start, slopes_long, slopes_inside, slopes_place, slopes_few, slopes_more, slopes_done)
 
 module _ (e : Extent) (cols taken prices : List ℕ) (w : Priced e cols prices) where
   slope_number : (t : ℕ) → t < e.size.count → number_behind cols 0 t ≡ (turns_in e cols).slope t
@@ -200,9 +153,6 @@ module _ (change : ℕ) (e : Extent) (payers : ℕ → ℕ) (old : List ℕ) whe
     pub within : u ≤ e.size.count
     pub moved : MovedBy change payers (place_behind e.slopes) u old new
 
-  pub turns_start : TurnsMoved old 0
-  turns_start = record { within = omega arith; moved = moved_none change payers (place_behind e.slopes) old }
-
   module _ (new : List ℕ) {u : ℕ} (s : TurnsMoved new u) where
     pub turns_long : length new ≡ length old
     turns_long = s.moved.size
@@ -211,9 +161,6 @@ module _ (change : ℕ) (e : Extent) (payers : ℕ → ℕ) (old : List ℕ) whe
     turns_done h = let q : u ≡ e.size.count = omega (arith, s.within) in rw q at s.moved
 
     module _ (h : u < e.size.count) where
-      pub turns_fits : e.slopes ≤ most_slopes → e.size.count ≤ most_turns → Fits w64 (e.slopes + u)
-      turns_fits k l = omega arith
-
       module _ (l : length old ≡ e.slopes + e.size.count) where
         pub turns_inside : e.slopes + u < length new
         turns_inside = omega (arith, turns_long)
@@ -223,14 +170,11 @@ module _ (change : ℕ) (e : Extent) (payers : ℕ → ℕ) (old : List ℕ) whe
 
 -- by those that a table has
 module _ (e : Extent) (payers : List ℕ) {u : ℕ} (h : u < e.size.count) where
-  pub paid_place : e.size.count ≤ most_turns → u < payer_places
-  paid_place l = omega arith
-
   pub paid_few : FewPayers e.size.count payers → get_or payers u 0 ≤ most_turns
   unfolding FewPayers
   paid_few f = f u h
 
-pub ruleset turns_moved_cases = (turns_start, turns_long, turns_done, turns_fits, turns_inside, turns_more, paid_place, paid_few)
+pub ruleset turns_moved_cases = (turns_long, turns_done, turns_inside, turns_more, paid_few)
 
 -- where none has a payer, all of them fall
 pub lowered_more : (change : ℕ) (e : Extent) (old new : List ℕ) {u : ℕ} → TurnsMoved change e nobody old new u → u < e.size.count → length old ≡ e.slopes + e.size.count → {new' : List ℕ} →
@@ -238,7 +182,7 @@ pub lowered_more : (change : ℕ) (e : Extent) (old new : List ℕ) {u : ℕ} �
 unfolding moved_price
 lowered_more change e old new s h l g = turns_more change e nobody old new s h l g
 
-pub ruleset lowered_cases = (turns_start, turns_long, turns_done, turns_fits, turns_inside, lowered_more)
+pub ruleset lowered_cases = (turns_long, turns_done, turns_inside, lowered_more)
 
 module _ (e : Extent) (orders taken payers : List ℕ) (ps : Payers e.size.count taken orders payers) (o : EachOnce e.size.count orders) where
   pub turn_few : PaidRuns e.size.count orders → Taken e.size.count taken → FewPayers e.size.count payers
@@ -259,10 +203,7 @@ module _ (e : Extent) (orders taken payers : List ℕ) (ps : Payers e.size.count
         others = λ x h. m.others x (λ u k z. let (j, l, p) = o.all u k in h j l (ap (λ (y : ℕ). e.slopes + y) p ∙ z));
       }
 
-pub turn_count_cause : (e : Extent) (orders : List ℕ) → PaidRuns e.size.count orders → e.size.count ≤ most_turns
-turn_count_cause e orders r = r.few
-
-pub ruleset turn_cases = (turn_few, turn_moved_lem, turn_count_cause)
+pub ruleset turn_cases = (turn_few, turn_moved_lem)
 
 -- ---- all prices
 

@@ -1,13 +1,11 @@
 -- Who pays, counted and summed up, by cases in the form in which the code's loops leave them. Assumes nothing.
-use Prim.Native.Nat.{ℕ, zero, suc, ◌+◌, ◌-◌, ◌*◌, ◌≤◌, ◌<◌}
+use Prim.Native.Nat.{ℕ, zero, suc, ◌+◌, ◌*◌, ◌≤◌, ◌<◌}
 use mathlib.Core.Path.{◌≡◌, refl, sym, ap, ◌∙◌}
 use mathlib.Core.Bool.{Bool, true, false, cond, ◌&&◌}
 use mathlib.Core.List.{List, [], ◌∷◌}
 use native.Mathlib.Omega.{arith}
 use native.Mathlib.Numerals.{add-one}
 use native.Mathlib.Decide.{dec_lt, ℕ_discrete}
-use mir.Syntax.{w64}
-use mir.Val.{Fits}
 use lib.Dec.{ltb, leb, eqb}
 use lib.ListN.{length, get_or, set, drop, replicate, length-set, length-replicate, get_or-replicate}
 use lib.Seq.{drop-cons, drop-length, get_or-set_same, get_or-set_other}
@@ -16,8 +14,8 @@ use Rattle.lists.specs.Lists.{sum_over, All, none, more}
 use Rattle.lists.proofs.Sums.{sum_add, sum_zero, all_of, all_map, all_at}
 use Rattle.lists.specs.Counting.{sum_before}
 use Rattle.sheet.specs.Kind.{most_turns}
-use Rattle.shift_look.specs.OrdersAndCounts.{order_places, drivers_turn, paid_from, paid_to}
-use Rattle.shift_moves.specs.Moves.{payer_places, number_behind, times_taken, payers_before, payers_present, Taken, SmallNumbers, Times, PaidRuns, Summable, Present, Payers, EachOnce}
+use Rattle.shift_look.specs.OrdersAndCounts.{paid_from, paid_to}
+use Rattle.shift_moves.specs.Moves.{payer_places, number_behind, times_taken, payers_before, payers_present, Taken, SmallNumbers, Times, PaidRuns, Summable, Present, Payers}
 
 -- ---- a count is no more than what is counted
 
@@ -66,12 +64,6 @@ module _ (taken numbers : List ℕ) (at : ℕ) where
       record { within = omega arith; places = rw q (length-replicate {A = ℕ} payer_places 0); values = λ k m. rw (q, get_or-replicate {A = ℕ} payer_places k 0 0 (omega arith)) (omega arith) }
 
   module _ (w : SmallNumbers taken numbers at) {i : ℕ} (h : i < length taken) {x : ℕ} (p : x ≡ get_or taken i 0) where
-    pub times_read : at + x < length numbers
-    times_read = omega (arith, p, w.within i h)
-
-    pub times_fits : Fits w64 (at + x)
-    times_fits = omega (arith, p, w.early, w.turns i h)
-
     module _ {k : ℕ} (g : k ≡ get_or numbers (at + x) 0) where
       is_number : k ≡ f (get_or taken i 0)
       is_number = g ∙ ap (λ (y : ℕ). get_or numbers (at + y) 0) p
@@ -102,7 +94,7 @@ module _ (taken numbers : List ℕ) (at : ℕ) where
       let t : CountedTo taken f times (length taken) = rw e at s in
       record { places = s.places; values = λ k m. omega (arith, t.values k m, times_over taken f k) }
 
-pub ruleset times_cases = (times_start, times_read, times_fits, times_inside, times_room, times_more, times_done)
+pub ruleset times_cases = (times_start, times_inside, times_room, times_more, times_done)
 
 -- ---- along the drivers' order
 
@@ -189,51 +181,10 @@ pub record Along (n : ℕ) (orders joining leaving payers : List ℕ) (here i : 
   pub now_here : here ≡ payers_present joining leaving i
 
 module _ (n : ℕ) (orders joining leaving : List ℕ) (w : Summable n joining leaving) where
-  pub along_start : {payers : List ℕ} → length payers ≡ payer_places → Along n orders joining leaving payers 0 0
-  along_start l = record { within = omega arith; present = record { places = l; values = λ j l. absurd (omega arith) }; now_here = omega arith }
-
   module _ (payers : List ℕ) {here i : ℕ} (s : Along n orders joining leaving payers here i) where
     module _ (h : i < n) where
-      pub along_inside : i < payer_places
-      along_inside = omega (arith, w.few)
-
-      pub along_read : 2 * most_turns + i < order_places
-      along_read = omega (arith, w.few)
-
-      pub along_fits : here + get_or joining i 0 < 65536
-      along_fits = omega (arith, s.now_here, w.small i (omega arith), w.joined i h)
-
       next_sums : (sum_before joining (i + 1) ≡ get_or joining i 0 + sum_before joining i) × (sum_before leaving (i + 1) ≡ get_or leaving i 0 + sum_before leaving i)
       next_sums = (rw (add-one i), rw (add-one i))
 
       pub along_left : get_or leaving i 0 ≤ here + get_or joining i 0
       along_left = let (a, b) = next_sums in omega (arith, s.now_here, w.left i (omega arith), w.left (i + 1) (omega arith))
-
-      module _ (o : EachOnce n orders) {u : ℕ} (q : u ≡ drivers_turn orders i) where
-        pub along_place : u < payer_places
-        along_place = omega (arith, q, o.inside i h, w.few)
-
-        pub along_scaled : Fits w64 (u * 2)
-        along_scaled = omega (arith, along_place)
-
-        pub along_more : Along n orders joining leaving (set payers u (here + get_or joining i 0 - get_or leaving i 0)) (here + get_or joining i 0 - get_or leaving i 0) (i + 1)
-        along_more =
-            record {
-              within = omega arith;
-              present = record { places = length-set payers u (here + get_or joining i 0 - get_or leaving i 0) ∙ s.present.places; values = λ j l. value j l (ℕ_discrete j i) };
-              now_here = now_next;
-            }
-          where
-            now_next : here + get_or joining i 0 - get_or leaving i 0 ≡ payers_present joining leaving (i + 1)
-            now_next = let (a, b) = next_sums in omega (arith, s.now_here, w.left i (omega arith))
-
-            value : (j : ℕ) → j < i + 1 → Dec (j ≡ i) → get_or (set payers u (here + get_or joining i 0 - get_or leaving i 0)) (drivers_turn orders j) 0 ≡ payers_present joining leaving (j + 1)
-            value j l (yes z) =
-                rw (z, sym q) (get_or-set_same payers u (here + get_or joining i 0 - get_or leaving i 0) 0 (omega (arith, s.present.places, along_place)) ∙ now_next)
-            value j l (no z) =
-                get_or-set_other payers u (drivers_turn orders j) (here + get_or joining i 0 - get_or leaving i 0) 0 (λ e. o.apart j i (omega arith) h (e ∙ q)) ∙ s.present.values j (omega arith)
-
-    pub along_done : n ≤ i → Present orders joining leaving payers n
-    along_done h = let q : i ≡ n = omega (arith, s.within) in rw q at s.present
-
-pub ruleset along_cases = (along_start, along_inside, along_read, along_fits, along_left, along_place, along_scaled, along_more, along_done)

@@ -14,7 +14,6 @@ ghost use Rattle.shift_moves.specs.Moves.{payer_places, number_behind, payers_at
 ghost use Rattle.shift_moves.specs.Moves.{nobody, place_behind, Taken, SmallNumbers, Times, PaidRuns, Summable, Present, Payers, FewPayers, EachOnce, MovedBy, MovedFor};
 
 use instance::{MOST_TURNS, PLACES};
-use numbers::{as_place, as_u32, greater_u32, left_u16, left_u32, lesser_u32};
 use shift_look::{DRIVERS, Extent, FROMS, ORDERS, TOS, any_driver};
 
 // The greatest number that a price list can hold.
@@ -26,19 +25,12 @@ const HIGHEST_PRICE: u32 = 60000;
 // A place for each number from 0 to the most turns.
 const PAYERS: usize = MOST_TURNS + 1;
 
-fn as_u16(x: u32) -> u16
-    requires { x ≤ most_price }
-    ensures { result ≡ x }
-{
-    x as u16
-}
-
 // The change of a turn's price.
 fn turn_change(c: u32) -> u32
     requires { c ≤ most_worth }
     ensures { (result ≡ turn_change c) × (result ≤ most_worth) }
 {
-    greater_u32(1, c / 2)
+    (c / 2).max(1)
 }
 
 // The highest price after a round. A price with two payers or more rises, to 60,000 at most; any other does not
@@ -59,8 +51,8 @@ fn moved_price(change: u32, payers: u16, price: u16) -> u16
     requires { (change ≤ most_worth) × (payers ≤ most_turns) }
     ensures { result ≡ moved_price change payers price }
 {
-    let raised = as_u32(price) + as_u32(payers) * change;
-    lesser_u32(left_u32(raised, change), most_price(payers)) as u16
+    let raised = u32::from(price) + u32::from(payers) * change;
+    raised.saturating_sub(change).min(most_price(payers)) as u16
 }
 
 // Moves the price at place i.
@@ -68,17 +60,7 @@ fn move_price(change: u32, payers: u16, prices: &mut [u16], i: usize)
     requires { (change ≤ most_worth) × (payers ≤ most_turns) × (i < length prices.old) }
     ensures { prices.new ≡ set prices.old i (moved_price change payers (get_or prices.old i 0)) }
 {
-    let price = prices[i];
-    prices[i] = moved_price(change, payers, price);
-}
-
-// One payer more at place k.
-fn add_payer(payers: &mut [u16; PAYERS], k: usize)
-    requires { (k ≤ most_turns) × (get_or payers.old k 0 < most_turns) }
-    ensures { payers.new ≡ set payers.old k (get_or payers.old k 0 + 1) }
-{
-    let x = payers[k];
-    payers[k] = x + 1;
+    prices[i] = moved_price(change, payers, prices[i]);
 }
 
 // For each number, how many turns of a list have it in the column that starts at a place.
@@ -86,11 +68,8 @@ fn count_numbers(taken: &[u16], numbers: &[u16], at: usize, times: &mut [u16; PA
     requires { SmallNumbers taken.now numbers.now at × (times.old ≡ replicate payer_places 0) }
     ensures { Times taken.now (number_behind numbers.now at) times.new }
 {
-    let mut i = 0;
-    while i < taken.len() {
-        let k = as_place(numbers[at + as_place(taken[i])]);
-        add_payer(&mut *times, k);
-        i += 1;
+    for &t in taken {
+        times[usize::from(numbers[at + usize::from(t)])] += 1;
     }
 }
 
@@ -103,31 +82,26 @@ fn sum_payers(
     leaving: &[u16; PAYERS],
     payers: &mut [u16; PAYERS],
 )
-    requires { Summable n joining.now leaving.now × EachOnce n orders.now × (length payers.old ≡ payer_places) }
+    requires { Summable n joining.now leaving.now × EachOnce n orders.now }
     ensures { Present orders.now joining.now leaving.now payers.new n }
 {
     let mut here: u16 = 0;
-    let mut j = 0;
-    while j < n {
-        let met = here + joining[j];
-        here = met - leaving[j];
-        let u = as_place(orders[DRIVERS + j]);
-        payers[u] = here;
-        j += 1;
+    for j in 0..n {
+        here = here + joining[j] - leaving[j];
+        payers[usize::from(orders[DRIVERS + j])] = here;
     }
 }
 
 // The payers of each turn.
 fn count_payers(n: usize, orders: &[u16; ORDERS], taken: &[u16], payers: &mut [u16; PAYERS])
-    requires { Taken n taken.now × PaidRuns n orders.now × EachOnce n orders.now × (length payers.old ≡ payer_places) }
+    requires { Taken n taken.now × PaidRuns n orders.now × EachOnce n orders.now }
     ensures { Payers n taken.now orders.now payers.new }
 {
-    let all = &orders[..];
     let mut joining = [0u16; PAYERS];
     let mut leaving = [0u16; PAYERS];
-    count_numbers(taken, all, FROMS, &mut joining);
-    count_numbers(taken, all, TOS, &mut leaving);
-    sum_payers(n, orders, &joining, &leaving, &mut *payers);
+    count_numbers(taken, orders, FROMS, &mut joining);
+    count_numbers(taken, orders, TOS, &mut leaving);
+    sum_payers(n, orders, &joining, &leaving, payers);
 }
 
 // Moves the prices of the slopes. Place s of the payers is for slope s.
@@ -135,10 +109,8 @@ fn move_slope_prices(slopes: usize, payers: &[u16; PAYERS], change: u32, prices:
     requires { (slopes ≤ most_slopes) × (slopes ≤ length prices.old) × (change ≤ most_worth) × FewPayers (slopes + 1) payers.now }
     ensures { MovedBy change (payers_after payers.now) own_place slopes prices.old prices.new }
 {
-    let mut k = 0;
-    while k < slopes {
-        move_price(change, payers[k + 1], &mut *prices, k);
-        k += 1;
+    for k in 0..slopes {
+        move_price(change, payers[k + 1], prices, k);
     }
 }
 
@@ -149,10 +121,8 @@ fn move_turn_prices(e: Extent, payers: &[u16; PAYERS], change: u32, prices: &mut
     ensures { MovedBy change (payers_at payers.now) (place_behind e.slopes) e.size.count
         prices.old prices.new }
 {
-    let mut u = 0;
-    while u < e.size.count {
-        move_price(change, payers[u], &mut *prices, e.slopes + u);
-        u += 1;
+    for u in 0..e.size.count {
+        move_price(change, payers[u], prices, e.slopes + u);
     }
 }
 
@@ -161,8 +131,7 @@ fn lower_price(change: u16, prices: &mut [u16], i: usize)
     requires { i < length prices.old }
     ensures { prices.new ≡ set prices.old i (get_or prices.old i 0 - change) }
 {
-    let price = prices[i];
-    prices[i] = left_u16(price, change);
+    prices[i] = prices[i].saturating_sub(change);
 }
 
 // Moves the prices of the turns where no turn names a driver: all of them fall.
@@ -170,10 +139,8 @@ fn lower_turn_prices(e: Extent, change: u16, prices: &mut [u16])
     requires { (e.slopes ≤ most_slopes) × (e.size.count ≤ most_turns) × (length prices.old ≡ e.slopes + e.size.count) }
     ensures { MovedBy change nobody (place_behind e.slopes) e.size.count prices.old prices.new }
 {
-    let mut u = 0;
-    while u < e.size.count {
-        lower_price(change, &mut *prices, e.slopes + u);
-        u += 1;
+    for u in 0..e.size.count {
+        lower_price(change, prices, e.slopes + u);
     }
 }
 
@@ -183,8 +150,8 @@ fn move_slopes(e: Extent, cols: &[u16; PLACES], taken: &[u16], change: u32, pric
         prices.old prices.new }
 {
     let mut payers = [0u16; PAYERS];
-    count_numbers(taken, &cols[..], 0, &mut payers);
-    move_slope_prices(e.slopes, &payers, change, &mut *prices);
+    count_numbers(taken, cols, 0, &mut payers);
+    move_slope_prices(e.slopes, &payers, change, prices);
 }
 
 fn move_turns(e: Extent, orders: &[u16; ORDERS], taken: &[u16], change: u32, prices: &mut [u16])
@@ -195,7 +162,7 @@ fn move_turns(e: Extent, orders: &[u16; ORDERS], taken: &[u16], change: u32, pri
 {
     let mut payers = [0u16; PAYERS];
     count_payers(e.size.count, orders, taken, &mut payers);
-    move_turn_prices(e, &payers, turn_change(change), &mut *prices);
+    move_turn_prices(e, &payers, turn_change(change), prices);
 }
 
 // Moves every price by how many turns of the relaxed set pay it. The set comes as a list of its turns: to go
@@ -212,10 +179,10 @@ pub fn move_prices(
     requires change_le_most_worth { change ≤ most_worth }
     ensures { MovedFor e cols.now taken.now change prices.old prices.new }
 {
-    move_slopes(e, cols, taken, change, &mut *prices);
+    move_slopes(e, cols, taken, change, prices);
     if any_driver(e.size, cols) {
-        move_turns(e, orders, taken, change, &mut *prices);
+        move_turns(e, orders, taken, change, prices);
         return;
     }
-    lower_turn_prices(e, as_u16(turn_change(change)), &mut *prices);
+    lower_turn_prices(e, turn_change(change) as u16, prices);
 }

@@ -20,13 +20,14 @@ fn answer(sheet: &[u8], text: &mut [u8]) -> usize
 {
     let a = list::list(sheet, &mut *text);
     if a.refusal == 0 {
-        return a.bytes as usize;
+        a.bytes as usize
+    } else {
+        list::refused_line(&mut *text, a.refusal)
     }
-    list::refused_line(&mut *text, a.refusal)
 }
 
 // Bytes of standard input to the front of these, until they are full, the input ends or a read fails; returns how many came, no more than there is place for.
-// What a read gives no contract can say.
+// What a read gives no contract can say. A while, since a read says how many bytes it gave.
 fn gather(rt: &impl Input, sheet: &mut [u8]) -> usize
     requires { length sheet.old ≡ input_bytes }
     ensures { result ≤ length sheet.new }

@@ -8,9 +8,7 @@ use native.Mathlib.Decide.{dec_lt}
 use lib.ListN.{length, set, take, drop, length-set, length-drop}
 use lib.Seq.{append_snoc, drop-length, take-length, drop_at, length-take-le, set_split}
 use borrow.Author.Tests.{lt-ltb, le-ltb}
-use Rattle.wire.specs.Number.{puts}
 use Rattle.text.specs.Decimal.{digit, decimal_in, decimal}
-use Rattle.text.specs.Place.{last_place}
 
 -- ---- the definition by its cases
 
@@ -75,17 +73,3 @@ module _ (x : ℕ) (space : List ℕ) where
       rw (size, take-length (drop k (set space k (rest + 48)))) found
 
 pub ruleset spell_cases = (most_digits_lem, more_places, tenth_fits, spell_start, spell_more, spell_done)
-
--- ---- the digits as a piece of text
-
-module _ (x at : ℕ) (ds : List ℕ) (e : ds ≡ decimal x) where
-  pub number_fits : at + length (decimal x) ≤ last_place → at + length ds ≤ last_place
-  number_fits h = rw e h
-
-  pub number_place : {r : ℕ} → r ≡ at + length ds → r ≡ at + length (decimal x)
-  number_place h = rw e at h
-
-  pub number_put : (l : List ℕ) {l' : List ℕ} → l' ≡ puts l at ds → l' ≡ puts l at (decimal x)
-  number_put l h = rw e at h
-
-pub ruleset number_cases = (number_fits, number_place, number_put)

@@ -8,8 +8,8 @@ ghost use Rattle.wire.specs.Number.{puts};
 ghost use Rattle.text.specs.Decimal.{most_digits, decimal};
 ghost use Rattle.text.specs.Place.{last_place};
 
-// The character 0; the other digits follow it.
-const ZERO: u8 = 48;
+// The other digits follow it.
+const ZERO: u8 = b'0';
 
 pub fn put_byte(out: &mut [u8], at: usize, b: u8) -> usize
     requires { at + 1 ≤ last_place }
@@ -28,24 +28,22 @@ pub fn put_text(out: &mut [u8], at: usize, text: &[u8]) -> usize
     ensures { (result ≡ at + length text.now) × (out.new ≡ puts out.old at text.now) }
 {
     let mut to = at;
-    let mut i = 0;
-    while i < text.len() {
-        to = put_byte(&mut *out, to, text[i]);
-        i += 1;
+    for &byte in text {
+        to = put_byte(out, to, byte);
     }
     to
 }
 
 // The digits of x at the end of ten places; returns where they begin.
-fn spell(x: u32, space: &mut [u8]) -> usize
-    requires { length space.old ≡ most_digits }
+fn spell(x: u32, space: &mut [u8; 10]) -> usize
     ensures { (result ≤ most_digits) × (take (most_digits - result) (drop result space.new) ≡ decimal x) }
 {
     let mut rest = x;
-    let mut k: usize = 9;
+    let mut k = 9;
+    // A while: it ends by the number that is left, which a for over the places would have to test as well.
     while 9 < rest {
         space[k] = (rest % 10) as u8 + ZERO;
-        rest = rest / 10;
+        rest /= 10;
         k -= 1;
     }
     space[k] = rest as u8 + ZERO;
@@ -59,5 +57,5 @@ pub fn put_number(out: &mut [u8], at: usize, x: u32) -> usize
 {
     let mut space = [0u8; 10];
     let k = spell(x, &mut space);
-    put_text(&mut *out, at, &space[k..])
+    put_text(out, at, &space[k..])
 }

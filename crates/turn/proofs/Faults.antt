@@ -7,7 +7,7 @@ use Rattle.refusal.specs.Number.{bad_time, bad_worth, bad_driver}
 use Rattle.refusal.specs.Cause.{first_of}
 use Rattle.turn.specs.declared.Turn.{Turn}
 use Rattle.turn.specs.declared.Counts.{Counts}
-use Rattle.turn.specs.declared.Refusals.{Refusals}
+use Rattle.turn.specs.Turn.{Refusals}
 use Rattle.turn.specs.Turn.{outside_range, past_shift, turn_causes, most_worth, most_driver}
 
 module _ (refusals : Refusals) (limits : Counts) (t : Turn) {a : Bool} (p : a ≡ outside_range t.slope limits.slopes) where

@@ -4,7 +4,8 @@ use Rattle.refusal.specs.Number.{bad_time, bad_worth, bad_driver}
 use Rattle.refusal.specs.Cause.{Cause, ◌when◌}
 use Rattle.turn.specs.declared.Turn.{Turn}
 use Rattle.turn.specs.declared.Counts.{Counts}
-use Rattle.turn.specs.declared.Refusals.{Refusals}
+use Rattle.refusal.specs.Failure.{number_of}
+use Rattle.turn.specs.declared.Refusals as declared
 
 -- the minute at which every turn has ended
 abbrev pub shift_minutes : ℕ
@@ -63,6 +64,17 @@ abbrev pub table_turns : List ℕ → List Turn
 table_turns table = turns_of_table (table_rows table) table 0
 
 -- ---- what may be wrong
+
+-- the numbers of the refusals that go by the kind of sheet: of its counts, of too many turns, of a turn's slope and of its groomer
+pub record Refusals : Type 0 where
+  pub counts : ℕ
+  pub turns : ℕ
+  pub slope : ℕ
+  pub groomer : ℕ
+
+-- the numbers of those that the code has
+abbrev pub numbers_of : declared.Refusals → Refusals
+numbers_of r = record { counts = number_of r.counts; turns = number_of r.turns; slope = number_of r.slope; groomer = number_of r.groomer }
 
 -- x is 0 or above top
 unfoldable pub outside_range : ℕ → ℕ → Bool

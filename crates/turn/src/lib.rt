@@ -4,7 +4,10 @@
 
 ghost use Rattle.std.specs.Prelude.{◌≡◌, ◌+◌, ◌*◌, ◌≤◌, length};
 ghost use Rattle.refusal.specs.Cause.{first_of};
-ghost use Rattle.turn.specs.Turn.{row_numbers, turn_in, outside_range, past_shift, turn_causes};
+ghost use Rattle.refusal.specs.Failure.{failure};
+ghost use Rattle.turn.specs.Turn.{row_numbers, turn_in, outside_range, past_shift, turn_causes, numbers_of};
+
+use refusal::Refusal;
 
 // A shift's last minute, as an end, and the greatest worth of a turn.
 pub const SHIFT_MINUTES: u32 = 960;
@@ -38,10 +41,10 @@ pub struct Counts {
 // of its groomer.
 #[derive(Clone, Copy)]
 pub struct Refusals {
-    pub counts: u8,
-    pub turns: u8,
-    pub slope: u8,
-    pub groomer: u8,
+    pub counts: Refusal,
+    pub turns: Refusal,
+    pub slope: Refusal,
+    pub groomer: Refusal,
 }
 
 // Turn i of a table.
@@ -74,24 +77,24 @@ fn past_shift(start: u16, minutes: u16) -> bool
     minutes == 0 || SHIFT_MINUTES < start as u32 + minutes as u32
 }
 
-// The first thing wrong with a turn's values, or 0.
-pub fn turn_fault(t: Turn, limits: Counts, refusals: Refusals) -> u8
-    ensures { result ≡ first_of (turn_causes refusals limits t) }
+// The first thing wrong with a turn's values, if any.
+pub fn turn_fault(t: Turn, limits: Counts, refusals: Refusals) -> Result<(), Refusal>
+    ensures { failure result ≡ first_of (turn_causes (numbers_of refusals) limits t) }
 {
     if outside_range(t.slope as u32, limits.slopes) {
-        return refusals.slope;
+        return Err(refusals.slope);
     }
     if outside_range(t.groomer as u32, limits.groomers) {
-        return refusals.groomer;
+        return Err(refusals.groomer);
     }
     if past_shift(t.start, t.length) {
-        return refusal::BAD_TIME;
+        return Err(Refusal::BadTime);
     }
     if outside_range(t.worth as u32, MOST_WORTH) {
-        return refusal::BAD_WORTH;
+        return Err(Refusal::BadWorth);
     }
     if MOST_DRIVER < t.driver {
-        return refusal::BAD_DRIVER;
+        return Err(Refusal::BadDriver);
     }
-    0
+    Ok(())
 }

@@ -1,12 +1,13 @@
 -- A mark is compared byte by byte: that is the same as comparing lists. Assumes nothing.
-use Prim.Native.Nat.{ℕ, ◌<◌}
+use Prim.Native.Nat.{ℕ, ◌<◌, ◌≤◌}
 use mathlib.Core.Path.{◌≡◌, refl, sym, ◌∙◌, ap}
 use mathlib.Core.Bool.{Bool, true, false, ◌&&◌, true≢false}
 use mathlib.Core.List.{List, [], ◌∷◌}
 use mathlib.Core.Logic.{◌↔◌}
 use native.Mathlib.Omega.{arith}
 use lib.Dec.{eqb}
-use lib.ListN.{get_or, take}
+use lib.ListN.{length, get_or, take}
+use lib.Pointwise.{pointwise}
 use lib.Seq.{get_or-take}
 use borrow.Author.Tests.{eqb-true, eq-eqb}
 use Rattle.wire.specs.Mark.{sheet_mark, board_mark, opens_with}
@@ -47,3 +48,19 @@ sheet_mark_iff s = opens_iff 0x47 0x52 0x4D (omega arith) (omega arith) (omega a
 
 pub board_mark_iff : (s : List ℕ) → (opens_with board_mark s ≡ true) ↔ (take 3 s ≡ board_mark)
 board_mark_iff s = opens_iff 0x47 0x52 0x42 (omega arith) (omega arith) (omega arith) s
+
+-- three bytes that are compared as a list are compared one by one
+pub same_three : (mark s : List ℕ) → length mark ≡ 3 → 3 ≤ length s → pointwise eqb (take 3 s) mark ≡ opens_with mark s
+unfolding opens_with
+same_three [] s e h = absurd (omega arith)
+same_three (a ∷ []) s e h = absurd (omega arith)
+same_three (a ∷ b ∷ []) s e h = absurd (omega arith)
+same_three (a ∷ b ∷ c ∷ d ∷ m) s e h = absurd (omega arith)
+same_three (a ∷ b ∷ c ∷ []) [] e h = absurd (omega arith)
+same_three (a ∷ b ∷ c ∷ []) (x ∷ []) e h = absurd (omega arith)
+same_three (a ∷ b ∷ c ∷ []) (x ∷ y ∷ []) e h = absurd (omega arith)
+same_three (a ∷ b ∷ c ∷ []) (x ∷ y ∷ z ∷ s) e h = ap (λ (t : Bool). eqb x a && (eqb y b && t)) (and_true (eqb z c))
+  where
+    and_true : (t : Bool) → (t && true) ≡ t
+    and_true true = refl
+    and_true false = refl

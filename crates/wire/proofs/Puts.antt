@@ -1,13 +1,15 @@
 -- Values put into a list from a place on. Assumes nothing.
-use Prim.Native.Nat.{ℕ, suc, ◌+◌, ◌/◌, ◌%◌, ◌^◌, ◌<◌, ◌≤◌}
-use mathlib.Core.Path.{◌≡◌, refl, ◌∙◌}
+use Prim.Native.Nat.{ℕ, suc, ◌+◌, ◌≤◌}
+use mathlib.Core.Path.{◌≡◌, refl, sym, ◌∙◌}
 use mathlib.Core.List.{List, [], ◌∷◌, ◌++◌}
 use native.Mathlib.Omega.{arith}
 use native.Mathlib.Numerals.{add-one}
-use native.Mathlib.Nat.{zero-add, add-zero, div-one}
-use lib.ListN.{length, get_or, set, take, drop, length-set}
-use lib.Seq.{sets, sets-eq, drop-cons, drop-length}
-use Rattle.wire.specs.Number.{puts, bytes_of}
+use native.Mathlib.Nat.{zero-add}
+use Rattle.std.proofs.Common.{append_assoc}
+use lib.ListN.{length, set, take, drop, length-set}
+use lib.Seq.{sets, sets-eq, drop-drop}
+use borrow.Rule.Slice.PartMut.{put_mid}
+use Rattle.wire.specs.Number.{puts}
 
 puts_sets : (vs l : List ℕ) (i : ℕ) → puts l i vs ≡ sets l i vs
 puts_sets [] l i = refl
@@ -30,38 +32,6 @@ pub puts_append : (vs ws l : List ℕ) (i j : ℕ) → j ≡ i + length vs → p
 puts_append [] ws l i j e = let k : j ≡ i = omega arith in rw k
 puts_append (a ∷ vs) ws l i j e = puts_append vs ws (set l i a) (i + 1) j (omega arith)
 
--- a number put as one byte or two, its high byte found by a quotient and its low byte by a remainder
-pub put_byte : (l : List ℕ) (at x : ℕ) → set l at (x % 256) ≡ puts l at (bytes_of 1 x)
-put_byte l at x = rw div-one
-
-pub put_word : (l : List ℕ) (at x : ℕ) → x < 65536 → set (set l at (x / 256)) (at + 1) (x % 256) ≡ puts l at (bytes_of 2 x)
-put_word l at x h = let e : x / 256 % 256 ≡ x / 256 = omega arith in rw (div-one, e)
-
--- four bytes are two words
-pub put_quad : (l : List ℕ) (at x : ℕ) {l₁ l₂ : List ℕ} → x < 4294967296 → l₁ ≡ puts l at (bytes_of 2 (x / 65536)) → l₂ ≡ puts l₁ (at + 2) (bytes_of 2 (x % 65536)) → l₂ ≡ puts l at (bytes_of 4 x)
-put_quad l at x h p q =
-    let a : x / 65536 / 256 ^ 1 % 256 ≡ x / 256 ^ 3 % 256 = omega arith in
-    let b : x / 65536 / 256 ^ 0 % 256 ≡ x / 256 ^ 2 % 256 = omega arith in
-    let c : x % 65536 / 256 ^ 1 % 256 ≡ x / 256 ^ 1 % 256 = omega arith in
-    let d : x % 65536 / 256 ^ 0 % 256 ≡ x / 256 ^ 0 % 256 = omega arith in
-    let e : at + 2 ≡ at + 1 + 1 = omega arith in
-    q ∙ rw (p, a, b, c, d, e)
-
-pub ruleset put_cases = (put_byte, put_word, put_quad)
-
--- ---- bytes copied one by one
-
-module _ (l bytes : List ℕ) (at i : ℕ) where
-  pub copy_more : {z : List ℕ} → i < length bytes → puts l (at + i) (drop i bytes) ≡ z → puts (set l (at + i) (get_or bytes i 0)) (at + (i + 1)) (drop (i + 1) bytes) ≡ z
-  copy_more {z} h e =
-      let d : drop i bytes ≡ get_or bytes i 0 ∷ drop (i + 1) bytes = rw add-one (drop-cons bytes i 0 h) in
-      let p : at + (i + 1) ≡ at + i + 1 = omega arith in
-      rw p (rw d at e)
-
-  pub copy_done : {z : List ℕ} → length bytes ≤ i → i ≤ length bytes → puts l (at + i) (drop i bytes) ≡ z → l ≡ z
-  copy_done h k e = let q : i ≡ length bytes = omega arith in rw (q, drop-length bytes) at e
-
-pub copy_start : (l bytes : List ℕ) (at : ℕ) → puts l (at + 0) (drop 0 bytes) ≡ puts l at bytes
-copy_start l bytes at = rw add-zero
-
-pub ruleset copy_cases = (copy_start, copy_more, copy_done)
+-- values written over a part
+pub put_part : (l vs : List ℕ) (at k : ℕ) {ys : List ℕ} → ys ≡ vs → k ≡ length vs → at + k ≤ length l → put_mid at k l ys ≡ puts l at vs
+put_part l vs at k p q h = rw (p, q) (rw (drop-drop (length vs) at l) (sym (puts_at vs l at (omega arith) ∙ append_assoc (take at l) vs (drop (at + length vs) l))))

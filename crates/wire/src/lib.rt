@@ -21,21 +21,7 @@ pub fn opens_with(s: &[u8], mark: [u8; 3]) -> bool
     requires { 3 ≤ length s.now }
     ensures { result ≡ opens_with mark s.now }
 {
-    if s[0] == mark[0] {
-        if s[1] == mark[1] {
-            s[2] == mark[2]
-        } else {
-            false
-        }
-    } else {
-        false
-    }
-}
-
-fn wide(x: u8) -> u16
-    ensures { (result ≡ x) × (result < 256) }
-{
-    x as u16
+    s[..3] == mark[..]
 }
 
 // The byte at a place, as a wider number.
@@ -43,7 +29,7 @@ pub fn byte_at(s: &[u8], at: usize) -> u16
     requires { at + 1 ≤ length s.now }
     ensures { (result ≡ value_at s.now at 1) × (result < 256) }
 {
-    wide(s[at])
+    u16::from(s[at])
 }
 
 // The number in the two bytes from a place on.
@@ -51,14 +37,7 @@ pub fn word_at(s: &[u8], at: usize) -> u16
     requires { at + 2 ≤ length s.now }
     ensures { result ≡ value_at s.now at 2 }
 {
-    let next = at + 1;
-    wide(s[at]) * 256 + wide(s[next])
-}
-
-fn wider(x: u8) -> u32
-    ensures { (result ≡ x) × (result < 256) }
-{
-    x as u32
+    u16::from_be_bytes([s[at], s[at + 1]])
 }
 
 // The number in the four bytes from a place on.
@@ -66,10 +45,7 @@ pub fn quad_at(s: &[u8], at: usize) -> u32
     requires { at + 4 ≤ length s.now }
     ensures { result ≡ value_at s.now at 4 }
 {
-    let a1 = at + 1;
-    let a2 = a1 + 1;
-    let a3 = a2 + 1;
-    ((wider(s[at]) * 256 + wider(s[a1])) * 256 + wider(s[a2])) * 256 + wider(s[a3])
+    u32::from_be_bytes([s[at], s[at + 1], s[at + 2], s[at + 3]])
 }
 
 // The mark at the front of lent bytes.
@@ -77,9 +53,7 @@ pub fn put_mark(out: &mut [u8], mark: [u8; 3])
     requires { 3 ≤ length out.old }
     ensures { out.new ≡ puts out.old 0 (bytes_at mark 0 3) }
 {
-    out[0] = mark[0];
-    out[1] = mark[1];
-    out[2] = mark[2];
+    out[..3].copy_from_slice(&mark);
 }
 
 // A number's low byte at a place.
@@ -95,9 +69,7 @@ pub fn put_word(out: &mut [u8], at: usize, x: u16)
     requires { at + 2 ≤ length out.old }
     ensures { out.new ≡ puts out.old at (bytes_of 2 x) }
 {
-    let next = at + 1;
-    out[at] = (x / 256) as u8;
-    out[next] = (x % 256) as u8;
+    out[at..at + 2].copy_from_slice(&x.to_be_bytes());
 }
 
 // A number as four bytes from a place on.
@@ -105,9 +77,7 @@ pub fn put_quad(out: &mut [u8], at: usize, x: u32)
     requires { at + 4 ≤ length out.old }
     ensures { out.new ≡ puts out.old at (bytes_of 4 x) }
 {
-    let next = at + 2;
-    put_word(&mut *out, at, (x / 65536) as u16);
-    put_word(&mut *out, next, (x % 65536) as u16);
+    out[at..at + 4].copy_from_slice(&x.to_be_bytes());
 }
 
 // Bytes copied to a place.
@@ -115,10 +85,5 @@ pub fn put_bytes(out: &mut [u8], at: usize, bytes: &[u8])
     requires { at + length bytes.now ≤ length out.old }
     ensures { out.new ≡ puts out.old at bytes.now }
 {
-    let mut i = 0;
-    while i < bytes.len() {
-        let to = at + i;
-        out[to] = bytes[i];
-        i += 1;
-    }
+    out[at..at + bytes.len()].copy_from_slice(bytes);
 }

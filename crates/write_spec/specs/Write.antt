@@ -6,7 +6,7 @@ use Rattle.refusal.specs.Written.{Written, written_unless}
 use Rattle.turn.specs.declared.Turn.{Turn}
 use Rattle.turn.specs.declared.Counts.{Counts}
 use Rattle.wire.specs.Mark.{sheet_mark}
-use Rattle.turn.specs.declared.Refusals.{Refusals}
+use Rattle.turn.specs.Turn.{Refusals}
 use Rattle.turn.specs.Turn.{row_numbers, table_rows, table_turns, turn_causes}
 use Rattle.sheet.specs.Kind.{first_map, shift_sheet}
 use Rattle.sheet.specs.Record.{first_cursor}

@@ -4,32 +4,8 @@ use borrow.Author.Rules.{rules}
 use Rattle.archive_spec.proofs.ColumnCases.{column_cases}
 use Rattle.archive_columns.proofs.put_column.Goals as goal
 
-pub loop-i-init : goal.loop-i-init
-loop-i-init c = (search rules, search rules, search (rules, column_cases), search (rules, column_cases))
-
-pub overflow_mul-x : goal.overflow_mul-x
-overflow_mul-x c = search (rules, column_cases)
-
-pub overflow_add-x : goal.overflow_add-x
-overflow_add-x c = search (rules, column_cases)
-
-pub offset_bounds-table-i : goal.offset_bounds-table-i
-offset_bounds-table-i c = search (rules, column_cases)
-
-pub bounds-table-i : goal.bounds-table-i
-bounds-table-i c = search (rules, column_cases)
-
-pub bounds-maps-i : goal.bounds-maps-i
-bounds-maps-i c = search (rules, column_cases)
-
 pub put_field-at-requires : goal.put_field-at-requires
 put_field-at-requires c = (search rules, search (rules, column_cases))
-
-pub overflow_add-i : goal.overflow_add-i
-overflow_add-i c = search (rules, column_cases)
-
-pub loop-i-smaller : goal.loop-i-smaller
-loop-i-smaller c = search (rules, column_cases)
 
 pub loop-i-preserved : goal.loop-i-preserved
 loop-i-preserved c =
@@ -37,9 +13,6 @@ loop-i-preserved c =
     let loop = c.loop-i in
     let a = c.args in
     (search rules, search rules, size_more a.field a.maps.now loop.i _ (search rules) put.0 loop.invariant.2, put_more a.field a.maps.now loop.i _ _ _ (search rules) (search rules) put.0 put.1 loop.invariant.3)
-
-pub shape_of-out : goal.shape_of-out
-shape_of-out c = search (rules, column_cases)
 
 pub returns : goal.returns
 returns c = search (rules, column_cases)

@@ -6,8 +6,5 @@ use Rattle.best.proofs.answer.Goals as goal
 pub returns-then-map-size : goal.returns-then-map-size
 returns-then-map-size c = search (rules, problem_cases)
 
-pub write_best-worth-requires : goal.write_best-worth-requires
-write_best-worth-requires c = search (rules, problem_cases)
-
 pub returns : goal.returns
 returns c = search (rules, problem_cases)

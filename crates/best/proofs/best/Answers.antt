@@ -3,17 +3,14 @@ use Rattle.best.proofs.AnswerCases.{best_cases}
 use borrow.Author.Rules.{rules}
 use Rattle.best.proofs.best.Goals as goal
 
-pub returns-then-fault-ne0 : goal.returns-then-fault-ne0
-returns-then-fault-ne0 c = search (rules, best_cases)
-
-pub is_single-requires : goal.is_single-requires
-is_single-requires c = search (rules, best_cases)
+pub returns-then-r-ne0 : goal.returns-then-r-ne0
+returns-then-r-ne0 c = search (rules, best_cases)
 
 pub answer-requires : goal.answer-requires
 answer-requires c = search (rules, best_cases)
 
-pub returns-then-is_single : goal.returns-then-is_single
-returns-then-is_single c = search (rules, best_cases)
+pub returns-then-not-is_single : goal.returns-then-not-is_single
+returns-then-not-is_single c = search (rules, best_cases)
 
 pub returns : goal.returns
 returns c = search (rules, best_cases)

@@ -6,8 +6,5 @@ use Rattle.charge.proofs.answer.Goals as goal
 pub returns-then-map-size : goal.returns-then-map-size
 returns-then-map-size c = search (rules, charge_in_cases)
 
-pub write_plan-worth-requires : goal.write_plan-worth-requires
-write_plan-worth-requires c = search (rules, charge_in_cases)
-
 pub returns : goal.returns
 returns c = search (rules, charge_in_cases)

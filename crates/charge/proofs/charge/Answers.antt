@@ -6,8 +6,8 @@ use Rattle.charge.proofs.charge.Goals as goal
 pub load_as-r-requires : goal.load_as-r-requires
 load_as-r-requires c = search (rules, charge_cases)
 
-pub returns-then-fault-ne0 : goal.returns-then-fault-ne0
-returns-then-fault-ne0 c = search (rules, charge_cases)
+pub returns-then-r-ne0 : goal.returns-then-r-ne0
+returns-then-r-ne0 c = search (rules, charge_cases)
 
 pub answer-requires : goal.answer-requires
 answer-requires c = search (rules, charge_cases)

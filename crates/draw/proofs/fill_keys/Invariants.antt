@@ -1,4 +1,4 @@
--- Invariant: the keys of the turns drawn from x on, put from place i on, give the keys of all drawn turns; x can be drawn from. Measure: the places left.
+-- Invariant: the keys of the turns drawn from x on, put from place i on, give the keys of all drawn turns; x can be drawn from.
 use mathlib.Core.Path.{◌≡◌}
 use Prim.Native.Nat.{◌-◌, ◌≤◌}
 use lib.ListN.{length}
@@ -9,6 +9,3 @@ use Rattle.draw.proofs.fill_keys.Given as goal
 
 abbrev pub invariant-loop-i : goal.invariant-loop-i
 invariant-loop-i l = (l.i ≤ length l.initial.keys) × (length l.keys ≡ length l.initial.keys) × Drawable l.x × (puts l.keys l.i (keys_of (drawn_turns (length l.initial.keys - l.i) l.counts l.x)) ≡ puts l.initial.keys 0 (keys_of (drawn_turns (length l.initial.keys) l.counts l.seed)))
-
-abbrev pub decreases-loop-i : goal.decreases-loop-i
-decreases-loop-i l = length l.initial.keys - l.i

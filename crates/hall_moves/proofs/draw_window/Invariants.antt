@@ -1,10 +1,6 @@
--- Invariant: the window has drawn up to minute m. Measure: its minutes left.
-use Prim.Native.Nat.{◌-◌}
-use Rattle.hall_moves.proofs.MoveCases.{WindowDrawnTo}
+-- Invariant: the window has drawn up to minute m.
+use Rattle.charge.specs.Supply.{Drawn}
 use Rattle.hall_moves.proofs.draw_window.Given as goal
 
 abbrev pub invariant-loop-m : goal.invariant-loop-m
-invariant-loop-m l = WindowDrawnTo l.start l.draw l.end l.initial.drawn l.drawn l.m
-
-abbrev pub decreases-loop-m : goal.decreases-loop-m
-decreases-loop-m l = l.end - l.m
+invariant-loop-m l = Drawn l.r.start l.r.groomer l.m l.initial.drawn l.drawn

@@ -3,8 +3,8 @@ use Rattle.limit.proofs.AnswerCases.{limit_cases}
 use borrow.Author.Rules.{rules}
 use Rattle.limit.proofs.limit.Goals as goal
 
-pub returns-then-fault-ne0 : goal.returns-then-fault-ne0
-returns-then-fault-ne0 c = search (rules, limit_cases)
+pub returns-then-r-ne0 : goal.returns-then-r-ne0
+returns-then-r-ne0 c = search (rules, limit_cases)
 
 pub returns-then-prices-slopes : goal.returns-then-prices-slopes
 returns-then-prices-slopes c = search (rules, limit_cases)

@@ -3,8 +3,8 @@ use Rattle.list.proofs.AnswerCases.{List-cases}
 use borrow.Author.Rules.{rules}
 use Rattle.list.proofs.list.Goals as goal
 
-pub returns-then-fault-ne0 : goal.returns-then-fault-ne0
-returns-then-fault-ne0 c = search (rules, List-cases)
+pub returns-then-r-ne0 : goal.returns-then-r-ne0
+returns-then-r-ne0 c = search (rules, List-cases)
 
 pub list_problem-requires : goal.list_problem-requires
 list_problem-requires c = search (rules, List-cases)

@@ -6,11 +6,5 @@ use Rattle.list.proofs.list_map.Goals as goal
 pub returns-then-out-bytes : goal.returns-then-out-bytes
 returns-then-out-bytes c = search (rules, text_cases)
 
-pub slice_bounds-put_bytes-end : goal.slice_bounds-put_bytes-end
-slice_bounds-put_bytes-end c = search (rules, text_cases)
-
-pub put_bytes-requires : goal.put_bytes-requires
-put_bytes-requires c = search (rules, text_cases)
-
 pub returns : goal.returns
 returns c = search (rules, text_cases)

@@ -3,26 +3,8 @@ use borrow.Author.Rules.{rules}
 use Rattle.shift_moves.proofs.MoveCases.{lowered_cases}
 use Rattle.shift_moves.proofs.lower_turn_prices.Goals as goal
 
-pub loop-u-init : goal.loop-u-init
-loop-u-init c = search (rules, lowered_cases)
-
-pub overflow_add-e : goal.overflow_add-e
-overflow_add-e c = search (rules, lowered_cases)
-
-pub lower_price-requires : goal.lower_price-requires
-lower_price-requires c = search (rules, lowered_cases)
-
-pub overflow_add-u : goal.overflow_add-u
-overflow_add-u c = search (rules, lowered_cases)
-
-pub loop-u-smaller : goal.loop-u-smaller
-loop-u-smaller c = search (rules, lowered_cases)
-
 pub loop-u-preserved : goal.loop-u-preserved
 loop-u-preserved c = search (rules, lowered_cases)
-
-pub shape_of-prices : goal.shape_of-prices
-shape_of-prices c = search (rules, lowered_cases)
 
 pub returns : goal.returns
 returns c = search (rules, lowered_cases)

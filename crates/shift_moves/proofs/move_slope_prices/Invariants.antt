@@ -1,10 +1,6 @@
--- Invariant: the prices before place k are moved, the others are as before. Measure: the slopes left.
+-- Invariant: the prices before place k are moved, the others are as before.
 use Rattle.shift_moves.proofs.MoveCases.{SlopesMoved}
-use Prim.Native.Nat.{◌-◌}
 use Rattle.shift_moves.proofs.move_slope_prices.Given as goal
 
 abbrev pub invariant-loop-k : goal.invariant-loop-k
 invariant-loop-k l = SlopesMoved l.change l.slopes l.payers l.initial.prices l.prices l.k
-
-abbrev pub decreases-loop-k : goal.decreases-loop-k
-decreases-loop-k l = l.slopes - l.k

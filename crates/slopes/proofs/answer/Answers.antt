@@ -6,5 +6,5 @@ use Rattle.slopes.proofs.answer.Goals as goal
 pub returns-then-a-eq0 : goal.returns-then-a-eq0
 returns-then-a-eq0 c = search (rules, answer_cases)
 
-pub returns : goal.returns
-returns c = search (rules, answer_cases)
+pub returns-else-a-eq0 : goal.returns-else-a-eq0
+returns-else-a-eq0 c = search (rules, answer_cases)

@@ -3,8 +3,5 @@ use Rattle.archive.proofs.RestoreCases.{maps_part_cases}
 use borrow.Author.Rules.{rules}
 use Rattle.archive.proofs.restoring.maps_of.Goals as goal
 
-pub slice_bounds-result-end : goal.slice_bounds-result-end
-slice_bounds-result-end c = search (rules, maps_part_cases)
-
 pub returns : goal.returns
 returns c = (search (rules, maps_part_cases), search (rules, maps_part_cases))

@@ -1,25 +1,27 @@
 -- restore: restores the sheet of any bytes as a kept form in any lent bytes.
+use mathlib.Core.Path.{◌∙◌, refl}
+use Rattle.refusal.proofs.Numbers.{numbered_as}
 use Rattle.archive.proofs.RestoreCases.{restore_fault, restore_small, restore_header, restore_few, restore_whole, restore_end, restore_bytes, restore_done}
 use borrow.Author.Rules.{rules}
 use Rattle.archive.proofs.restoring.restore.Goals as goal
 
-pub returns-then-fault-ne0 : goal.returns-then-fault-ne0
-returns-then-fault-ne0 c = restore_fault c.args.kept.now c.args.sheet.now c.judge_kept-fault.ensures.value (search rules) c.refused.ensures
+pub returns-in-Err : goal.returns-in-Err
+returns-in-Err c = restore_fault c.args.kept.now c.args.sheet.now (c.from.ensures ∙ c.in-Err.ensures.refused) (numbered_as c.in-Err.fault c.from.ensures) c.refused.ensures
 
 pub returns-then-sheet-kept : goal.returns-then-sheet-kept
-returns-then-sheet-kept c = restore_small c.args.kept.now c.args.sheet.now c.judge_kept-fault.ensures.value (search rules) (search rules) c.refused-then-sheet-kept.ensures
+returns-then-sheet-kept c = restore_small c.args.kept.now c.args.sheet.now c.in-Ok.ensures.refused refl (search rules) c.refused-then-sheet-kept.ensures
 
 pub word_at-n-requires : goal.word_at-n-requires
-word_at-n-requires c = restore_header c.args.kept.now c.args.sheet.now c.judge_kept-fault.ensures.value (search rules)
+word_at-n-requires c = restore_header c.args.kept.now c.args.sheet.now c.in-Ok.ensures.refused refl
 
 pub put_sheet-requires-clause-n_value : goal.put_sheet-requires-clause-n_value
-put_sheet-requires-clause-n_value c = (c.word_at-n.ensures, restore_whole c.args.kept.now c.args.sheet.now c.judge_kept-fault.ensures.value (search rules), search (rules, restore_few c.args.kept.now c.args.sheet.now c.judge_kept-fault.ensures.value (search rules)))
+put_sheet-requires-clause-n_value c = (c.word_at-n.ensures, restore_whole c.args.kept.now c.args.sheet.now c.in-Ok.ensures.refused refl, search (rules, restore_few c.args.kept.now c.args.sheet.now c.in-Ok.ensures.refused refl))
 
 pub put_sheet-requires-clause-k_in_bounds : goal.put_sheet-requires-clause-k_in_bounds
-put_sheet-requires-clause-k_in_bounds c = search (rules, restore_end c.args.kept.now c.args.sheet.now c.judge_kept-fault.ensures.value (search rules))
+put_sheet-requires-clause-k_in_bounds c = search (rules, restore_end c.args.kept.now c.args.sheet.now c.in-Ok.ensures.refused refl)
 
 pub overflow_cast-result : goal.overflow_cast-result
-overflow_cast-result c = search (rules, restore_bytes c.args.kept.now c.args.sheet.now c.judge_kept-fault.ensures.value (search rules))
+overflow_cast-result c = search (rules, restore_bytes c.args.kept.now c.args.sheet.now c.in-Ok.ensures.refused refl)
 
-pub returns : goal.returns
-returns c = restore_done c.args.kept.now c.args.sheet.now c.judge_kept-fault.ensures.value (search rules) _ c.word_at-n.ensures c.judge_kept-fault.ensures.table_after (search rules) c.put_sheet.ensures
+pub returns-else-sheet-kept : goal.returns-else-sheet-kept
+returns-else-sheet-kept c = restore_done c.args.kept.now c.args.sheet.now c.in-Ok.ensures.refused refl _ c.word_at-n.ensures c.in-Ok.ensures.table_after (search rules) c.put_sheet.ensures

@@ -9,12 +9,6 @@ row_at-row-requires c = search (rules, numbering_cases)
 pub overflow_add-until : goal.overflow_add-until
 overflow_add-until c = search (rules, numbering_cases)
 
-pub returns-then-k-g-clause-numbers_after : goal.returns-then-k-g-clause-numbers_after
-returns-then-k-g-clause-numbers_after c = search (rules, numbering_cases)
-
-pub returns-then-k-g-clause-busy_until_2 : goal.returns-then-k-g-clause-busy_until_2
-returns-then-k-g-clause-busy_until_2 c = (search (rules, numbering_cases), search (rules, numbering_cases))
-
 pub returns-clause-numbers_after : goal.returns-clause-numbers_after
 returns-clause-numbers_after c = search (rules, numbering_cases)
 

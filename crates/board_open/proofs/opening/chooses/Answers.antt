@@ -9,11 +9,8 @@ returns-then-is_malformed c = search (rules, chosen_cases)
 pub turns-requires : goal.turns-requires
 turns-requires c = search (rules, chosen_cases)
 
-pub map-requires : goal.map-requires
-map-requires c = search (rules, chosen_cases)
-
-pub returns-then-t-turns : goal.returns-then-t-turns
-returns-then-t-turns c = search (rules, chosen_cases)
-
 pub returns : goal.returns
 returns c = search (rules, chosen_cases)
+
+pub returns-then-t-from : goal.returns-then-t-from
+returns-then-t-from c = search (rules, chosen_cases)

@@ -6,8 +6,5 @@ use Rattle.board_open.proofs.opening.count.Goals as goal
 pub returns-then-is_malformed : goal.returns-then-is_malformed
 returns-then-is_malformed c = search (rules, chosen_cases)
 
-pub map-requires : goal.map-requires
-map-requires c = search (rules, chosen_cases)
-
 pub returns : goal.returns
 returns c = search (rules, chosen_cases)

@@ -1,22 +1,15 @@
--- choose_beside: the goals that the laws of the crate answer.
-use Rattle.selection.proofs.Fitting.{turn_inside}
-use Prim.Native.Nat.{◌-◌}
-use native.Mathlib.Omega.{arith}
+-- choose_beside: the windows of a list of numbers that are of the kind, or any, from its last to its first, beside those chosen before.
 use borrow.Author.Rules.{rules}
+use Rattle.selection.proofs.Fitting.{turn_inside}
+use Rattle.selection.proofs.Numbers.{each_more}
 use Rattle.charge.proofs.Allowed.{List-cases}
 use Rattle.charge.proofs.choosing.choose_beside.Goals as goal
 
-pub loop-left-init : goal.loop-left-init
-loop-left-init c = (search rules, search rules, search List-cases, search List-cases)
+pub loop-i-init : goal.loop-i-init
+loop-i-init c = (search rules, search rules, search List-cases)
 
-pub overflow_cast-j : goal.overflow_cast-j
-overflow_cast-j c = omega (arith, c.shared_slice_known-in-loop-left-1.given (c.loop-left.left - 1))
+pub add_if_meant-requires-clause-j_lt_count : goal.add_if_meant-requires-clause-j_lt_count
+add_if_meant-requires-clause-j_lt_count c = search (rules, turn_inside)
 
-pub add_if_meant-requires : goal.add_if_meant-requires
-add_if_meant-requires c = search (rules, turn_inside)
-
-pub loop-left-preserved : goal.loop-left-preserved
-loop-left-preserved c = (search rules, search rules, search rules, search List-cases)
-
-pub returns-clause-map_after : goal.returns-clause-map_after
-returns-clause-map_after c = search List-cases
+pub loop-i-preserved : goal.loop-i-preserved
+loop-i-preserved c = (search rules, search rules, each_more _ _ _ c.loop-i.i c.loop-i-test.true c.loop-i.auto.i (rw c.from.ensures at c.add_if_meant.ensures.map_after) c.loop-i.invariant.2)

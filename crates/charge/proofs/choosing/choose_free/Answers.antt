@@ -3,12 +3,6 @@ use borrow.Author.Rules.{rules}
 use Rattle.charge.proofs.Frees.{kept_cases, kept_chosen}
 use Rattle.charge.proofs.choosing.choose_free.Goals as goal
 
-pub slice_bounds-free-end : goal.slice_bounds-free-end
-slice_bounds-free-end c = search (rules, kept_cases)
-
-pub slice_bounds-choose_beside-end : goal.slice_bounds-choose_beside-end
-slice_bounds-choose_beside-end c = search (rules, kept_cases)
-
 pub choose_beside-requires : goal.choose_beside-requires
 choose_beside-requires c = search (rules, kept_cases)
 

@@ -6,5 +6,5 @@ use Rattle.charge.proofs.supply.is_allowed.Goals as goal
 pub returns-then-is_free : goal.returns-then-is_free
 returns-then-is_free c = search (rules, lasts_cases)
 
-pub returns : goal.returns
-returns c = search (rules, lasts_cases)
+pub returns-else-is_free : goal.returns-else-is_free
+returns-else-is_free c = search (rules, lasts_cases)

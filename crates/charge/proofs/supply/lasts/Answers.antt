@@ -6,5 +6,5 @@ use Rattle.charge.proofs.supply.lasts.Goals as goal
 pub returns-then-end-start-lt-PART : goal.returns-then-end-start-lt-PART
 returns-then-end-start-lt-PART c = search (rules, lasts_cases)
 
-pub returns : goal.returns
-returns c = search (rules, lasts_cases)
+pub returns-else-end-start-lt-PART : goal.returns-else-end-start-lt-PART
+returns-else-end-start-lt-PART c = search (rules, lasts_cases)

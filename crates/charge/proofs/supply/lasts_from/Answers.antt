@@ -1,25 +1,10 @@
--- lasts_from: the goals that the laws of the crate answer.
-use borrow.Author.Rules.{rules}
-use Rattle.charge.proofs.Supplies.{for_cases}
+-- lasts_from: whether at each of n minutes from one on at most so much is used.
+use native.Mathlib.Omega.{arith}
+use Rattle.charge.proofs.Supplies.{for_start, for_more}
 use Rattle.charge.proofs.supply.lasts_from.Goals as goal
 
-pub loop-k-init : goal.loop-k-init
-loop-k-init c = (search rules, search rules, search for_cases)
+pub loop-drawn-init : goal.loop-drawn-init
+loop-drawn-init c = for_start c.args.used.now c.args.from c.args.room c.args.n
 
-pub overflow_add-one : goal.overflow_add-one
-overflow_add-one c = search (rules, for_cases)
-
-pub bounds-used-from : goal.bounds-used-from
-bounds-used-from c = search (rules, for_cases)
-
-pub overflow_add-k : goal.overflow_add-k
-overflow_add-k c = search (rules, for_cases)
-
-pub loop-k-smaller : goal.loop-k-smaller
-loop-k-smaller c = search (rules, for_cases)
-
-pub loop-k-preserved : goal.loop-k-preserved
-loop-k-preserved c = (search rules, search rules, search for_cases)
-
-pub returns : goal.returns
-returns c = search (rules, for_cases)
+pub loop-drawn-preserved : goal.loop-drawn-preserved
+loop-drawn-preserved c = for_more c.args.used.now c.args.from c.args.room c.args.n (omega arith) c.loop-drawn.drawn-index c.loop-drawn.invariant c.loop-drawn-test.true

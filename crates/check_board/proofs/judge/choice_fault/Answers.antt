@@ -1,13 +1,13 @@
--- choice_fault: the first cause that the choice gives, 0 if none.
+-- choice_fault: the first cause that the choice gives, if any.
 use Rattle.check_board.proofs.Judgements.{choice_cases}
 use borrow.Author.Rules.{rules}
 use Rattle.check_board.proofs.judge.choice_fault.Goals as goal
 
-pub returns-then-is_maximal : goal.returns-then-is_maximal
-returns-then-is_maximal c = search (rules, choice_cases)
+pub returns-then-not-is_independent : goal.returns-then-not-is_independent
+returns-then-not-is_independent c = search (rules, choice_cases)
 
-pub returns-else-is_maximal : goal.returns-else-is_maximal
-returns-else-is_maximal c = search (rules, choice_cases)
+pub returns-then-not-is_maximal : goal.returns-then-not-is_maximal
+returns-then-not-is_maximal c = search (rules, choice_cases)
 
-pub returns-else-is_independent : goal.returns-else-is_independent
-returns-else-is_independent c = search (rules, choice_cases)
+pub returns : goal.returns
+returns c = search (rules, choice_cases)

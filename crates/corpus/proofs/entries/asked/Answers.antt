@@ -5,5 +5,5 @@ use Rattle.corpus.proofs.entries.asked.Goals as goal
 pub returns-then-numbers-lt-ASKED : goal.returns-then-numbers-lt-ASKED
 returns-then-numbers-lt-ASKED c = search asked_cases
 
-pub returns : goal.returns
-returns c = search asked_cases
+pub returns-else-numbers-lt-ASKED : goal.returns-else-numbers-lt-ASKED
+returns-else-numbers-lt-ASKED c = search asked_cases

@@ -6,8 +6,8 @@ use Rattle.hall_by_prices.proofs.limit.charge_limit.Goals as goal
 pub load_as-r-requires : goal.load_as-r-requires
 load_as-r-requires c = search (rules, limit_cases)
 
-pub returns-then-fault-ne0 : goal.returns-then-fault-ne0
-returns-then-fault-ne0 c = search (rules, limit_cases)
+pub returns-then-r-ne0 : goal.returns-then-r-ne0
+returns-then-r-ne0 c = search (rules, limit_cases)
 
 pub returns-then-prices-ne-MINUTES : goal.returns-then-prices-ne-MINUTES
 returns-then-prices-ne-MINUTES c = search (rules, limit_cases)

@@ -6,8 +6,8 @@ use Rattle.hall_by_prices.proofs.refine.charge_refine.Goals as goal
 pub load_as-r-requires : goal.load_as-r-requires
 load_as-r-requires c = search (rules, refine_cases)
 
-pub returns-then-fault-ne0 : goal.returns-then-fault-ne0
-returns-then-fault-ne0 c = search (rules, refine_cases)
+pub returns-then-r-ne0 : goal.returns-then-r-ne0
+returns-then-r-ne0 c = search (rules, refine_cases)
 
 pub returns-then-map-map_bytes : goal.returns-then-map-map_bytes
 returns-then-map-map_bytes c = search (rules, refine_cases)
@@ -15,8 +15,8 @@ returns-then-map-map_bytes c = search (rules, refine_cases)
 pub returns-then-prices-lt-MINUTES : goal.returns-then-prices-lt-MINUTES
 returns-then-prices-lt-MINUTES c = search (rules, refine_cases)
 
-pub refine_hall-requires-clause-hall_posed : goal.refine_hall-requires-clause-hall_posed
-refine_hall-requires-clause-hall_posed c = (search (rules, refine_cases), search rules, search rules)
+pub refine_hall-requires : goal.refine_hall-requires
+refine_hall-requires c = record { hall_posed = (search (rules, refine_cases), search rules, search rules) }
 
 pub returns : goal.returns
 returns c = search (rules, refine_cases)

@@ -1,11 +1,6 @@
--- Invariant: sum is what the best windows of the first v vehicles count for. Measure: the vehicles left.
-use Prim.Native.Nat.{◌-◌}
-use mathlib.Core.Path.{◌≡◌}
+-- Invariant: sum is what the best windows of the vehicles gone through count for.
 use Rattle.hall_look.proofs.LookCases.{SummedBests}
 use Rattle.hall_look.proofs.limit.bests_sum.Given as goal
 
-abbrev pub invariant-loop-v : goal.invariant-loop-v
-invariant-loop-v l = SummedBests l.most l.vehicles l.v l.sum × (l.last ≡ l.vehicles)
-
-abbrev pub decreases-loop-v : goal.decreases-loop-v
-decreases-loop-v l = l.vehicles - l.v
+abbrev pub invariant-loop-count : goal.invariant-loop-count
+invariant-loop-count l = SummedBests l.fn.most l.fn.vehicles l.count-index l.sum

@@ -1,10 +1,11 @@
 -- put_before: sets the bit of window number - 1, and none where the number is 0.
-use Rattle.hall_look.proofs.RelaxedCases.{before_cases}
-use borrow.Author.Rules.{rules}
+use Prim.Native.Nat.{◌≤◌}
+use native.Mathlib.Omega.{arith}
+use Rattle.hall_look.proofs.RelaxedCases.{before_none, before_one}
 use Rattle.hall_look.proofs.relaxed.put_before.Goals as goal
 
-pub returns-then-number-ne0 : goal.returns-then-number-ne0
-returns-then-number-ne0 c = search (rules, before_cases)
+pub returns-in-Some : goal.returns-in-Some
+returns-in-Some c = let h = c.in-Some.ensures in before_one _ _ (λ z. omega (arith, h.0)) (rw (c.from.ensures, h.1) at c.set_bit.ensures)
 
-pub returns-else-number-ne0 : goal.returns-else-number-ne0
-returns-else-number-ne0 c = search (rules, before_cases)
+pub returns-in_default : goal.returns-in_default
+returns-in_default c = let h : 1 ≤ c.args.number → ⊥ = c.in_default.ensures in before_none _ _ (omega (arith, h))

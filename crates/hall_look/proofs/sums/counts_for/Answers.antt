@@ -1,10 +1,7 @@
 -- counts_for: what a window counts for.
-use Rattle.hall_look.proofs.SumCases.{counts_cases}
-use borrow.Author.Rules.{rules}
+use native.Mathlib.Omega.{arith}
+use Rattle.hall_look.proofs.SumCases.{counts_are}
 use Rattle.hall_look.proofs.sums.counts_for.Goals as goal
 
-pub overflow_mul-as_u32 : goal.overflow_mul-as_u32
-overflow_mul-as_u32 c = search (rules, counts_cases)
-
 pub returns : goal.returns
-returns c = search (rules, counts_cases)
+returns c = (counts_are _ _ c.requires.1 _ c.requires.0 c.from.ensures c.from-2.ensures c.cost_of-cost.ensures.0 c.saturating_sub.ensures, omega (arith, c.requires.0.worth))

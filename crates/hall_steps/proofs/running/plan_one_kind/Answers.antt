@@ -4,7 +4,7 @@ use borrow.Author.Rules.{rules}
 use Rattle.hall_steps.proofs.running.plan_one_kind.Goals as goal
 
 pub plan_by-made-requires : goal.plan_by-made-requires
-plan_by-made-requires c = (search rules, search rules, search (rules, one_kind_steps), search rules)
+plan_by-made-requires c = search (rules, one_kind_steps)
 
 pub returns-clause-value : goal.returns-clause-value
 returns-clause-value c = search one_kind_steps

@@ -5,5 +5,5 @@ use Rattle.hall_steps.proofs.running.rule_of.Goals as goal
 pub returns-then-a : goal.returns-then-a
 returns-then-a c = search rule_cases
 
-pub returns : goal.returns
-returns c = search rule_cases
+pub returns-else-a : goal.returns-else-a
+returns-else-a c = search rule_cases

@@ -9,8 +9,8 @@ slice_bounds-space-end c = search (rules, place_cases)
 pub slice_bounds-b-end : goal.slice_bounds-b-end
 slice_bounds-b-end c = search (rules, place_cases)
 
-pub map-map-requires : goal.map-map-requires
-map-map-requires c = search (rules, place_cases)
+pub map-requires : goal.map-requires
+map-requires c = search (rules, place_cases)
 
 pub worth-requires : goal.worth-requires
 worth-requires c = search (rules, place_cases)

@@ -6,5 +6,5 @@ use Rattle.instance.proofs.posing.load_with.Goals as goal
 pub load_as-requires : goal.load_as-requires
 load_as-requires c = search (rules, shift_sheet_load_cases)
 
-pub returns-clause-loaded : goal.returns-clause-loaded
-returns-clause-loaded c = search (rules, shift_sheet_load_cases)
+pub returns : goal.returns
+returns c = search (rules, shift_sheet_load_cases)

@@ -3,14 +3,8 @@ use borrow.Author.Rules.{rules}
 use Rattle.instance.proofs.Copying.{ends_cases}
 use Rattle.instance.proofs.posing.put_ends.Goals as goal
 
-pub loop-t-init : goal.loop-t-init
-loop-t-init c = (search rules, search (rules, ends_cases))
-
 pub with_end-row-requires : goal.with_end-row-requires
 with_end-row-requires c = search (rules, ends_cases)
 
 pub loop-t-preserved : goal.loop-t-preserved
-loop-t-preserved c = (search rules, search (rules, ends_cases))
-
-pub returns : goal.returns
-returns c = search (rules, ends_cases)
+loop-t-preserved c = search (rules, ends_cases)

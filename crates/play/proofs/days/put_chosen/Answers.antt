@@ -3,12 +3,6 @@ use Rattle.play.proofs.Rows.{chosen_cases}
 use borrow.Author.Rules.{rules}
 use Rattle.play.proofs.days.put_chosen.Goals as goal
 
-pub overflow_sub-g : goal.overflow_sub-g
-overflow_sub-g c = search (rules, chosen_cases)
-
-pub put_turn-requires : goal.put_turn-requires
-put_turn-requires c = search (rules, chosen_cases)
-
 pub returns-then-is_chosen : goal.returns-then-is_chosen
 returns-then-is_chosen c = search (rules, chosen_cases)
 

@@ -3,11 +3,11 @@ use Rattle.refine.proofs.BoardCases.{plan_cases}
 use borrow.Author.Rules.{rules}
 use Rattle.refine.proofs.planned.copy_choice.Goals as goal
 
-pub map-planned-requires : goal.map-planned-requires
-map-planned-requires c = search (rules, plan_cases)
+pub map-requires : goal.map-requires
+map-requires c = search (rules, plan_cases)
 
-pub put_bytes-requires : goal.put_bytes-requires
-put_bytes-requires c = search (rules, plan_cases)
+pub copy_from_slice-requires : goal.copy_from_slice-requires
+copy_from_slice-requires c = search (rules, plan_cases)
 
 pub worth-requires : goal.worth-requires
 worth-requires c = search (rules, plan_cases)

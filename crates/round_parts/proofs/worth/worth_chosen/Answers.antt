@@ -3,26 +3,11 @@ use borrow.Author.Rules.{rules}
 use Rattle.round_parts.proofs.WorthCases.{worth_cases}
 use Rattle.round_parts.proofs.worth.worth_chosen.Goals as goal
 
-pub next_chosen-t-requires : goal.next_chosen-t-requires
-next_chosen-t-requires c = search (rules, worth_cases)
-
 pub loop-t-init : goal.loop-t-init
 loop-t-init c = search (rules, worth_cases)
 
-pub row_at-row-requires : goal.row_at-row-requires
-row_at-row-requires c = search (rules, worth_cases)
-
-pub as_u32-sum-requires : goal.as_u32-sum-requires
-as_u32-sum-requires c = search (rules, worth_cases)
-
 pub overflow_add-sum : goal.overflow_add-sum
 overflow_add-sum c = search (rules, worth_cases)
-
-pub overflow_add-t : goal.overflow_add-t
-overflow_add-t c = search (rules, worth_cases)
-
-pub next_chosen-t-requires-in-loop-t : goal.next_chosen-t-requires-in-loop-t
-next_chosen-t-requires-in-loop-t c = search (rules, worth_cases)
 
 pub loop-t-smaller : goal.loop-t-smaller
 loop-t-smaller c = search (rules, worth_cases)

@@ -4,10 +4,7 @@ use Rattle.selection.proofs.Chosen.{all_cases}
 use Rattle.selection.proofs.rules.chosen_worth.Goals as goal
 
 pub loop-t-init : goal.loop-t-init
-loop-t-init c = (search rules, search rules, search all_cases)
+loop-t-init c = (search rules, search (rules, all_cases))
 
 pub loop-t-preserved : goal.loop-t-preserved
-loop-t-preserved c = (search rules, search rules, search all_cases)
-
-pub returns : goal.returns
-returns c = search all_cases
+loop-t-preserved c = (search rules, search (rules, all_cases))

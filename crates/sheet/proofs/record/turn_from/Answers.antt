@@ -3,26 +3,6 @@ use Rattle.sheet.specs.Record.{width_of, turn_from}
 use borrow.Author.Rules.{rules}
 use Rattle.sheet.proofs.record.turn_from.Goals as goal
 
-pub overflow_add-p1 : goal.overflow_add-p1
-unfolding width_of
-overflow_add-p1 c = search rules
-
-pub overflow_add-p2 : goal.overflow_add-p2
-unfolding width_of
-overflow_add-p2 c = search rules
-
-pub overflow_add-p3 : goal.overflow_add-p3
-unfolding width_of
-overflow_add-p3 c = search rules
-
-pub overflow_add-p4 : goal.overflow_add-p4
-unfolding width_of
-overflow_add-p4 c = search rules
-
-pub overflow_add-p5 : goal.overflow_add-p5
-unfolding width_of
-overflow_add-p5 c = search rules
-
 pub byte_field-requires : goal.byte_field-requires
 unfolding width_of
 byte_field-requires c = search rules

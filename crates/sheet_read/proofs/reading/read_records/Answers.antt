@@ -1,46 +1,31 @@
 -- read_records: the goals that the laws of the crate answer.
 use borrow.Author.Rules.{rules}
-use Rattle.sheet.proofs.Scans.{scan_cases}
+use Rattle.sheet.specs.Kind.{kind_in_numbers}
+use Rattle.sheet.proofs.Scans.{scan_read, scan_refused, scan_row, scan_cases}
+use Rattle.turn.proofs.Ranges.{every_numbered}
+use Rattle.refusal.proofs.Numbers.{number_from}
+use Rattle.std.proofs.Common.{arith}
+use Rattle.std.proofs.lemmas.Result.{err_from_is_err_and}
 use Rattle.sheet_read.proofs.reading.read_records.Goals as goal
 
-pub loop-left-init : goal.loop-left-init
-loop-left-init c = search (rules, scan_cases)
+pub returns-in_err-t-clause-refused : goal.returns-in_err-t-clause-refused
+returns-in_err-t-clause-refused c =
+    let p = err_from_is_err_and c.from_residual.result c.from_residual.ensures.1 in
+    rw (p.1, p.2) (scan_refused (kind_in_numbers c.args.kind) _ _ _ _ _ (λ z. omega (arith, z, number_from c.in_err-t.field-0.0)) c.in_err-t.ensures.refused c.loop-i-test.true c.loop-i.invariant.2)
 
-pub next-requires : goal.next-requires
-next-requires c = search (rules, scan_cases)
+pub loop-i-preserved : goal.loop-i-preserved
+loop-i-preserved c = (
+  search rules,
+  search rules,
+  scan_read _ _ _ _ _ _ (every_numbered c.args.kind.refusals) c.in_ok-t.ensures.refused c.in_ok-t.ensures.read.1 c.loop-i-test.true c.loop-i.invariant.2,
+  scan_row _ _ _ _ _ _ c.in_ok-t.ensures.read.0 c.in_ok-t.ensures.read.1 c.loop-i-test.true c.put_turn-at.ensures.0 c.put_turn-at.ensures.1 c.loop-i.invariant.3,
+)
 
-pub enum_known-t : goal.enum_known-t
-enum_known-t c = search (rules, scan_cases)
+pub returns-then-c-s-clause-refused : goal.returns-then-c-s-clause-refused
+returns-then-c-s-clause-refused c = search (rules, scan_cases)
 
-pub put_turn-at-requires : goal.put_turn-at-requires
-put_turn-at-requires c = search (rules, scan_cases)
+pub returns-else-c-s-clause-refused : goal.returns-else-c-s-clause-refused
+returns-else-c-s-clause-refused c = search (rules, scan_cases)
 
-pub overflow_sub-left : goal.overflow_sub-left
-overflow_sub-left c = search (rules, scan_cases)
-
-pub loop-left-smaller : goal.loop-left-smaller
-loop-left-smaller c = search (rules, scan_cases)
-
-pub loop-left-preserved : goal.loop-left-preserved
-loop-left-preserved c = search (rules, scan_cases)
-
-pub enum_known-fault : goal.enum_known-fault
-enum_known-fault c = search (rules, scan_cases)
-
-pub shape_of-table-in-Refused : goal.shape_of-table-in-Refused
-shape_of-table-in-Refused c = search (rules, scan_cases)
-
-pub returns-in-Refused : goal.returns-in-Refused
-returns-in-Refused c = search (rules, scan_cases)
-
-pub shape_of-table-then-end-s : goal.shape_of-table-then-end-s
-shape_of-table-then-end-s c = search (rules, scan_cases)
-
-pub returns-then-end-s : goal.returns-then-end-s
-returns-then-end-s c = search (rules, scan_cases)
-
-pub shape_of-table-else-end-s : goal.shape_of-table-else-end-s
-shape_of-table-else-end-s c = search (rules, scan_cases)
-
-pub returns-else-end-s : goal.returns-else-end-s
-returns-else-end-s c = search (rules, scan_cases)
+pub returns-else-c-s-clause-table_after : goal.returns-else-c-s-clause-table_after
+returns-else-c-s-clause-table_after c = search (rules, scan_cases)

@@ -5,6 +5,3 @@ use Rattle.sheet_read.proofs.reading.read_table.Goals as goal
 
 pub read_table_of-requires : goal.read_table_of-requires
 read_table_of-requires c = search (rules, shift_sheet_cases)
-
-pub returns : goal.returns
-returns c = search (rules, shift_sheet_cases)

@@ -4,9 +4,6 @@ use Rattle.shift_look.proofs.SumCases.{both_cases}
 use borrow.Author.Rules.{rules}
 use Rattle.shift_look.proofs.counts.put_counts_with_drivers.Goals as goal
 
-pub overflow_add-result : goal.overflow_add-result
-overflow_add-result c = search (rules, both_cases)
-
 pub returns-clause-counts_to : goal.returns-clause-counts_to
 returns-clause-counts_to c = search (rules, left_counts)
 

@@ -6,8 +6,5 @@ use Rattle.shift_look.proofs.driverless.any_driver.Goals as goal
 pub returns-then-p-eq0 : goal.returns-then-p-eq0
 returns-then-p-eq0 c = search (rules, any_cases)
 
-pub returns-then-first-gt0 : goal.returns-then-first-gt0
-returns-then-first-gt0 c = search (rules, any_cases)
-
-pub returns : goal.returns
-returns c = search (rules, any_cases)
+pub returns-then-row_at-gt0 : goal.returns-then-row_at-gt0
+returns-then-row_at-gt0 c = search (rules, any_cases)

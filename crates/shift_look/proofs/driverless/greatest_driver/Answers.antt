@@ -1,25 +1,9 @@
 -- greatest_driver: the goals that the laws of the crate answer.
 use Rattle.shift_look.proofs.DriverlessCases.{greatest_cases}
-use borrow.Author.Rules.{rules}
 use Rattle.shift_look.proofs.driverless.greatest_driver.Goals as goal
 
 pub loop-t-init : goal.loop-t-init
-loop-t-init c = (search rules, search greatest_cases)
-
-pub row_at-row-requires : goal.row_at-row-requires
-row_at-row-requires c = search (rules, greatest_cases)
-
-pub greater_u16-greatest-requires : goal.greater_u16-greatest-requires
-greater_u16-greatest-requires c = search (rules, greatest_cases)
-
-pub overflow_add-t : goal.overflow_add-t
-overflow_add-t c = search (rules, greatest_cases)
-
-pub loop-t-smaller : goal.loop-t-smaller
-loop-t-smaller c = search (rules, greatest_cases)
+loop-t-init c = search greatest_cases
 
 pub loop-t-preserved : goal.loop-t-preserved
-loop-t-preserved c = (search rules, search greatest_cases)
-
-pub returns : goal.returns
-returns c = search (rules, greatest_cases)
+loop-t-preserved c = search greatest_cases

@@ -3,20 +3,11 @@ use Rattle.shift_look.proofs.DriverlessCases.{slope_count_cases}
 use borrow.Author.Rules.{rules}
 use Rattle.shift_look.proofs.driverless.slope_count.Goals as goal
 
-pub row_at-row-requires : goal.row_at-row-requires
-row_at-row-requires c = search (rules, slope_count_cases)
-
-pub overflow_cast-row : goal.overflow_cast-row
-overflow_cast-row c = search (rules, slope_count_cases)
-
 pub overflow_sub-row : goal.overflow_sub-row
 overflow_sub-row c = search (rules, slope_count_cases)
 
 pub price_at-paid-requires : goal.price_at-paid-requires
 price_at-paid-requires c = search (rules, slope_count_cases)
-
-pub net_of-requires : goal.net_of-requires
-net_of-requires c = search (rules, slope_count_cases)
 
 pub returns : goal.returns
 returns c = search (rules, slope_count_cases)

@@ -1,13 +1,9 @@
 -- limit_with: the table over the counts; returns the limit.
 use Rattle.shift_look.proofs.LookCases.{look_cases}
-use borrow.Author.Rules.{rules}
 use Rattle.shift_look.proofs.looking.limit_with.Goals as goal
 
 pub fill_table-requires : goal.fill_table-requires
-fill_table-requires c = (search look_cases, search rules, search rules)
-
-pub overflow_add-result : goal.overflow_add-result
-overflow_add-result c = search (rules, look_cases)
+fill_table-requires c = search look_cases
 
 pub returns-clause-value : goal.returns-clause-value
 returns-clause-value c = search look_cases

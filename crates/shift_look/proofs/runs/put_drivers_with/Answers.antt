@@ -4,4 +4,4 @@ use borrow.Author.Rules.{rules}
 use Rattle.shift_look.proofs.runs.put_drivers_with.Goals as goal
 
 pub put_runs-requires : goal.put_runs-requires
-put_runs-requires c = (search rules, search order_first, search rules)
+put_runs-requires c = (search rules, search order_first)

@@ -1,11 +1,7 @@
--- Invariant: the turns and runs of the places before i are put, what stands before them is as it was, and from is where the run of the place before i begins. Measure: the places left.
+-- Invariant: the turns and runs of the places before i are put, what stands before them is as it was, and from is where the run of the place before i begins.
 use Rattle.shift_look.specs.OrdersAndCounts.{RunBefore, PlaceRunsTo}
 use Rattle.instance.specs.Columns.{turns_by}
-use Prim.Native.Nat.{◌-◌, ◌≤◌}
 use Rattle.shift_look.proofs.runs.put_runs.Given as goal
 
 abbrev pub invariant-loop-i : goal.invariant-loop-i
-invariant-loop-i l = (l.i ≤ l.p.count) × PlaceRunsTo (turns_by l.p l.cols) l.initial.orders l.orders l.i × RunBefore (turns_by l.p l.cols) l.i l.from
-
-abbrev pub decreases-loop-i : goal.decreases-loop-i
-decreases-loop-i l = l.p.count - l.i
+invariant-loop-i l = PlaceRunsTo (turns_by l.p l.cols) l.initial.orders l.orders l.i × RunBefore (turns_by l.p l.cols) l.i l.from

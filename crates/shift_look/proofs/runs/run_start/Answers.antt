@@ -4,9 +4,6 @@ use Rattle.best_table.proofs.OrderCases.{row_cases}
 use borrow.Author.Rules.{rules}
 use Rattle.shift_look.proofs.runs.run_start.Goals as goal
 
-pub returns-then-i-eq0 : goal.returns-then-i-eq0
-returns-then-i-eq0 c = search start_cases
-
 pub row_at_place-last-requires : goal.row_at_place-last-requires
 row_at_place-last-requires c = (search (rules, start_cases), search (rules, start_cases))
 

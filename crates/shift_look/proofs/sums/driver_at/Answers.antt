@@ -3,11 +3,8 @@ use Rattle.shift_look.proofs.SumCases.{driver_cases}
 use borrow.Author.Rules.{rules}
 use Rattle.shift_look.proofs.sums.driver_at.Goals as goal
 
-pub overflow_cast-u : goal.overflow_cast-u
-overflow_cast-u c = search (rules, driver_cases)
-
-pub row_at-row-requires : goal.row_at-row-requires
-row_at-row-requires c = search (rules, driver_cases)
-
 pub returns : goal.returns
 returns c = search (rules, driver_cases)
+
+pub row_at-requires : goal.row_at-requires
+row_at-requires c = search (rules, driver_cases)
