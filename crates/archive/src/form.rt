@@ -10,6 +10,6 @@ pub fn put_front(out: &mut [u8], mark: [u8; 3], from: &[u8])
     requires { (header_bytes ≤ length out.old) × (header_bytes ≤ length from.now) }
     ensures { out.new ≡ puts out.old 0 (bytes_at mark 0 3 ++ bytes_at from.now 3 4) }
 {
-    wire::put_mark(&mut *out, mark);
-    wire::put_bytes(&mut *out, 3, &from[3..HEADER_BYTES]);
+    wire::put_mark(out, mark);
+    wire::put_bytes(out, 3, &from[3..HEADER_BYTES]);
 }

@@ -31,10 +31,10 @@ fn put_kept(s: &[u8], maps: &[u8], table: &[u16], out: &mut [u8])
     requires { (header_bytes ≤ length s.now) × (form_size maps.now ≤ length out.old) × (row_numbers * length maps.now ≤ length table.now) }
     ensures { out.new ≡ puts out.old 0 (kept_table s.now maps.now table.now) }
 {
-    put_front(&mut *out, wire::GRC, s);
-    wire::put_bytes(&mut *out, HEADER_BYTES, maps);
+    put_front(out, wire::GRC, s);
+    wire::put_bytes(out, HEADER_BYTES, maps);
     let at = HEADER_BYTES + maps.len();
-    archive_columns::put_columns(&mut *out, at, maps, table);
+    archive_columns::put_columns(out, at, maps, table);
 }
 
 // Writes the kept form of a sheet from the sheet itself and the turns of a table. Its maps are copied into
@@ -45,8 +45,8 @@ fn keep_turns(s: &[u8], n: usize, table: &[u16], maps: &mut [u8], out: &mut [u8]
     ensures { out.new ≡ puts out.old 0 (kept_first n s.now table.now) }
 {
     let some = &mut maps[0..n];
-    fill_maps(s, &mut *some);
-    put_kept(s, some, table, &mut *out);
+    fill_maps(s, some);
+    put_kept(s, some, table, out);
 }
 
 // Keeps any bytes as a sheet by column in any lent bytes.
@@ -54,17 +54,17 @@ pub fn keep(sheet: &[u8], kept: &mut [u8]) -> WriteAnswer
     ensures { beside result kept.new ≡ keep_of sheet.now kept.old }
 {
     let mut table = [0u16; TABLE_PLACES];
-    let read = sheet_read::read_table(sheet, &mut table);
-    if read.refusal != 0 {
-        return refused(read.refusal);
-    }
+    let (_, n) = match sheet_read::read_table(sheet, &mut table) {
+        Ok(read) => read,
+        Err(fault) => return refused(fault),
+    };
     if kept.len() < sheet.len() {
-        return refused(Refusal::BufferTooSmall as u8);
+        return refused(Refusal::BufferTooSmall);
     }
-    let n = read.turns as usize;
+    let n = n as usize;
     let end = ROW_NUMBERS * n;
     let mut maps = [0u8; MOST_TURNS as usize];
-    keep_turns(sheet, n, &table[..end], &mut maps, &mut *kept);
+    keep_turns(sheet, n, &table[..end], &mut maps, kept);
     WriteAnswer {
         refusal: 0,
         bytes: sheet.len() as u32,

@@ -98,7 +98,7 @@ fn judge_form(
 {
     form_fault(kind.maps, k, n)?;
     let from = HEADER_BYTES + n as usize;
-    archive_columns::read_columns(k, from, maps_of(k, n), &mut *table);
+    archive_columns::read_columns(k, from, maps_of(k, n), table);
     write::judge_turns(table, n, limits, kind.refusals)
 }
 
@@ -110,7 +110,7 @@ fn judge_kept(k: &[u8], table: &mut [u16]) -> Result<(), Refusal>
 {
     let kind = archive();
     let (limits, n) = sheet_read::read_header(kind, k)?;
-    judge_form(kind, k, n, limits, &mut *table)
+    judge_form(kind, k, n, limits, table)
 }
 
 // The records of these maps and of the turns of a table, after the header.
@@ -121,7 +121,7 @@ fn put_records(maps: &[u8], table: &[u16], out: &mut [u8])
     let mut at = HEADER_BYTES;
     for i in 0..maps.len() {
         let t = turn::turn_at(table, i);
-        at = write::put_record(&mut *out, at, maps[i], t);
+        at = write::put_record(out, at, maps[i], t);
     }
 }
 
@@ -131,8 +131,8 @@ fn put_sheet(k: &[u8], n: u16, table: &[u16], out: &mut [u8])
     requires k_in_bounds { columns_at k.now + widths (kept_maps k.now) ≤ length out.old }
     ensures { out.new ≡ puts out.old 0 (restored_first n k.now table.now) }
 {
-    put_front(&mut *out, wire::GRM, k);
-    put_records(maps_of(k, n), table, &mut *out);
+    put_front(out, wire::GRM, k);
+    put_records(maps_of(k, n), table, out);
 }
 
 // Restores the sheet of any bytes as a kept form in any lent bytes.
@@ -141,13 +141,13 @@ pub fn restore(kept: &[u8], sheet: &mut [u8]) -> WriteAnswer
 {
     let mut table = [0u16; TABLE_PLACES];
     match judge_kept(kept, &mut table) {
-        Err(fault) => refused(u8::from(fault)),
+        Err(fault) => refused(fault),
         Ok(()) => {
             if sheet.len() < kept.len() {
-                return refused(Refusal::BufferTooSmall as u8);
+                return refused(Refusal::BufferTooSmall);
             }
             let n = wire::word_at(kept, 5);
-            put_sheet(kept, n, &table, &mut *sheet);
+            put_sheet(kept, n, &table, sheet);
             WriteAnswer {
                 refusal: 0,
                 bytes: kept.len() as u32,

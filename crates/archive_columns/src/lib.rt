@@ -67,9 +67,9 @@ fn put_field(out: &mut [u8], at: usize, field: Field, m: u8, x: u16) -> usize
 {
     let bit = m / field.unit % 2;
     if field.width == 1 {
-        write::put_byte_field(&mut *out, at, bit, x)
+        write::put_byte_field(out, at, bit, x)
     } else {
-        write::put_word_field(&mut *out, at, bit, x)
+        write::put_word_field(out, at, bit, x)
     }
 }
 
@@ -95,7 +95,7 @@ fn put_column(out: &mut [u8], from: usize, field: Field, maps: &[u8], table: &[u
     let mut at = from;
     for i in 0..maps.len() {
         let x = table[i * ROW_NUMBERS + field.place];
-        at = put_field(&mut *out, at, field, maps[i], x);
+        at = put_field(out, at, field, maps[i], x);
     }
     at
 }
@@ -118,17 +118,17 @@ fn read_column(k: &[u8], from: usize, field: Field, maps: &[u8], table: &mut [u1
     at
 }
 
-// Writes all columns of a table's turns, one after another, from a place on; returns the place after them.
+// Writes all columns of a table's turns, one after another, from a place on.
 pub fn put_columns(out: &mut [u8], from: usize, maps: &[u8], table: &[u16])
     requires { (from + widths maps.now ≤ length out.old) × (row_numbers * length maps.now ≤ length table.now) }
     ensures { out.new ≡ puts out.old from (table_columns maps.now table.now) }
 {
-    let p1 = put_column(&mut *out, from, SLOPES, maps, table);
-    let p2 = put_column(&mut *out, p1, GROOMERS, maps, table);
-    let p3 = put_column(&mut *out, p2, STARTS, maps, table);
-    let p4 = put_column(&mut *out, p3, LENGTHS, maps, table);
-    let p5 = put_column(&mut *out, p4, WORTHS, maps, table);
-    put_column(&mut *out, p5, DRIVERS, maps, table);
+    let p1 = put_column(out, from, SLOPES, maps, table);
+    let p2 = put_column(out, p1, GROOMERS, maps, table);
+    let p3 = put_column(out, p2, STARTS, maps, table);
+    let p4 = put_column(out, p3, LENGTHS, maps, table);
+    let p5 = put_column(out, p4, WORTHS, maps, table);
+    put_column(out, p5, DRIVERS, maps, table);
 }
 
 // Reads all columns from a place on into the first rows of a table.
@@ -136,10 +136,10 @@ pub fn read_columns(k: &[u8], from: usize, maps: &[u8], table: &mut [u16])
     requires { (from + widths maps.now ≤ length k.now) × (row_numbers * length maps.now ≤ length table.old) }
     ensures { first_turns (length maps.now) table.new ≡ column_turns maps.now k.now from }
 {
-    let p1 = read_column(k, from, SLOPES, maps, &mut *table);
-    let p2 = read_column(k, p1, GROOMERS, maps, &mut *table);
-    let p3 = read_column(k, p2, STARTS, maps, &mut *table);
-    let p4 = read_column(k, p3, LENGTHS, maps, &mut *table);
-    let p5 = read_column(k, p4, WORTHS, maps, &mut *table);
-    read_column(k, p5, DRIVERS, maps, &mut *table);
+    let p1 = read_column(k, from, SLOPES, maps, table);
+    let p2 = read_column(k, p1, GROOMERS, maps, table);
+    let p3 = read_column(k, p2, STARTS, maps, table);
+    let p4 = read_column(k, p3, LENGTHS, maps, table);
+    let p5 = read_column(k, p4, WORTHS, maps, table);
+    read_column(k, p5, DRIVERS, maps, table);
 }

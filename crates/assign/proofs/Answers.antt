@@ -42,5 +42,3 @@ module _ (s cols lent : List ℕ) {r : ReadAnswer} (e : Loaded s r cols) where
         let count = (e.posed f).count in
         let size : length (numbers_of T) ≡ r.turns = numbers_places T ∙ sheet_count s sound ∙ sym count in
         rw (a, b, loaded_turns s cols e f q, ← size) (sym (room_enough (sheet_causes s) (turn_count s) (length lent) _ (λ k. beside (assign_refused k) lent) (sheet_numbered s) sound (omega (arith, count))))
-
-pub ruleset assign_cases = (assign_fault, assign_small, assign_done)

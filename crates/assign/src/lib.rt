@@ -7,6 +7,7 @@ ghost use Rattle.std.specs.Prelude.{◌≡◌, ◌+◌, ◌≤◌, ◌<◌, leng
 ghost use Rattle.turn.specs.Turn.{shift_minutes};
 ghost use Rattle.sheet.specs.Kind.{most_turns};
 ghost use Rattle.instance.specs.Columns.{turns_by, Held};
+ghost use Rattle.refusal.specs.Failure.{number_of};
 ghost use Rattle.refusal.specs.Outcome.{beside};
 ghost use Rattle.assign_spec.specs.Numbering.{numbers_of, used_of};
 ghost use Rattle.assign_spec.specs.Assign.{assign_refused, assign_of};
@@ -40,11 +41,11 @@ fn number_turns(p: Size, cols: &[u16; PLACES], numbers: &mut [u16]) -> usize
     number_by_order(p, cols, &mut order[..p.count], &mut *numbers)
 }
 
-fn refused(k: u8) -> AssignAnswer
-    ensures { result ≡ assign_refused k }
+fn refused(k: Refusal) -> AssignAnswer
+    ensures { result ≡ assign_refused (number_of k) }
 {
     AssignAnswer {
-        refusal: k,
+        refusal: u8::from(k),
         groomers: 0,
     }
 }
@@ -54,15 +55,15 @@ pub fn assign(s: &[u8], places: &mut [u16]) -> AssignAnswer
     ensures { beside result places.new ≡ assign_of s.now places.old }
 {
     let mut cols = [0u16; PLACES];
-    let r = instance::load(s, &mut cols);
-    if r.refusal != 0 {
-        return refused(r.refusal);
-    }
-    let n = usize::from(r.turns);
+    let (_, turns) = match instance::load(s, &mut cols) {
+        Ok(read) => read,
+        Err(fault) => return refused(fault),
+    };
+    let n = usize::from(turns);
     if places.len() < n {
-        return refused(Refusal::BufferTooSmall as u8);
+        return refused(Refusal::BufferTooSmall);
     }
-    let used = number_turns(instance::shift_size(r.turns), &cols, &mut places[..n]);
+    let used = number_turns(instance::shift_size(turns), &cols, &mut places[..n]);
     AssignAnswer {
         refusal: 0,
         groomers: used as u16,

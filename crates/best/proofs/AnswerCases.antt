@@ -25,7 +25,7 @@ use Rattle.best_spec.specs.Best.{best_causes, Earned, found, best_in, best_of, s
 use Rattle.best_spec.proofs.Optimal.{best_length}
 use Rattle.refusal.specs.Outcome.{beside, unless, then_room}
 use Rattle.refusal.proofs.Outcome.{unless_first, unless_same, tried_before, tried_behind, room_short, room_enough}
-use Rattle.instance.proofs.Posed.{loaded_tried, loaded_held, loaded_turns, loaded_groomers}
+use Rattle.instance.proofs.Posed.{loaded_tried, loaded_turns}
 
 -- ---- the map of the best set
 
@@ -91,5 +91,3 @@ module _ (s cols lent : List ℕ) {r : ReadAnswer} (e : Loaded s r cols) where
         ∙ ap (λ (n : ℕ). unless (then_room [] (map_bytes n) (length lent)) (found (sheet_turns s) lent) refused) (sheet_count s (e.posed f).sound)
         ∙ unless_same few (found (sheet_turns s) lent) refused (not_single_turns when not b ∷ few) (rw z)
         ∙ later
-
-pub ruleset best_cases = (best_fault, loaded_held, loaded_groomers, best_two, best_found)

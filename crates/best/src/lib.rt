@@ -7,6 +7,7 @@ ghost use Rattle.std.specs.Prelude.{◌≡◌, length};
 ghost use Rattle.choice_map.specs.Choice.{map_bytes, map_of};
 ghost use Rattle.instance.specs.Columns.{turns_by, Held};
 ghost use Rattle.best_spec.specs.Table.{best_worth, best_choice};
+ghost use Rattle.refusal.specs.Failure.{number_of};
 ghost use Rattle.refusal.specs.Outcome.{beside};
 ghost use Rattle.best_spec.specs.Best.{best_refused, best_in, best_of};
 ghost use Rattle.best_table.specs.OrderAndTable.{Ranged};
@@ -29,11 +30,11 @@ fn write_best(p: Size, cols: &[u16; PLACES], map: &mut [u8]) -> u32
     choose_best(p, cols, map)
 }
 
-fn refused(k: u8) -> BestAnswer
-    ensures { result ≡ best_refused k }
+fn refused(k: Refusal) -> BestAnswer
+    ensures { result ≡ best_refused (number_of k) }
 {
     BestAnswer {
-        refusal: k,
+        refusal: u8::from(k),
         worth: 0,
     }
 }
@@ -45,7 +46,7 @@ fn answer(p: Size, cols: &[u16; PLACES], map: &mut [u8]) -> BestAnswer
 {
     let size = choice_map::map_bytes(p.count as u16);
     if map.len() < size {
-        return refused(Refusal::BufferTooSmall as u8);
+        return refused(Refusal::BufferTooSmall);
     }
     let worth = write_best(p, cols, &mut map[..size]);
     BestAnswer { refusal: 0, worth }
@@ -57,13 +58,13 @@ pub fn best(s: &[u8], map: &mut [u8]) -> BestAnswer
     ensures { beside result map.new ≡ best_of s.now map.old }
 {
     let mut cols = [0u16; PLACES];
-    let r = instance::load(s, &mut cols);
-    if r.refusal != 0 {
-        return refused(r.refusal);
-    }
-    let p = instance::shift_size(r.turns);
+    let (_, n) = match instance::load(s, &mut cols) {
+        Ok(read) => read,
+        Err(fault) => return refused(fault),
+    };
+    let p = instance::shift_size(n);
     if !is_single(p, &cols) {
-        return refused(Refusal::NotSingleTurns as u8);
+        return refused(Refusal::NotSingleTurns);
     }
     answer(p, &cols, map)
 }

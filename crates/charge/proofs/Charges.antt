@@ -37,7 +37,7 @@ use Rattle.hall_steps.proofs.Written.{written_few, written_read, written_inside}
 use Rattle.charge_spec.specs.declared.ChargeAnswer.{ChargeAnswer}
 use Rattle.charge.specs.OneKind.{kind_choice}
 use Rattle.charge_spec.specs.Charge.{charging_sheet, hall_of, charge_causes, hall_found, charge_in, charge_of, charge_refused}
-use Rattle.charge_spec.proofs.ChargingSheets.{charging_sound, charging_given, units_of, vehicle_of, draw_of_lem}
+use Rattle.charge_spec.proofs.ChargingSheets.{charging_sound, units_of, vehicle_of, draw_of_lem}
 use Rattle.refusal.specs.Outcome.{beside, unless, then_room}
 use Rattle.refusal.proofs.Outcome.{Tried, tried_stops, tried_goes, room_short, room_enough}
 
@@ -201,5 +201,3 @@ module _ (s : List ℕ) {K : Kind} {r : ReadAnswer} (k : K ≡ charging_sheet) (
         ∙ ap (λ (H : Hall). charge_in H lent) (hall_is f cols w)
         ∙ ap (λ (n : ℕ). unless (then_room [] (map_bytes n) (length lent)) (hall_found (hall_of s) lent) (λ k. beside (charge_refused k) lent)) (sheet_count_for charging_sheet charging_sound hall_gap s (accepted f))
         ∙ tried_goes charge_tried (hall_found (hall_of s) lent) (λ k. beside (charge_refused k) lent) f _
-
-pub ruleset charge_cases = (charging_given, charge_fault, charge_held, charge_found)

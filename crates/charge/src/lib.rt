@@ -12,6 +12,7 @@ ghost use Rattle.hall_steps.specs.OneKind.{kind_hall};
 ghost use Rattle.hall_steps.specs.Bounds.{HallHeld};
 ghost use Rattle.charge.specs.OneKind.{kind_choice};
 ghost use Rattle.refusal.specs.Outcome.{beside};
+ghost use Rattle.refusal.specs.Failure.{number_of};
 ghost use Rattle.charge_spec.specs.Charge.{charging_sheet, charge_refused, charge_in, charge_of};
 
 mod choosing;
@@ -104,11 +105,11 @@ pub fn write_plan(units: u16, p: Size, cols: &[u16; PLACES], map: &mut [u8]) -> 
     }
 }
 
-fn refused(k: u8) -> ChargeAnswer
-    ensures { result ≡ charge_refused k }
+fn refused(k: Refusal) -> ChargeAnswer
+    ensures { result ≡ charge_refused (number_of k) }
 {
     ChargeAnswer {
-        refusal: k,
+        refusal: u8::from(k),
         worth: 0,
     }
 }
@@ -120,7 +121,7 @@ fn answer(units: u16, p: Size, cols: &[u16; PLACES], map: &mut [u8]) -> ChargeAn
 {
     let size = choice_map::map_bytes(p.count as u16);
     if map.len() < size {
-        return refused(Refusal::BufferTooSmall as u8);
+        return refused(Refusal::BufferTooSmall);
     }
     let worth = write_plan(units, p, cols, &mut map[..size]);
     ChargeAnswer { refusal: 0, worth }
@@ -132,13 +133,13 @@ pub fn charge(s: &[u8], map: &mut [u8]) -> ChargeAnswer
 {
     let mut cols = [0u16; PLACES];
     let mut room = [0u16; PLACES];
-    let r = instance::load_as(charging_sheet(), s, &mut cols, &mut room);
-    if r.refusal != 0 {
-        return refused(r.refusal);
-    }
+    let (counts, n) = match instance::load_as(charging_sheet(), s, &mut cols, &mut room) {
+        Ok(read) => read,
+        Err(fault) => return refused(fault),
+    };
     let p = Size {
-        count: r.turns as usize,
+        count: n as usize,
         gap: HALL_GAP,
     };
-    answer(r.groomers, p, &cols, &mut *map)
+    answer(counts.groomers, p, &cols, &mut *map)
 }

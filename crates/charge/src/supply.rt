@@ -35,13 +35,10 @@ fn lasts_long(used: &[u8; USED], room: u8, start: usize, end: usize) -> bool
     ensures { result ≡ lasts_for used.now start room (end - start) }
 {
     let last = end - PART;
-    let mut m = start;
-    // A `while`, since it steps by PART: step_by is no plainer, it wants a measure and facts of its iterator.
-    while m < last {
+    for m in (start..last).step_by(PART) {
         if !lasts_from(used, room, m, PART) {
             return false;
         }
-        m += PART;
     }
     lasts_from(used, room, last, PART)
 }

@@ -57,5 +57,3 @@ module _ (s b cols : List ℕ) {a : ReadAnswer} (e : Loaded s a cols) where
     check_passed y t v c =
         rw (t, v, c, loaded_turns s cols e z q)
         (sym (unless_none causes (checked 0 (board_tally b) (board_worth b) limit) (λ k. checked k 0 0 0) (sym posed ∙ y)) ∙ later)
-
-pub ruleset check_cases = (check_sheet, check_board, check_passed)

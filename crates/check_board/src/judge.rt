@@ -1,7 +1,7 @@
 // The check: the sheet's causes first, then the board's, one after another.
 ghost use Rattle.std.specs.Prelude.{◌≡◌, not, ◌&&◌, ◌*◌, ◌≤◌, ◌<◌, length, eqb, leb, IfOk};
 ghost use Rattle.refusal.specs.Cause.{first_of};
-ghost use Rattle.refusal.specs.Failure.{failure};
+ghost use Rattle.refusal.specs.Failure.{number_of, failure};
 ghost use Rattle.choice_map.specs.Choice.{choice_in};
 ghost use Rattle.board.specs.Board.{board_header, step_size, board_steps, board_tally, board_worth, steps_in, written_steps};
 ghost use Rattle.instance.specs.Columns.{turns_by, Held};
@@ -126,11 +126,11 @@ pub fn board_fault(
     parts_fault(b, map, steps, p, cols, room)
 }
 
-fn refused(k: u8) -> CheckAnswer
-    ensures { result ≡ checked k 0 0 0 }
+fn refused(k: Refusal) -> CheckAnswer
+    ensures { result ≡ checked (number_of k) 0 0 0 }
 {
     CheckAnswer {
-        refusal: k,
+        refusal: u8::from(k),
         tally: 0,
         worth: 0,
         ceiling: 0,
@@ -143,12 +143,12 @@ pub fn check(s: &[u8], b: &[u8]) -> CheckAnswer
 {
     let mut cols = [0u16; PLACES];
     let mut room = [0u16; PLACES];
-    let sheet = instance::load_with(s, &mut cols, &mut room);
-    if sheet.refusal != 0 {
-        return refused(sheet.refusal);
-    }
-    match board_fault(b, instance::shift_size(sheet.turns), &cols, &mut room) {
-        Err(fault) => refused(u8::from(fault)),
+    let (_, n) = match instance::load_with(s, &mut cols, &mut room) {
+        Ok(read) => read,
+        Err(fault) => return refused(fault),
+    };
+    match board_fault(b, instance::shift_size(n), &cols, &mut room) {
+        Err(fault) => refused(fault),
         Ok(ceiling) => CheckAnswer {
             refusal: 0,
             tally: board::tally(b),

@@ -28,15 +28,9 @@ pub fn plan_and_check(s: &[u8], out: &mut [u8]) -> Confirmed
             worth: 0,
             ceiling: 0,
         };
-        return Confirmed {
-            plan: plan,
-            check: none,
-        };
+        return Confirmed { plan, check: none };
     }
     let end = plan.bytes as usize;
     let check = check_board::check(s, &out[..end]);
-    Confirmed {
-        plan: plan,
-        check: check,
-    }
+    Confirmed { plan, check }
 }

@@ -84,7 +84,7 @@ fn choices(board: &[u8], turns: &mut [u16])
 pub fn read(sheet: &[u8], table: &mut [u16]) -> Line
     ensures { beside result table.new ≡ shown read_line (read_of sheet.now table.old) }
 {
-    let a: ReadAnswer = sheet_read::read(sheet, &mut *table);
+    let a: ReadAnswer = sheet_read::read(sheet, table);
     Line::Three(
         a.refusal,
         a.groomers as u64,
@@ -96,7 +96,7 @@ pub fn read(sheet: &[u8], table: &mut [u16]) -> Line
 pub fn short(sheet: &[u8], table: &mut [u16]) -> Line
     ensures { beside result table.new ≡ shown read_line (read_short_of sheet.now table.old) }
 {
-    let a: ReadAnswer = sheet_read_short::read_short(sheet, &mut *table);
+    let a: ReadAnswer = sheet_read_short::read_short(sheet, table);
     Line::Three(
         a.refusal,
         a.groomers as u64,
@@ -112,12 +112,7 @@ pub fn write(counts: &[u8], turns: &[u8], out: &mut [u8]) -> Line
 {
     let mut table = [0u16; MOST_TABLE];
     let count = unpack(turns, &mut table);
-    let a: WriteAnswer = write::write(
-        asked(counts, 8),
-        asked(counts, 12),
-        &table[..count],
-        &mut *out,
-    );
+    let a: WriteAnswer = write::write(asked(counts, 8), asked(counts, 12), &table[..count], out);
     Line::One(a.refusal, a.bytes as u64)
 }
 
@@ -130,7 +125,7 @@ pub fn draw(numbers: &[u8], out: &mut [u8]) -> Line
         asked(numbers, 8),
         asked(numbers, 12),
         asked(numbers, 16),
-        &mut *out,
+        out,
     );
     Line::One(a.refusal, a.bytes as u64)
 }
@@ -141,7 +136,7 @@ pub fn open(board: &[u8], turns: &mut [u16]) -> Line
     ensures value { result ≡ open_line board.now }
     ensures turns_after { turns.new ≡ choices_in board.now (length turns.old) }
 {
-    choices(board, &mut *turns);
+    choices(board, turns);
     let a = board_open::count(board);
     Line::Two(board_open::open(board), a.refusal as u64, a.turns as u64)
 }
@@ -156,28 +151,28 @@ pub fn check(sheet: &[u8], board: &[u8]) -> Line
 pub fn plan(sheet: &[u8], board: &mut [u8]) -> Line
     ensures { beside result board.new ≡ shown write_line (plan_of sheet.now board.old) }
 {
-    let a: WriteAnswer = plan::plan(sheet, &mut *board);
+    let a: WriteAnswer = plan::plan(sheet, board);
     Line::One(a.refusal, a.bytes as u64)
 }
 
 pub fn list(sheet: &[u8], text: &mut [u8]) -> Line
     ensures { beside result text.new ≡ shown write_line (list_of sheet.now text.old) }
 {
-    let a: WriteAnswer = list::list(sheet, &mut *text);
+    let a: WriteAnswer = list::list(sheet, text);
     Line::One(a.refusal, a.bytes as u64)
 }
 
 pub fn assign(sheet: &[u8], places: &mut [u16]) -> Line
     ensures { beside result places.new ≡ shown assign_line (assign_of sheet.now places.old) }
 {
-    let a: AssignAnswer = assign::assign(sheet, &mut *places);
+    let a: AssignAnswer = assign::assign(sheet, places);
     Line::One(a.refusal, a.groomers as u64)
 }
 
 pub fn best(sheet: &[u8], map: &mut [u8]) -> Line
     ensures { beside result map.new ≡ shown best_line (best_of sheet.now map.old) }
 {
-    let a: BestAnswer = best::best(sheet, &mut *map);
+    let a: BestAnswer = best::best(sheet, map);
     Line::One(a.refusal, a.worth as u64)
 }
 
@@ -186,7 +181,7 @@ pub fn improve(limit: &[u8], sheet: &[u8], map: &mut [u8]) -> Line
     ensures { beside result map.new ≡ shown improve_line
         (improve_of sheet.now (asked_long limit.now) map.old) }
 {
-    let a: ImproveAnswer = improve::improve(sheet, asked_long(limit), &mut *map);
+    let a: ImproveAnswer = improve::improve(sheet, asked_long(limit), map);
     Line::Four(
         a.refusal,
         u64::from(a.whole),
@@ -199,20 +194,20 @@ pub fn improve(limit: &[u8], sheet: &[u8], map: &mut [u8]) -> Line
 pub fn keep(sheet: &[u8], kept: &mut [u8]) -> Line
     ensures { beside result kept.new ≡ shown write_line (keep_of sheet.now kept.old) }
 {
-    let a: WriteAnswer = archive::keep(sheet, &mut *kept);
+    let a: WriteAnswer = archive::keep(sheet, kept);
     Line::One(a.refusal, a.bytes as u64)
 }
 
 pub fn restore(kept: &[u8], sheet: &mut [u8]) -> Line
     ensures { beside result sheet.new ≡ shown write_line (restore_of kept.now sheet.old) }
 {
-    let a: WriteAnswer = archive::restore(kept, &mut *sheet);
+    let a: WriteAnswer = archive::restore(kept, sheet);
     Line::One(a.refusal, a.bytes as u64)
 }
 
 pub fn charge(sheet: &[u8], map: &mut [u8]) -> Line
     ensures { beside result map.new ≡ shown charge_line (charge_of sheet.now map.old) }
 {
-    let a: ChargeAnswer = charge::charge(sheet, &mut *map);
+    let a: ChargeAnswer = charge::charge(sheet, map);
     Line::One(a.refusal, a.worth as u64)
 }

@@ -50,20 +50,20 @@ struct Case<'a> {
 // Calls the entry; what its line says.
 fn run_entry(case: Case, numbers: &mut [u16], bytes: &mut [u8]) -> Line {
     match case.entry {
-        1 => entries::read(case.front, &mut *numbers),
-        2 => entries::write(case.front, case.rest, &mut *bytes),
-        3 => entries::plan(case.front, &mut *bytes),
-        4 => entries::open(case.front, &mut *numbers),
+        1 => entries::read(case.front, numbers),
+        2 => entries::write(case.front, case.rest, bytes),
+        3 => entries::plan(case.front, bytes),
+        4 => entries::open(case.front, numbers),
         5 => entries::check(case.front, case.rest),
-        6 => entries::list(case.front, &mut *bytes),
-        9 => entries::assign(case.front, &mut *numbers),
-        10 => entries::short(case.front, &mut *numbers),
-        11 => entries::best(case.front, &mut *bytes),
-        12 => entries::improve(case.front, case.rest, &mut *bytes),
-        13 => entries::draw(case.front, &mut *bytes),
-        14 => entries::keep(case.front, &mut *bytes),
-        15 => entries::restore(case.front, &mut *bytes),
-        17 => entries::charge(case.front, &mut *bytes),
+        6 => entries::list(case.front, bytes),
+        9 => entries::assign(case.front, numbers),
+        10 => entries::short(case.front, numbers),
+        11 => entries::best(case.front, bytes),
+        12 => entries::improve(case.front, case.rest, bytes),
+        13 => entries::draw(case.front, bytes),
+        14 => entries::keep(case.front, bytes),
+        15 => entries::restore(case.front, bytes),
+        17 => entries::charge(case.front, bytes),
         _ => Line::Nothing,
     }
 }
@@ -120,12 +120,12 @@ fn print_line(
     bytes: &mut [u8],
 ) -> io::Result<()> {
     rt.write_all(case.name)?;
-    print(rt, run_entry(case, &mut *numbers, &mut *bytes))?;
+    print(rt, run_entry(case, numbers, bytes))?;
     if case.entry == OPEN {
         print_places(rt, board_open::steps(case.front))?;
     }
-    print_places(rt, &*numbers)?;
-    print_places(rt, &*bytes)?;
+    print_places(rt, numbers)?;
+    print_places(rt, bytes)?;
     rt.write_all(b"\n")
 }
 

@@ -143,8 +143,8 @@ fn write_drawn(seed: u32, counts: Counts, n: u16, keys: &mut [u64], out: &mut [u
 {
     let end = n as usize;
     let some = &mut keys[0..end];
-    fill_keys(seed, counts, &mut *some);
-    write::write_keys(counts, &mut *some, &mut *out)
+    fill_keys(seed, counts, some);
+    write::write_keys(counts, some, out)
 }
 
 // The first thing wrong with the seed or the counts, if any.
@@ -165,14 +165,14 @@ pub fn draw(seed: u64, groomers: u32, slopes: u32, turns: u32, out: &mut [u8]) -
     ensures { beside result out.new ≡ draw_of seed (counts_of groomers slopes) turns out.old }
 {
     match seed_fault(seed, groomers, slopes, turns) {
-        Err(fault) => refused(u8::from(fault)),
+        Err(fault) => refused(fault),
         Ok(()) => {
             let counts = Counts {
                 groomers: groomers as u16,
                 slopes: slopes as u16,
             };
             let mut keys = [0u64; MOST_TURNS as usize];
-            write_drawn(seed as u32, counts, turns as u16, &mut keys, &mut *out)
+            write_drawn(seed as u32, counts, turns as u16, &mut keys, out)
         }
     }
 }

@@ -14,7 +14,7 @@ use Rattle.sheet.specs.Read.{answer_for}
 use Rattle.instance.specs.Load.{PosedFor}
 use Rattle.charge_spec.specs.Hall.{hall_gap}
 use Rattle.charge_spec.specs.Charge.{charging_sheet}
-use Rattle.charge_spec.proofs.ChargingSheets.{charging_given, vehicles_of}
+use Rattle.charge_spec.proofs.ChargingSheets.{vehicles_of}
 use Rattle.charge.proofs.Charges.{charge_tried, accepted, counts_are, charge_held, hall_is}
 use Rattle.limit_spec.specs.declared.LimitAnswer.{LimitAnswer}
 use Rattle.limit_spec.specs.Limit.{limit_is, limit_refused}
@@ -46,5 +46,3 @@ module _ (s prices : List ℕ) {K : Kind} {r : ReadAnswer} (k : K ≡ charging_s
     unfolding sheet_hall_limit
     limit_found cols w l h =
         ap limit_is (h ∙ rw (hall_is s k e f cols w, (counts_are s k e f).1)) ∙ sym (charge_limit_is s prices (accepted s k e f) l)
-
-pub ruleset limit_cases = (charging_given, hall_posed, limit_fault, limit_other, limit_found)

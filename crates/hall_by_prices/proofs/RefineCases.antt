@@ -20,7 +20,6 @@ use Rattle.charge_spec.specs.Hall.{hall_gap}
 use Rattle.charge_spec.specs.Plan.{hall_choice, hall_worth, worth_in}
 use Rattle.charge_spec.proofs.Halls.{plan_length}
 use Rattle.charge_spec.specs.Charge.{charging_sheet}
-use Rattle.charge_spec.proofs.ChargingSheets.{charging_given}
 use Rattle.charge.proofs.Charges.{charge_tried, accepted, counts_are, hall_is}
 use Rattle.refine_spec.specs.Rounds.{RoundRule, Stage, start_from, refined, first_change}
 use Rattle.refine_spec.specs.Shift.{greatest_worth}
@@ -34,7 +33,6 @@ use Rattle.hall_by_prices_spec.proofs.RefineCauses.{places_iff, clear_iff, charg
 use Rattle.hall_by_prices_spec.specs.Answer.{charge_refined_by, charge_refine_refused}
 use Rattle.hall_look.specs.declared.HallSize.{HallSize}
 use Rattle.hall_look.specs.Look.{hall_for, HallPosed}
-use Rattle.hall_by_prices.proofs.EntryCases.{hall_posed}
 
 -- ---- the rounds from the hall's plan
 
@@ -125,5 +123,3 @@ module _ (s : List ℕ) (rounds : ℕ) (map prices : List ℕ) {K : Kind} {r : R
     pub refine_few : {x : ChargeRefineAnswer} → length prices < shift_minutes → x ≡ charge_refine_refused buffer_too_small → charge_refined_by x map prices ≡ charge_refine_of s rounds map prices
     unfolding charge_refine_of charge_refine_causes
     refine_few l g = rw g (tried_last (charge_tried s k e) _ (λ k. not_charge_refined k map prices) f buffer_too_small (omega arith) ((places_iff s (length map) (length prices)).1 (few_prices l)))
-
-pub ruleset refine_cases = (charging_given, hall_posed, refine_fault, refine_short, refine_few, refine_done)

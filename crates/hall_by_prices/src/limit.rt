@@ -1,5 +1,6 @@
 // The hall's limit at given prices.
 ghost use Rattle.std.specs.Prelude.{◌≡◌};
+ghost use Rattle.refusal.specs.Failure.{number_of};
 ghost use Rattle.limit_spec.specs.Limit.{limit_refused};
 ghost use Rattle.hall_by_prices_spec.specs.Limit.{charge_limit_of};
 
@@ -8,11 +9,11 @@ use instance::{PLACES, Size};
 use limit_spec::LimitAnswer;
 use refusal::Refusal;
 
-fn refused(k: u8) -> LimitAnswer
-    ensures { result ≡ limit_refused k }
+fn refused(k: Refusal) -> LimitAnswer
+    ensures { result ≡ limit_refused (number_of k) }
 {
     LimitAnswer {
-        refusal: k,
+        refusal: u8::from(k),
         limit: 0,
     }
 }
@@ -23,18 +24,18 @@ pub fn charge_limit(s: &[u8], prices: &[u16]) -> LimitAnswer
 {
     let mut cols = [0u16; PLACES];
     let mut room = [0u16; PLACES];
-    let r = instance::load_as(charge::charging_sheet(), s, &mut cols, &mut room);
-    if r.refusal != 0 {
-        return refused(r.refusal);
-    }
+    let (counts, n) = match instance::load_as(charge::charging_sheet(), s, &mut cols, &mut room) {
+        Ok(read) => read,
+        Err(fault) => return refused(fault),
+    };
     if prices.len() != MINUTES {
-        return refused(Refusal::BadPrices as u8);
+        return refused(Refusal::BadPrices);
     }
     let h = HallSize {
-        units: r.groomers,
-        vehicles: r.slopes,
+        units: counts.groomers,
+        vehicles: counts.slopes,
         size: Size {
-            count: r.turns as usize,
+            count: n as usize,
             gap: charge::HALL_GAP,
         },
     };

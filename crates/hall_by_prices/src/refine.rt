@@ -1,5 +1,6 @@
 // A better set for a hall, and a limit close above it, by rounds in which the prices of minutes move.
 ghost use Rattle.std.specs.Prelude.{◌≡◌, ◌≤◌, length};
+ghost use Rattle.refusal.specs.Failure.{number_of};
 ghost use Rattle.turn.specs.Turn.{shift_minutes};
 ghost use Rattle.choice_map.specs.Choice.{map_bytes};
 ghost use Rattle.price_rounds.specs.Rounds.{Reaches};
@@ -58,11 +59,11 @@ fn refine_hall(
     }
 }
 
-fn refused(k: u8) -> ChargeRefineAnswer
-    ensures { result ≡ charge_refine_refused k }
+fn refused(k: Refusal) -> ChargeRefineAnswer
+    ensures { result ≡ charge_refine_refused (number_of k) }
 {
     ChargeRefineAnswer {
-        refusal: k,
+        refusal: u8::from(k),
         worth: 0,
         limit: 0,
         rounds: 0,
@@ -82,21 +83,21 @@ pub fn charge_refine(
 {
     let mut cols = [0u16; PLACES];
     let mut room = [0u16; PLACES];
-    let r = instance::load_as(charge::charging_sheet(), s, &mut cols, &mut room);
-    if r.refusal != 0 {
-        return refused(r.refusal);
-    }
-    if map.len() < choice_map::map_bytes(r.turns) {
-        return refused(Refusal::BufferTooSmall as u8);
+    let (counts, n) = match instance::load_as(charge::charging_sheet(), s, &mut cols, &mut room) {
+        Ok(read) => read,
+        Err(fault) => return refused(fault),
+    };
+    if map.len() < choice_map::map_bytes(n) {
+        return refused(Refusal::BufferTooSmall);
     }
     if prices.len() < MINUTES {
-        return refused(Refusal::BufferTooSmall as u8);
+        return refused(Refusal::BufferTooSmall);
     }
     let h = HallSize {
-        units: r.groomers,
-        vehicles: r.slopes,
+        units: counts.groomers,
+        vehicles: counts.slopes,
         size: Size {
-            count: r.turns as usize,
+            count: n as usize,
             gap: charge::HALL_GAP,
         },
     };

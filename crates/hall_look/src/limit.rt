@@ -49,13 +49,7 @@ fn put_bests(
     for t in 0..h.size.count {
         let row = row_at(cols, t);
         let count = counts_for(prices, sums, row);
-        keep_best(
-            usize::from(row.slope),
-            count as u16,
-            t,
-            &mut *most,
-            &mut *taken,
-        );
+        keep_best(usize::from(row.slope), count as u16, t, most, taken);
     }
 }
 
@@ -94,8 +88,8 @@ pub fn limit_with(
 {
     let mut sums = [0u32; SUMS];
     put_sums(prices, &mut sums);
-    put_bests(h, cols, prices, &sums, &mut *most, &mut *taken);
-    supply_cost(h, cols, prices, &sums) + bests_sum(h.vehicles, &*most)
+    put_bests(h, cols, prices, &sums, most, taken);
+    supply_cost(h, cols, prices, &sums) + bests_sum(h.vehicles, most)
 }
 
 // The limit alone.

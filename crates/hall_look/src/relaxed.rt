@@ -33,7 +33,7 @@ fn put_relaxed(
     ensures map_after { choice_in h.size.count map.new ≡ hall_relaxed (hall_for h cols.now) prices.now }
 {
     for &number in taken {
-        put_before(number, &mut *map);
+        put_before(number, map);
     }
 }
 
@@ -48,6 +48,6 @@ pub fn look_at(h: HallSize, cols: &[u16; PLACES], prices: &[u16], relaxed: &mut 
     let mut most = [0u16; VEHICLES];
     let mut taken = [0u16; VEHICLES];
     let limit = limit_with(h, cols, prices, &mut most, &mut taken);
-    put_relaxed(h, cols, prices, &taken, &mut *relaxed);
+    put_relaxed(h, cols, prices, &taken, relaxed);
     limit
 }

@@ -118,7 +118,7 @@ fn put_drawn(h: HallSize, cols: &[u16; PLACES], relaxed: &[u8], drawn: &mut [u16
     // A `while`: next_chosen passes over windows that are not chosen eight at a time, a `for` would test each.
     let mut t = choice_map::next_chosen(relaxed, 0);
     while t < h.size.count {
-        draw_window(&mut *drawn, row_at(cols, t));
+        draw_window(drawn, row_at(cols, t));
         t = choice_map::next_chosen(relaxed, t + 1);
     }
 }
@@ -141,5 +141,5 @@ pub fn move_minutes(
     put_moves(h.units, change, &mut moves);
     let mut by = [0u32; MINUTES];
     put_minute_moves(h.units, change, &moves, &drawn, &mut by);
-    move_each(&by, &mut *prices);
+    move_each(&by, prices);
 }

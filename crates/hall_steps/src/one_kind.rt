@@ -50,6 +50,6 @@ pub fn put_kind(a: OneKind, cols: &[u16; PLACES], own: &mut [u16; PLACES])
 {
     for t in 0..a.size.count {
         let row = kind_row(a, row_at(cols, t));
-        put_row(&mut *own, t, row);
+        put_row(own, t, row);
     }
 }

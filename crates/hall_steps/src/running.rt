@@ -29,6 +29,6 @@ pub fn plan_one_kind(a: OneKind, cols: &[u16; PLACES], out: &mut [u8]) -> usize
     let mut own = [0u16; PLACES];
     let mut room = [0u16; PLACES];
     put_kind(a, cols, &mut own);
-    let made = plan_by(rule_of(a), a.size, &own, &mut *out, &mut room);
+    let made = plan_by(rule_of(a), a.size, &own, out, &mut room);
     made.count
 }

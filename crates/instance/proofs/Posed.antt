@@ -120,8 +120,6 @@ module _ (K : Kind) (sound : Sound K) (s lent t : List ℕ) (r : ReadAnswer) (e 
   unfolding RowsOf
   load_posed cols o gap = posed K sound gap s accepted cols o.1 (λ i h. o.0 i (omega (arith, whole_turns_for K s e.0 z)) ∙ ap row_for (read_turn i h))
 
-pub ruleset load_cases = (load_refused, load_few, load_room, load_fits, load_posed)
-
 -- its loading is that of its kind
 pub load_shift_sheet : (s cols : List ℕ) {K : Kind} {r : ReadAnswer} → K ≡ shift_sheet → (r ≡ answer_for K s) × (r.refusal ≡ 0 → (gap : ℕ) → PosedFor gap s cols) → Loaded s r cols
 unfolding sheet_turns

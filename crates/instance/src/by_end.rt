@@ -13,7 +13,7 @@ fn set_by_end(p: Size, cols: &[u16; PLACES], order: &mut [u16], spare: &mut [u16
     requires { (length order.old ≡ p.count) × (p.count ≤ length spare.old) × Held p cols.now }
     ensures { order.new ≡ by_end (turns_by p cols.now) }
 {
-    counting_sort::put_order(super::ends(p, cols), &mut *order, &mut spare[..p.count]);
+    counting_sort::put_order(super::ends(p, cols), order, &mut spare[..p.count]);
 }
 
 // The rows of the turns, each at its place in the order.
@@ -22,7 +22,7 @@ fn put_rows(p: Size, cols: &[u16; PLACES], order: &[u16], own: &mut [u16; PLACES
     ensures { PutByEnd p cols.now order.now own.new }
 {
     for (i, &t) in order.iter().enumerate() {
-        put_row(&mut *own, i, row_at(cols, t as usize));
+        put_row(own, i, row_at(cols, t as usize));
     }
 }
 
@@ -31,8 +31,8 @@ pub fn put_by_end(p: Size, cols: &[u16; PLACES], order: &mut [u16], own: &mut [u
     requires { Held p cols.now × (length order.old ≡ p.count) }
     ensures { PutByEnd p cols.now order.new own.new }
 {
-    set_by_end(p, cols, &mut *order, &mut *own);
-    put_rows(p, cols, &*order, &mut *own);
+    set_by_end(p, cols, order, own);
+    put_rows(p, cols, order, own);
 }
 
 // For each turn its place in an order.

@@ -2,14 +2,15 @@
 ghost use Rattle.std.specs.Prelude.{◌≡◌, ℕ, ◌+◌, ◌*◌, ◌≤◌, ◌<◌, length};
 ghost use Rattle.turn.specs.Turn.{row_numbers};
 ghost use Rattle.sheet.specs.Kind.{most_turns, Sound, kind_in_numbers};
-ghost use Rattle.sheet.specs.Read.{answer_for};
+ghost use Rattle.sheet.specs.Read.{answer_by, answer_for};
 ghost use Rattle.instance.specs.Columns.{column_count};
 ghost use Rattle.instance.specs.Load.{shift_size, EndsFit, Copied, with_end, LengthsFit, EndsPut, RowsOf, PosedFor, Loaded};
 
 use super::columns::{MOST_TURNS, PLACES, Size, put_row, row_at};
 use super::ways::Row;
-use sheet::{Kind, ReadAnswer};
-use turn::ROW_NUMBERS;
+use refusal::Refusal;
+use sheet::Kind;
+use turn::{Counts, ROW_NUMBERS};
 
 // The free minutes that a groomer or a driver needs between two turns of a shift.
 pub const SHIFT_GAP: u16 = 10;
@@ -40,7 +41,7 @@ fn put_columns(cols: &mut [u16; PLACES], table: &[u16], n: usize)
     ensures { Copied table.now n cols.new column_count }
 {
     for k in 0..ROW_NUMBERS {
-        put_column(&mut *cols, table, k, n);
+        put_column(cols, table, k, n);
     }
 }
 
@@ -61,8 +62,8 @@ fn put_ends(cols: &mut [u16; PLACES], n: usize)
     ensures { EndsPut n cols.old cols.new n }
 {
     for t in 0..n {
-        let row = with_end(row_at(&*cols, t));
-        put_row(&mut *cols, t, row);
+        let row = with_end(row_at(cols, t));
+        put_row(cols, t, row);
     }
 }
 
@@ -72,11 +73,11 @@ fn put_rows(cols: &mut [u16; PLACES], table: &[u16], n: usize)
     requires { (n ≤ most_turns) × (row_numbers * n ≤ length table.now) × EndsFit n table.now }
     ensures { RowsOf table.now cols.new n }
 {
-    put_columns(&mut *cols, table, n);
-    put_ends(&mut *cols, n);
+    put_columns(cols, table, n);
+    put_ends(cols, n);
 }
 
-// Reads any bytes as a sheet of a kind into columns, the reader's answer beside them. No gap is fixed
+// Reads any bytes as a sheet of a kind into columns; what is returned is the reader's, counts and the number of turns. No gap is fixed
 // here: the caller's `Size` has it. The room is for the table of turns on the way: nothing is said of what it
 // holds afterwards, nor of what the columns hold after a refusal.
 pub fn load_as(
@@ -84,29 +85,30 @@ pub fn load_as(
     s: &[u8],
     cols: &mut [u16; PLACES],
     room: &mut [u16; PLACES],
-) -> ReadAnswer
+) -> Result<(Counts, u16), Refusal>
     requires { Sound (kind_in_numbers kind) }
-    ensures { (result ≡ answer_for (kind_in_numbers kind) s.now) × (result.refusal ≡ 0 → (gap : ℕ) → PosedFor gap s.now cols.new) }
+    ensures { (answer_by result ≡ answer_for (kind_in_numbers kind) s.now) × ((answer_by result).refusal ≡ 0 → (gap : ℕ) → PosedFor gap s.now cols.new) }
 {
-    let r = sheet_read::read_table_of(kind, s, &mut *room);
-    if r.refusal != 0 {
-        return r;
-    }
-    put_rows(&mut *cols, &*room, r.turns as usize);
-    r
+    let (counts, n) = sheet_read::read_table_of(kind, s, room)?;
+    put_rows(cols, room, n as usize);
+    Ok((counts, n))
 }
 
 // Reads any bytes as a shift's sheet into columns, with lent room for the table of turns.
-pub fn load_with(s: &[u8], cols: &mut [u16; PLACES], room: &mut [u16; PLACES]) -> ReadAnswer
-    ensures { Loaded s.now result cols.new }
+pub fn load_with(
+    s: &[u8],
+    cols: &mut [u16; PLACES],
+    room: &mut [u16; PLACES],
+) -> Result<(Counts, u16), Refusal>
+    ensures { Loaded s.now (answer_by result) cols.new }
 {
-    load_as(sheet_read::shift_sheet(), s, &mut *cols, &mut *room)
+    load_as(sheet_read::shift_sheet(), s, cols, room)
 }
 
 // Reads any bytes as a shift's sheet into columns, with a table of its own.
-pub fn load(s: &[u8], cols: &mut [u16; PLACES]) -> ReadAnswer
-    ensures { Loaded s.now result cols.new }
+pub fn load(s: &[u8], cols: &mut [u16; PLACES]) -> Result<(Counts, u16), Refusal>
+    ensures { Loaded s.now (answer_by result) cols.new }
 {
     let mut room = [0u16; PLACES];
-    load_with(s, &mut *cols, &mut room)
+    load_with(s, cols, &mut room)
 }

@@ -20,7 +20,7 @@ use Rattle.limit_spec.proofs.Limits.{priced_sum, priced_best}
 use Rattle.shift_look.specs.declared.Extent.{Extent}
 use Rattle.shift_look.specs.OrdersAndCounts.{counted_turns, turns_in, Priced}
 use Rattle.refusal.proofs.Outcome.{tried_stops, tried_last, tried_found}
-use Rattle.instance.proofs.Posed.{loaded_tried, loaded_held, loaded_turns, loaded_groomers, loaded_slopes, loaded_drivers, loaded_few_slopes}
+use Rattle.instance.proofs.Posed.{loaded_tried, loaded_held, loaded_turns, loaded_slopes, loaded_drivers, loaded_few_slopes}
 
 -- ---- the answer
 
@@ -62,5 +62,3 @@ module _ (s cols prices : List ℕ) {r : ReadAnswer} (e : Loaded s r cols) where
           let counted = priced_best T slopes prices ∙ priced_sum T slopes prices (counts_in s).groomers (λ t h. sheet_groomers s sound t (omega (arith, sheet_count s sound))) in
           ap limit_is (h ∙ rw (loaded_turns s cols e f q, (e.posed f).slopes) (ap (λ (n : ℕ). price_sum T slopes prices + n) counted))
           ∙ tried_found (loaded_tried s cols e) _ limit_refused f bad_prices (rw (eq-eqb (length prices) (price_count s) (l ∙ prices_are)))
-
-pub ruleset limit_cases = (limit_fault, limit_other, loaded_held, loaded_groomers, loaded_drivers, limit_priced, limit_found)

@@ -3,6 +3,7 @@
 #![tactic(auto)]
 
 ghost use Rattle.std.specs.Prelude.{◌≡◌, ◌+◌};
+ghost use Rattle.refusal.specs.Failure.{number_of};
 ghost use Rattle.instance.specs.Columns.{Held};
 ghost use Rattle.best_spec.specs.Table.{best_worth};
 ghost use Rattle.best_table.specs.OrderAndTable.{Ranged};
@@ -35,11 +36,11 @@ fn limit_with(
     shift_look::limit_driverless(e, cols, prices, orders)
 }
 
-fn refused(k: u8) -> LimitAnswer
-    ensures { result ≡ limit_refused k }
+fn refused(k: Refusal) -> LimitAnswer
+    ensures { result ≡ limit_refused (number_of k) }
 {
     LimitAnswer {
-        refusal: k,
+        refusal: u8::from(k),
         limit: 0,
     }
 }
@@ -50,17 +51,17 @@ pub fn limit(s: &[u8], prices: &[u16]) -> LimitAnswer
 {
     let mut cols = [0u16; PLACES];
     let mut room = [0u16; PLACES];
-    let r = instance::load_with(s, &mut cols, &mut room);
-    if r.refusal != 0 {
-        return refused(r.refusal);
-    }
-    let slopes = usize::from(r.slopes);
-    let turns = usize::from(r.turns);
+    let (counts, n) = match instance::load_with(s, &mut cols, &mut room) {
+        Ok(read) => read,
+        Err(fault) => return refused(fault),
+    };
+    let slopes = usize::from(counts.slopes);
+    let turns = usize::from(n);
     if prices.len() != slopes + turns {
-        return refused(Refusal::BadPrices as u8);
+        return refused(Refusal::BadPrices);
     }
     let e = Extent {
-        size: instance::shift_size(r.turns),
+        size: instance::shift_size(n),
         slopes,
     };
     let mut orders = [0u16; ORDERS];

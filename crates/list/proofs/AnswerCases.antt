@@ -36,7 +36,7 @@ use Rattle.list_spec.specs.Answer.{text_answer}
 use Rattle.refusal.specs.Outcome.{beside}
 use Rattle.list_spec.proofs.Rounds.{apart_starts}
 use Rattle.list_spec.proofs.Bytes.{listing_bytes_lem}
-use Rattle.instance.proofs.Posed.{loaded_tried, loaded_held, loaded_turns}
+use Rattle.instance.proofs.Posed.{loaded_tried, loaded_turns}
 use Rattle.plan.proofs.Space.{board_reads, board_opens, board_header_lem, board_count, board_choice_lem, front_holds, front_is, front_part}
 
 -- ---- a text into lent bytes
@@ -118,5 +118,3 @@ module _ (s cols lent : List ℕ) {r : ReadAnswer} (e : Loaded s r cols) where
     pub list_done : {x : Written} → x ≡ text_answer (listing_for r.groomers (turns_by p cols)) lent → x ≡ list_of s lent
     unfolding text_answer list_of list_causes written_unless
     list_done g = (rw listing_same at g) ∙ tried_goes (loaded_tried s cols e) (wrote (sheet_listing s) lent) (λ k. kept k lent) f _
-
-pub ruleset List-cases = (list_fault, loaded_held, list_short, list_done)

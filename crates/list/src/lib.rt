@@ -48,7 +48,7 @@ fn list_map(
     let mut text = [0u8; LISTING_BYTES];
     let bytes = put_listing(&mut text, p, cols, map, groomers, sums);
     if out.len() < bytes {
-        return refused(Refusal::BufferTooSmall as u8);
+        return refused(Refusal::BufferTooSmall);
     }
     wire::put_bytes(&mut *out, 0, &text[..bytes]);
     WriteAnswer {
@@ -108,14 +108,14 @@ pub fn list(s: &[u8], out: &mut [u8]) -> WriteAnswer
 {
     let mut cols = [0u16; PLACES];
     let mut room = [0u16; PLACES];
-    let r = instance::load_with(s, &mut cols, &mut room);
-    if r.refusal != 0 {
-        return refused(r.refusal);
-    }
+    let (counts, n) = match instance::load_with(s, &mut cols, &mut room) {
+        Ok(read) => read,
+        Err(fault) => return refused(fault),
+    };
     list_problem(
-        instance::shift_size(r.turns),
+        instance::shift_size(n),
         &cols,
-        r.groomers,
+        counts.groomers,
         &mut *out,
         &mut room,
     )

@@ -212,8 +212,6 @@ module _ (s cols : List ℕ) {a : ReadAnswer} (e : Loaded s a cols) (y : a.refus
         carried ((sheet_causes s ++ board_causes (sheet_turns s) b) ++ lent_causes (counts_in s).groomers (turn_count s) delays places) _ (sheet_turns s) lent (board_choice b) delays x table
         (ap first_of (append_assoc (sheet_causes s) (board_causes (sheet_turns s) b) (lent_causes (counts_in s).groomers (turn_count s) delays places)) ∙ first_goes (sheet_causes s) _ (sheet_numbered s) (e.posed y).sound) v'
 
-pub ruleset prepared_cases = (sheet_refused, sheet_prepared)
-
 -- ---- the entry
 
 -- the standings of the first k groomers

@@ -1,5 +1,6 @@
 // All that is judged and worked out before the first minute.
 ghost use Rattle.std.specs.Prelude.{◌≡◌, false, ◌++◌, ◌≤◌, ◌<◌};
+ghost use Rattle.refusal.specs.Failure.{number_of};
 ghost use Rattle.sheet.specs.Kind.{most_groomers};
 ghost use Rattle.instance.specs.Columns.{turns_by, Held};
 ghost use Rattle.instance_spec.specs.Problem.{shift_gap};
@@ -31,11 +32,11 @@ pub struct Lent {
     pub places: usize,
 }
 
-fn refused(k: u8) -> Prepared
-    ensures { (result.refusal ≡ k) × (result.groomers ≡ 0) × (result.moved ≡ 0) × (result.minutes ≡ 0) }
+fn refused(k: Refusal) -> Prepared
+    ensures { (result.refusal ≡ number_of k) × (result.groomers ≡ 0) × (result.moved ≡ 0) × (result.minutes ≡ 0) }
 {
     Prepared {
-        refusal: k,
+        refusal: u8::from(k),
         groomers: 0,
         moved: 0,
         minutes: 0,
@@ -65,7 +66,7 @@ fn prepare_days(
 {
     if delays_serve(delays, p.count) {
         if lent.places < lent.groomers as usize {
-            return refused(Refusal::BufferTooSmall as u8);
+            return refused(Refusal::BufferTooSmall);
         }
         let map = board_open::map(board);
         put_days(p, cols, map, delays, &mut *table);
@@ -76,7 +77,7 @@ fn prepare_days(
             minutes: MINUTES,
         };
     }
-    refused(Refusal::BadDelays as u8)
+    refused(Refusal::BadDelays)
 }
 
 // Judges the board first.
@@ -96,7 +97,7 @@ fn prepare_board(
 {
     let mut scratch = [0u16; PLACES];
     match check_board::board_fault(board, p, cols, &mut scratch) {
-        Err(fault) => refused(u8::from(fault)),
+        Err(fault) => refused(fault),
         Ok(_) => prepare_days(p, cols, lent, board, delays, &mut *table),
     }
 }
@@ -113,13 +114,13 @@ pub fn prepare<'a>(
     ensures { PreparedFor sheet.now board.now delays.now places result table.new }
 {
     let mut cols = [0u16; PLACES];
-    let head = instance::load(sheet, &mut cols);
-    if head.refusal != 0 {
-        return refused(head.refusal);
-    }
-    let p = instance::shift_size(head.turns);
+    let (counts, n) = match instance::load(sheet, &mut cols) {
+        Ok(read) => read,
+        Err(fault) => return refused(fault),
+    };
+    let p = instance::shift_size(n);
     let lent = Lent {
-        groomers: head.groomers,
+        groomers: counts.groomers,
         places,
     };
     prepare_board(p, &cols, lent, board, delays, &mut *table)

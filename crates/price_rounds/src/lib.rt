@@ -56,7 +56,7 @@ fn keep_better<R: PriceRule>(
 {
     let mut space = [0u8; MAP_BYTES];
     let map = &mut space[..best.len()];
-    let found = rule.choose_listed(cols, rows, list, &mut *map);
+    let found = rule.choose_listed(cols, rows, list, map);
     if worth < found {
         best.copy_from_slice(map);
         found
@@ -81,10 +81,10 @@ pub fn make_rounds<R: PriceRule>(
     let p = rule.size();
     let mut orders = [0u16; ORDERS];
     let mut rows = [0u64; ROW_WORDS];
-    rule.put_orders(cols, &mut orders, &mut *room, &mut rows);
+    rule.put_orders(cols, &mut orders, room, &mut rows);
     let mut places = [0u16; MOST_TURNS];
     let ranks = &mut places[..p.count];
-    put_ranks(p, cols, &mut *ranks);
+    put_ranks(p, cols, ranks);
     let mut space = [0u16; MOST_PRICES];
     let prices = &mut space[..kept.len()];
     let mut change = rule.first_change(cols);
@@ -95,12 +95,12 @@ pub fn make_rounds<R: PriceRule>(
     loop {
         let mut map = [0u8; MAP_BYTES];
         let relaxed = &mut map[..best.len()];
-        let seen = rule.look_at(cols, &orders, &*prices, &mut *relaxed);
-        limit = keep_lower(seen, limit, &*prices, &mut *kept);
+        let seen = rule.look_at(cols, &orders, prices, relaxed);
+        limit = keep_lower(seen, limit, prices, kept);
         let mut numbers = [0u16; ASKED];
-        let count = put_list(&*ranks, &*relaxed, &mut numbers);
+        let count = put_list(ranks, relaxed, &mut numbers);
         let list = &numbers[..count];
-        worth = keep_better(rule, worth, cols, &rows, list, &mut *best);
+        worth = keep_better(rule, worth, cols, &rows, list, best);
         if is_over(limit, worth, made, s.rounds) {
             return Reached {
                 limit,
@@ -108,7 +108,7 @@ pub fn make_rounds<R: PriceRule>(
                 rounds: made,
             };
         }
-        rule.move_prices(cols, &orders, &*relaxed, list, change, &mut *prices);
+        rule.move_prices(cols, &orders, relaxed, list, change, prices);
         change = next_change(change);
         made += 1;
     }

@@ -104,8 +104,8 @@ impl PriceRule for Extent {
         room: &mut [u16; PLACES],
         rows: &mut [u64; ROW_WORDS],
     ) {
-        shift_look::put_orders(self, cols, &mut *orders, &mut *room);
-        conflict_sets::fill_rows(self.size, cols, &*orders, &mut *rows);
+        shift_look::put_orders(self, cols, orders, room);
+        conflict_sets::fill_rows(self.size, cols, orders, rows);
     }
 
     fn first_change(self, cols: &[u16; PLACES]) -> u32 {
@@ -119,7 +119,7 @@ impl PriceRule for Extent {
         prices: &[u16],
         relaxed: &mut [u8],
     ) -> u32 {
-        shift_look::look_at(self, cols, orders, prices, &mut *relaxed)
+        shift_look::look_at(self, cols, orders, prices, relaxed)
     }
 
     fn choose_listed(
@@ -129,7 +129,7 @@ impl PriceRule for Extent {
         list: &[u16],
         map: &mut [u8],
     ) -> u32 {
-        conflict_sets::choose_listed(self.size, cols, rows, list, &mut *map)
+        conflict_sets::choose_listed(self.size, cols, rows, list, map)
     }
 
     fn move_prices(
@@ -142,7 +142,7 @@ impl PriceRule for Extent {
         prices: &mut [u16],
     ) {
         let taken = &list[self.size.count..];
-        shift_moves::move_prices(self, cols, orders, taken, change, &mut *prices);
+        shift_moves::move_prices(self, cols, orders, taken, change, prices);
     }
 }
 
@@ -173,7 +173,7 @@ impl PriceRule for HallSize {
         prices: &[u16],
         relaxed: &mut [u8],
     ) -> u32 {
-        hall_look::look_at(self, cols, prices, &mut *relaxed)
+        hall_look::look_at(self, cols, prices, relaxed)
     }
 
     fn choose_listed(
@@ -189,8 +189,8 @@ impl PriceRule for HallSize {
             size: self.size,
             wide: false,
         };
-        charge::choose_listed(all, cols, list, &mut *map);
-        round_parts::worth_chosen(self.size, cols, &*map)
+        charge::choose_listed(all, cols, list, map);
+        round_parts::worth_chosen(self.size, cols, map)
     }
 
     fn move_prices(
@@ -202,6 +202,6 @@ impl PriceRule for HallSize {
         change: u32,
         prices: &mut [u16],
     ) {
-        hall_moves::move_minutes(self, cols, relaxed, change, &mut *prices);
+        hall_moves::move_minutes(self, cols, relaxed, change, prices);
     }
 }

@@ -41,7 +41,6 @@ use Rattle.refine_spec.proofs.RefineCauses.{places_iff, clear_iff}
 use Rattle.refine_spec.proofs.Rounds.{chosen_worth}
 use Rattle.refine_spec.proofs.Relaxed.{relaxed_counted}
 use Rattle.lists.proofs.Places.{taken_length}
-use Rattle.plan.proofs.Answers.{plan_room}
 use Rattle.model.proofs.Promised.{planned_length}
 use Rattle.refine.specs.declared.planned.Planned.{Planned}
 use Rattle.price_rule.specs.Rules.{Shift, size_of, prices_of, change_of, rule_limit, relaxed_of, fits_of, moved_of, choice_of, rule_worth, round_rule, ShiftPosed, RulePosed}
@@ -197,5 +196,3 @@ module _ (s cols : List ℕ) (rounds : ℕ) (board prices : List ℕ) {r : ReadA
           λ t h. rw posed (sheet_groomers s (g.posed f).sound t (omega (arith, count_is p cols, loaded_count s cols g f q))) in
           z ∙ rw (refined_is (record { size = p; slopes = r.slopes }) cols (counts_in s).groomers numbers rounds, posed, (g.posed f).slopes)
           (sym (unless_none (refine_causes s (length board) (length prices)) _ (λ k. not_refined k board prices) ((clear_iff s (length board) (length prices)).1 ((g.posed f).sound, omega (arith, size_is), omega (arith, prices_are)))))
-
-pub ruleset answer_cases = (refine_fault, refine_short, refine_few, refine_posed, refine_list, plan_room, refine_done)

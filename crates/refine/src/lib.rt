@@ -6,6 +6,7 @@ ghost use Rattle.std.specs.Prelude.{◌≡◌, ◌+◌, ◌≤◌, length};
 ghost use Rattle.model.specs.Choice.{choice};
 ghost use Rattle.board.specs.Board.{board_length};
 ghost use Rattle.shift_look.specs.OrdersAndCounts.{turns_in};
+ghost use Rattle.refusal.specs.Failure.{number_of};
 ghost use Rattle.refine_spec.specs.Refine.{refinement_of, refine_of};
 ghost use Rattle.refine_spec.specs.Answer.{refined_by, refine_refused};
 ghost use Rattle.price_rule.specs.Rules.{ShiftPosed};
@@ -55,11 +56,11 @@ fn refine_with(
     }
 }
 
-fn refused(k: u8) -> RefineAnswer
-    ensures { result ≡ refine_refused k }
+fn refused(k: Refusal) -> RefineAnswer
+    ensures { result ≡ refine_refused (number_of k) }
 {
     RefineAnswer {
-        refusal: k,
+        refusal: u8::from(k),
         bytes: 0,
         worth: 0,
         limit: 0,
@@ -75,17 +76,16 @@ pub fn refine(s: &[u8], rounds: u32, board: &mut [u8], prices: &mut [u16]) -> Re
 {
     let mut cols = [0u16; PLACES];
     let mut room = [0u16; PLACES];
-    let r = instance::load_with(s, &mut cols, &mut room);
-    if r.refusal != 0 {
-        return refused(r.refusal);
-    }
-    let n = r.turns;
+    let (counts, n) = match instance::load_with(s, &mut cols, &mut room) {
+        Ok(read) => read,
+        Err(fault) => return refused(fault),
+    };
     if board.len() < board::board_bytes(n, n) {
-        return refused(Refusal::BufferTooSmall as u8);
+        return refused(Refusal::BufferTooSmall);
     }
-    let slopes = r.slopes as usize;
+    let slopes = counts.slopes as usize;
     if prices.len() < slopes + n as usize {
-        return refused(Refusal::BufferTooSmall as u8);
+        return refused(Refusal::BufferTooSmall);
     }
     let e = Extent {
         size: instance::shift_size(n),

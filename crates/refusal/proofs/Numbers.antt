@@ -1,5 +1,5 @@
 -- No refusal has the number 0, which stands for none, so a result that is an error has another. Assumes nothing.
-use Prim.Native.Nat.{ℕ, ◌≤◌}
+use Prim.Native.Nat.{◌≤◌}
 use mathlib.Core.Path.{◌≡◌, sym}
 use mathlib.Core.Bool.{true≢false}
 use native.Mathlib.Omega.{arith}
@@ -36,6 +36,9 @@ number_from BadDelays = omega arith
 number_from BadDraw = omega arith
 number_from BadPrices = omega arith
 
+pub no_zero : (k : Refusal) → number_of k ≡ 0 → ⊥
+no_zero k z = omega (arith, z, number_from k)
+
 pub refuses : {A : Type 0} (r : Result A Refusal) → IsErr r → failure r ≡ 0 → ⊥
 refuses (Ok a) h z = absurd (true≢false (sym h))
 refuses (Err k) h z = omega (arith, number_from k)
@@ -45,9 +48,6 @@ refuses_with e = rw e
 
 pub passes : {A : Type 0} {r : Result A Refusal} {a : A} → r ≡ Ok a → failure r ≡ 0
 passes e = rw e
-
-pub numbered_as : {n : ℕ} (k : Refusal) → n ≡ number_of k → n ≡ 0 → ⊥
-numbered_as k e z = omega (arith, number_from k)
 
 -- what holds anyhow holds where nothing refused
 pub on_ok : {A P : Type 0} (r : Result A Refusal) → P → OnOk r P

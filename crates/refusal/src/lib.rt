@@ -57,11 +57,11 @@ pub struct WriteAnswer {
 }
 
 // A refusal's answer.
-pub fn refused(k: u8) -> WriteAnswer
-    ensures { result ≡ write_refused k }
+pub fn refused(k: Refusal) -> WriteAnswer
+    ensures { result ≡ write_refused (number_of k) }
 {
     WriteAnswer {
-        refusal: k,
+        refusal: u8::from(k),
         bytes: 0,
     }
 }

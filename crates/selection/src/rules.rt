@@ -21,7 +21,7 @@ pub fn is_independent(p: Size, cols: &[u16; PLACES], map: &[u8], rows: &mut [u16
     let mut c = 0;
     for x in 0..p.count {
         if choice_map::is_chosen(map, x) {
-            if !gather_if_fits(p.gap, &mut *rows, &mut flags, c, row_at(cols, x)) {
+            if !gather_if_fits(p.gap, rows, &mut flags, c, row_at(cols, x)) {
                 return false;
             }
             c += 1;
@@ -44,7 +44,7 @@ fn gather_chosen(
     let mut c = 0;
     for x in 0..p.count {
         if choice_map::is_chosen(map, x) {
-            gather_row(&mut *rows, &mut *flags, c, row_at(cols, x));
+            gather_row(rows, flags, c, row_at(cols, x));
             c += 1;
         }
     }
@@ -78,8 +78,8 @@ pub fn is_maximal(p: Size, cols: &[u16; PLACES], map: &[u8], rows: &mut [u16; PL
     ensures { result ≡ maximal (turns_by p cols.now) (choice_in p.count map.now) }
 {
     let mut flags = [0u8; SLOPES];
-    let c = gather_chosen(p, cols, map, &mut *rows, &mut flags);
-    are_settled(p, cols, map, &*rows, &flags, c)
+    let c = gather_chosen(p, cols, map, rows, &mut flags);
+    are_settled(p, cols, map, rows, &flags, c)
 }
 
 // A turn's worth if it is chosen, else 0.

@@ -78,6 +78,6 @@ pub fn apply_shares(residuals: &mut [i32], p: Size, cols: &[u16; PLACES], s: Sha
     let shares = shares_of(s.units, s.amount);
     for t in from..p.count {
         let less = take_of(s, x, row_at(cols, t), &shares);
-        lessen(&mut *residuals, t, less);
+        lessen(residuals, t, less);
     }
 }

@@ -76,8 +76,6 @@ module _ (K : Kind) (s : List ℕ) {g k n : ℕ} (p : g ≡ value_at s 3 1) (q :
   pub counts_found : counts_of g k ≡ counts_in s
   counts_found = rw (p, q)
 
-pub ruleset counts_cases = (counts_judged, counts_found)
-
 module _ (K : Kind) (s : List ℕ) where
   pub header_short : length s < header_bytes → truncated ≡ first_of (header_causes K s)
   unfolding header_causes first_of

@@ -1,5 +1,7 @@
 -- A whole sheet, read (document 01: the sheet, refusals 1 to 11). Assumes nothing.
-use Rattle.std.specs.Prelude.{ℕ, zero, suc, ◌*◌, List, [], ◌∷◌, ◌++◌, not, length, ltb}
+use Rattle.std.specs.Prelude.{ℕ, zero, suc, ◌*◌, List, [], ◌∷◌, ◌++◌, not, length, ltb, Result, Ok, Err}
+use Rattle.refusal.specs.declared.Refusal.{Refusal}
+use Rattle.refusal.specs.Failure.{number_of}
 use Rattle.refusal.specs.Number.{truncated, bad_magic, trailing_bytes}
 use Rattle.refusal.specs.Cause.{Cause, ◌when◌}
 use Rattle.wire.specs.Number.{value_at}
@@ -82,6 +84,11 @@ read_refused k = record { refusal = k; groomers = 0; slopes = 0; turns = 0 }
 -- the answer of a sheet that is not refused: its header's counts
 abbrev pub read_answer : List ℕ → ReadAnswer
 read_answer s = record { refusal = 0; groomers = (counts_in s).groomers; slopes = (counts_in s).slopes; turns = turn_count s }
+
+-- the answer by what was read, counts and the number of turns, or by a refusal
+abbrev pub answer_by : Result (Counts × ℕ) Refusal → ReadAnswer
+answer_by (Ok x) = record { refusal = 0; groomers = x.0.groomers; slopes = x.0.slopes; turns = x.1 }
+answer_by (Err k) = read_refused (number_of k)
 
 -- the answer where the table has places for every sheet: no cause but the sheet's own
 unfoldable pub answer_for : Kind → List ℕ → ReadAnswer

@@ -6,7 +6,7 @@ ghost use Rattle.wire.specs.Number.{puts};
 ghost use Rattle.turn.specs.Turn.{row_numbers, row_of, rows};
 ghost use Rattle.sheet.specs.Kind.{table_places, Sound, kind_in_numbers};
 ghost use Rattle.sheet.specs.Record.{first_cursor};
-ghost use Rattle.sheet.specs.Read.{records_causes, turns_from, table_of, read_refused, answer_for, answer_of, read_for, read_of};
+ghost use Rattle.sheet.specs.Read.{records_causes, turns_from, table_of, read_refused, answer_by, answer_for, answer_of, read_for, read_of};
 ghost use Rattle.refusal.specs.Written.{at_front};
 ghost use Rattle.refusal.specs.Outcome.{beside};
 
@@ -72,7 +72,7 @@ fn read_records(
     let mut at: usize = 0;
     for i in 0..n {
         let (t, next) = c.next(kind, s, limits)?;
-        at = put_turn(&mut *table, at, t);
+        at = put_turn(table, at, t);
         c = next;
     }
     if c.at < s.len() {
@@ -96,30 +96,22 @@ fn refused(k: Refusal) -> ReadAnswer
 // Reads any bytes as a sheet of a kind into a table with places for every sheet. No entry: the table
 // is written as the records are read, and after a refusal nothing is said of what it holds. It is for
 // those who own their table and look at it only where nothing is refused.
-pub fn read_table_of(kind: Kind, s: &[u8], table: &mut [u16]) -> ReadAnswer
+pub fn read_table_of(kind: Kind, s: &[u8], table: &mut [u16]) -> Result<(Counts, u16), Refusal>
     requires { Sound (kind_in_numbers kind) × (table_places ≤ length table.old) }
-    ensures { (result ≡ answer_for (kind_in_numbers kind) s.now) × (result.refusal ≡ 0 → table.new ≡ at_front (table_of s.now) table.old) }
+    ensures { (answer_by result ≡ answer_for (kind_in_numbers kind) s.now)
+        × ((answer_by result).refusal ≡ 0 → table.new ≡ at_front (table_of s.now) table.old) }
 {
-    match read_header(kind, s) {
-        Err(fault) => refused(fault),
-        Ok((limits, n)) => match read_records(kind, s, n, limits, first_cursor(), &mut *table) {
-            Err(fault) => refused(fault),
-            Ok(()) => ReadAnswer {
-                refusal: 0,
-                groomers: limits.groomers,
-                slopes: limits.slopes,
-                turns: n,
-            },
-        },
-    }
+    let (limits, n) = read_header(kind, s)?;
+    read_records(kind, s, n, limits, first_cursor(), table)?;
+    Ok((limits, n))
 }
 
 // Reads any bytes as a shift's sheet, as read_table_of does a sheet of any kind.
-pub fn read_table(s: &[u8], table: &mut [u16]) -> ReadAnswer
+pub fn read_table(s: &[u8], table: &mut [u16]) -> Result<(Counts, u16), Refusal>
     requires { table_places ≤ length table.old }
-    ensures { (result ≡ answer_of s.now) × (result.refusal ≡ 0 → table.new ≡ at_front (table_of s.now) table.old) }
+    ensures { (answer_by result ≡ answer_of s.now) × ((answer_by result).refusal ≡ 0 → table.new ≡ at_front (table_of s.now) table.old) }
 {
-    read_table_of(shift_sheet(), s, &mut *table)
+    read_table_of(shift_sheet(), s, table)
 }
 
 // Reads any bytes as a sheet of a kind into any lent table. Whether the last record is right is known
@@ -130,21 +122,26 @@ pub fn read_as(kind: Kind, s: &[u8], table: &mut [u16]) -> ReadAnswer
     ensures { beside result table.new ≡ read_for (kind_in_numbers kind) s.now table.old }
 {
     let mut own = [0u16; TABLE_PLACES];
-    let r = read_table_of(kind, s, &mut own);
-    if r.refusal != 0 {
-        return r;
-    }
-    let end = ROW_NUMBERS * (r.turns as usize);
+    let (counts, n) = match read_table_of(kind, s, &mut own) {
+        Ok(read) => read,
+        Err(fault) => return refused(fault),
+    };
+    let end = ROW_NUMBERS * (n as usize);
     if table.len() < end {
         return refused(Refusal::BufferTooSmall);
     }
     table[..end].copy_from_slice(&own[..end]);
-    r
+    ReadAnswer {
+        refusal: 0,
+        groomers: counts.groomers,
+        slopes: counts.slopes,
+        turns: n,
+    }
 }
 
 // Reads any bytes as a shift's sheet into any lent table.
 pub fn read(s: &[u8], table: &mut [u16]) -> ReadAnswer
     ensures { beside result table.new ≡ read_of s.now table.old }
 {
-    read_as(shift_sheet(), s, &mut *table)
+    read_as(shift_sheet(), s, table)
 }

@@ -18,11 +18,11 @@ fn answer(sheet: &[u8], text: &mut [u8]) -> usize
     requires { listing_bytes ≤ length text.old }
     ensures { (result ≤ length text.new) × (take result text.new ≡ printed sheet.now) }
 {
-    let a = list::list(sheet, &mut *text);
+    let a = list::list(sheet, text);
     if a.refusal == 0 {
         a.bytes as usize
     } else {
-        list::refused_line(&mut *text, a.refusal)
+        list::refused_line(text, a.refusal)
     }
 }
 

@@ -1,13 +1,13 @@
 -- draw: draws turns from any seed with any counts, and writes their sheet into any lent bytes.
-use mathlib.Core.Path.{◌∙◌, refl}
-use Rattle.refusal.proofs.Numbers.{numbered_as}
+use mathlib.Core.Path.{refl}
+use Rattle.refusal.proofs.Numbers.{no_zero}
 use Rattle.draw.proofs.Drawings.{seed_in_word, groomer_count_fits, slope_count_fits, turn_count_fits, draw_refused, draw_fine, draw_cases}
 use borrow.Author.Rules.{rules}
 use Rattle.draw.proofs.draw.Goals as goal
 
 pub returns-in-Err : goal.returns-in-Err
 returns-in-Err c =
-    draw_refused _ _ _ _ (c.from.ensures ∙ c.in-Err.ensures) _ (numbered_as c.in-Err.fault c.from.ensures) c.refused.ensures
+    draw_refused _ _ _ _ c.in-Err.ensures _ (no_zero c.in-Err.fault) c.refused.ensures
 
 pub overflow_cast-counts : goal.overflow_cast-counts
 overflow_cast-counts c = groomer_count_fits _ _ _ _ c.in-Ok.ensures refl

@@ -1,12 +1,12 @@
 -- restore: restores the sheet of any bytes as a kept form in any lent bytes.
-use mathlib.Core.Path.{◌∙◌, refl}
-use Rattle.refusal.proofs.Numbers.{numbered_as}
+use mathlib.Core.Path.{refl}
+use Rattle.refusal.proofs.Numbers.{no_zero}
 use Rattle.archive.proofs.RestoreCases.{restore_fault, restore_small, restore_header, restore_few, restore_whole, restore_end, restore_bytes, restore_done}
 use borrow.Author.Rules.{rules}
 use Rattle.archive.proofs.restoring.restore.Goals as goal
 
 pub returns-in-Err : goal.returns-in-Err
-returns-in-Err c = restore_fault c.args.kept.now c.args.sheet.now (c.from.ensures ∙ c.in-Err.ensures.refused) (numbered_as c.in-Err.fault c.from.ensures) c.refused.ensures
+returns-in-Err c = restore_fault c.args.kept.now c.args.sheet.now c.in-Err.ensures.refused (no_zero c.in-Err.fault) c.refused.ensures
 
 pub returns-then-sheet-kept : goal.returns-then-sheet-kept
 returns-then-sheet-kept c = restore_small c.args.kept.now c.args.sheet.now c.in-Ok.ensures.refused refl (search rules) c.refused-then-sheet-kept.ensures

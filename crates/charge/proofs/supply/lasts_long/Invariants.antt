@@ -1,4 +1,4 @@
--- Invariant: there is room at all minutes from the start to m. Measure: the minutes left.
+-- Invariant: there is room at all minutes from the start to m.
 use Prim.Native.Nat.{◌+◌, ◌-◌, ◌≤◌}
 use mathlib.Core.Path.{◌≡◌}
 use mathlib.Core.Bool.{true}
@@ -8,6 +8,3 @@ use Rattle.charge.proofs.supply.lasts_long.Given as goal
 
 abbrev pub invariant-loop-m : goal.invariant-loop-m
 invariant-loop-m l = (l.start ≤ l.m) × (l.m ≤ l.end) × (l.last ≡ l.end - part_minutes) × (l.start + part_minutes ≤ l.end) × (l.end ≤ shift_minutes) × (lasts_for l.used l.start l.room (l.m - l.start) ≡ true)
-
-abbrev pub decreases-loop-m : goal.decreases-loop-m
-decreases-loop-m l = l.end - l.m

@@ -1,12 +1,11 @@
 -- `prepare_board` meets its contract: what is known before the first minute, for a problem and any board.
-use mathlib.Core.Path.{◌∙◌}
 use Rattle.play.proofs.Answers.{board_refused, board_passes, board_cases}
-use Rattle.refusal.proofs.Numbers.{numbered_as}
+use Rattle.refusal.proofs.Numbers.{no_zero}
 use borrow.Author.Rules.{rules}
 use Rattle.play.proofs.preparing.prepare_board.Goals as goal
 
 pub returns-in-Err : goal.returns-in-Err
-returns-in-Err c = board_refused _ _ _ _ _ _ _ _ (c.from.ensures ∙ c.in-Err.ensures.refused) (numbered_as c.in-Err.fault c.from.ensures) (search rules) c.refused.ensures
+returns-in-Err c = board_refused _ _ _ _ _ _ _ _ c.in-Err.ensures.refused (no_zero c.in-Err.fault) (search rules) c.refused.ensures
 
 pub prepare_days-requires : goal.prepare_days-requires
 prepare_days-requires c = search (rules, board_cases)
