@@ -53,6 +53,9 @@ module _ (s cols prices : List ℕ) {r : ReadAnswer} (e : Loaded s r cols) where
             list = l ∙ rw q;
           }
 
+      pub limit_priced_by : {k : ℕ} → k ≡ r.slopes → Priced (record { size = p; slopes = k }) cols prices
+      limit_priced_by e = rw e limit_priced
+
       pub limit_found : {x : ℕ} → x ≡ price_sum (turns_in extent cols) r.slopes prices + best_worth (counted_turns (turns_in extent cols) r.slopes prices) → limit_is x ≡ limit_of s prices
       unfolding limit_of limit_causes sheet_limit limit_by counted_turns
       limit_found h =

@@ -52,7 +52,8 @@ pub trait PriceRule: Copy {
         relaxed: &mut [u8],
     ) -> u32
         requires rule_posed { RulePosed (rule self) cols.now × OrderedFor (rule self) cols.now orders.now × (length prices.now ≡ prices_of (rule self)) }
-        requires clean { Clean (size_of (rule self)).count relaxed.old × (choice_in (size_of (rule self)).count relaxed.old ≡ replicate (size_of (rule self)).count false) }
+        requires clean { Clean (size_of (rule self)).count relaxed.old
+            × (choice_in (size_of (rule self)).count relaxed.old ≡ replicate (size_of (rule self)).count false) }
         ensures value { result ≡ rule_limit (rule self) cols.now prices.now }
         ensures clean_2 { Clean (size_of (rule self)).count relaxed.new
             × (choice_in (size_of (rule self)).count relaxed.new ≡ relaxed_of (rule self) cols.now prices.now) };
@@ -67,7 +68,8 @@ pub trait PriceRule: Copy {
         map: &mut [u8],
     ) -> u32
         requires rule_posed { RulePosed (rule self) cols.now × RowsFor (rule self) cols.now rows.now × NumbersOf (size_of (rule self)).count list.now }
-        requires clean { Clean (size_of (rule self)).count map.old × (choice_in (size_of (rule self)).count map.old ≡ replicate (size_of (rule self)).count false) }
+        requires clean { Clean (size_of (rule self)).count map.old
+            × (choice_in (size_of (rule self)).count map.old ≡ replicate (size_of (rule self)).count false) }
         ensures map_after { choice_in (size_of (rule self)).count map.new
             ≡ choose_each (fits_of (rule self) cols.now) list.now (replicate (size_of (rule self)).count false) }
         ensures clean_2 { Clean (size_of (rule self)).count map.new
