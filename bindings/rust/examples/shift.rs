@@ -97,7 +97,7 @@ fn show_listing(sheet: &[u8]) -> Result<(), Refusal> {
     Ok(())
 }
 
-/// Who does which turn if all are to be done and any groomer can do any.
+/// Which groomer takes which turn, where every turn is done and each groomer can take each.
 fn show_groomers(sheet: &[u8]) -> Result<(), Refusal> {
     let mut groomers = [0; TURNS.len()];
     let count = slopeboard::assign(sheet, &mut groomers)?;

@@ -171,13 +171,13 @@ pub record Checks (s b : List ℕ) : Type 0 where
   pub counts : (a : Accepted s) → counts_in s ≡ a.counts
   pub turns : (a : Accepted s) → turns_of s ≡ a.turns
   pub count : (a : Accepted s) → turn_count s ≡ length a.turns
-  -- a board passes exactly if the sheet is accepted and it keeps the rules, which is that no cause from 12 to 17 is there
+  -- a board passes exactly if the sheet is accepted and it keeps the rules, which is that it gives none of the causes 12 to 17
   pub exactly : ((check_of s b).refusal ≡ 0) ↔ (Accepted s × BoardKeeps s b)
   pub keeps : Accepted s → BoardKeeps s b ↔ ((k r : ℕ) → BoardCause (sheet_turns s) b k r → ⊥)
   pub passes : ((check_of s b).refusal ≡ 0) ↔ ((k r : ℕ) → CheckCause s b k r → ⊥)
   -- then tally and worth come back as they stand in it, with the ceiling
   pub answers : (check_of s b).refusal ≡ 0 → check_of s b ≡ checked 0 (board_tally b) (board_worth b) (ceiling (sheet_turns s) (written_steps b))
-  -- R-7: the ceiling is what the steps count for, added up; a right step counts for its amount once for each of the fewest groups that hold what it touches
+  -- R-7: the ceiling is what the steps count for, added up; a right step counts for its amount times the least number of groups that hold what it touches
   pub ceiling_sums : (xs : List Step) → ceiling (sheet_turns s) xs ≡ total (after_step (sheet_turns s)) (step_cost (sheet_turns s)) (initial (sheet_turns s)) xs
   pub counted : (r : List ℤ) (x : Step) → Right (sheet_turns s) r x → (k : ℕ) × Fewest (sheet_turns s) r x.turn k × (step_cost (sheet_turns s) r x ≡ k * x.amount)
   -- it binds every feasible set, whoever made it
@@ -241,7 +241,7 @@ pub record Searches (s : List ℕ) (limit : ℕ) (lent : List ℕ) (T : Turns) (
   pub apart : Independent T S
   pub earns : chosen T.count S T.worth ≡ x.answer.worth
   pub no_less : board_worth (planned_board s) ≤ x.answer.worth
-  -- the visits are the lesser of the limit and those of the whole search, which ran exactly if the limit allows it
+  -- there are as many visits as in the whole search, or the limit where that is less; the whole search ran exactly if the limit allows it
   pub all_used : limit ≤ whole_visits T → x.answer.visits ≡ limit
   pub all_made : whole_visits T ≤ limit → x.answer.visits ≡ whole_visits T
   pub countable : whole_visits T < 2 ^ 64
@@ -450,7 +450,7 @@ pub record Promised : Type 0 where
   pub steps : (b : List ℕ) → open_of b ≡ 0 → steps_part_at b ≡ record { start = 15 + (board_turns b + 7) / 8; length = 4 * board_steps b }
   pub steps_none : (b : List ℕ) → open_of b ≢ 0 → steps_part b ≡ []
   pub steps_part_lem : (b : List ℕ) → take (steps_part_at b).length (drop (steps_part_at b).start b) ≡ steps_part b
-  -- R-2, R-5: two turns of a sheet conflict exactly if they have one slope, or have one groomer or one driver and either share a minute or one starts 0 to 9 minutes after the other's end
+  -- R-2, R-5: two turns of a sheet conflict exactly if they have one slope, or have one groomer or one driver and either share a minute or one begins less than 10 minutes after the other ends
   pub conflicts : {s : List ℕ} → Bytes s → Accepted s → (x y : ℕ) → x < turn_count s → y < turn_count s → Conflict (sheet_turns s) x y ↔ SheetConflict s x y
   pub check : (s b : List ℕ) → Bytes s → Checks s b
   pub plan : {s : List ℕ} → Bytes s → (lent : List ℕ) → (plan_of s lent).answer.refusal ≡ 0 → Plans s (written_part (plan_of s lent)) (sheet_turns s)
