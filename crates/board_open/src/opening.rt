@@ -52,7 +52,7 @@ pub fn open(b: &[u8]) -> u8
     ensures { result ≡ open_of b.now }
 {
     if is_malformed(b) {
-        Refusal::MalformedBoard as u8
+        u8::from(Refusal::MalformedBoard)
     } else {
         0
     }
@@ -85,7 +85,7 @@ pub fn count(b: &[u8]) -> CountAnswer
 {
     if is_malformed(b) {
         return CountAnswer {
-            refusal: Refusal::MalformedBoard as u8,
+            refusal: u8::from(Refusal::MalformedBoard),
             turns: 0,
         };
     }

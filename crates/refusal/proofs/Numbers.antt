@@ -5,7 +5,7 @@ use mathlib.Core.Bool.{true≢false}
 use native.Mathlib.Omega.{arith}
 use Rattle.std.specs.Prelude.{Result, Ok, Err, IsErr, OnOk}
 use Rattle.refusal.specs.declared.Refusal.{Refusal}
-use Rattle.refusal.specs.declared.Refusal.TheVariants.{Truncated, BadMagic, BadCounts, TooManyTurns, BadMap, BadSlope, BadGroomer, BadTime, BadWorth, TrailingBytes, BufferTooSmall, MalformedBoard, ChosenConflict, NotMaximal, WrongStep, TurnLeftOpen, WrongSums, PartialTurn, BadDriver, TooManyForShort, NotSingleTurns, TooManyToSearch, BadSeed, BadDelays, BadDraw, BadPrices}
+use Rattle.refusal.specs.declared.Refusal.TheVariants.{Truncated, BadMagic, BadCounts, TooManyTurns, BadMap, BadSlope, BadGroomer, BadTime, BadWorth, TrailingBytes, BufferTooSmall, MalformedBoard, ChosenConflict, NotMaximal, WrongStep, TurnLeftOpen, WrongSums, PartialTurn, BadDriver, TooManyForShort, NotSingleTurns, TooManyToSearch, BadSeed, BadDelays, BadDraw, BadPrices, Other}
 use Rattle.refusal.specs.Failure.{number_of, failure}
 
 pub number_from : (k : Refusal) → 1 ≤ number_of k
@@ -35,6 +35,7 @@ number_from BadSeed = omega arith
 number_from BadDelays = omega arith
 number_from BadDraw = omega arith
 number_from BadPrices = omega arith
+number_from (Other n) = omega (arith, n.other)
 
 pub no_zero : (k : Refusal) → number_of k ≡ 0 → ⊥
 no_zero k z = omega (arith, z, number_from k)

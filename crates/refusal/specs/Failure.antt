@@ -1,7 +1,7 @@
 -- The refusals as a type: each has its number, and a result that is none has 0 (document 01: what the box says). Assumes nothing.
-use Rattle.std.specs.Prelude.{ℕ, Result, Ok, Err}
+use Rattle.std.specs.Prelude.{◌≡◌, ⊤, ℕ, Result, Ok, Err}
 use Rattle.refusal.specs.declared.Refusal.{Refusal}
-use Rattle.refusal.specs.declared.Refusal.TheVariants.{Truncated, BadMagic, BadCounts, TooManyTurns, BadMap, BadSlope, BadGroomer, BadTime, BadWorth, TrailingBytes, BufferTooSmall, MalformedBoard, ChosenConflict, NotMaximal, WrongStep, TurnLeftOpen, WrongSums, PartialTurn, BadDriver, TooManyForShort, NotSingleTurns, TooManyToSearch, BadSeed, BadDelays, BadDraw, BadPrices}
+use Rattle.refusal.specs.declared.Refusal.TheVariants.{Truncated, BadMagic, BadCounts, TooManyTurns, BadMap, BadSlope, BadGroomer, BadTime, BadWorth, TrailingBytes, BufferTooSmall, MalformedBoard, ChosenConflict, NotMaximal, WrongStep, TurnLeftOpen, WrongSums, PartialTurn, BadDriver, TooManyForShort, NotSingleTurns, TooManyToSearch, BadSeed, BadDelays, BadDraw, BadPrices, Other}
 use Rattle.refusal.specs.Number.{truncated, bad_magic, bad_counts, too_many_turns, bad_map, bad_slope, bad_groomer, bad_time, bad_worth, trailing_bytes, buffer_too_small, malformed_board, chosen_conflict, not_maximal, wrong_step, turn_left_open, wrong_sums, partial_turn, bad_driver, too_many_for_short, not_single_turns, too_many_to_search, bad_seed, bad_delays, bad_draw, bad_prices}
 
 -- a refusal's number
@@ -32,6 +32,12 @@ number_of BadSeed = bad_seed
 number_of BadDelays = bad_delays
 number_of BadDraw = bad_draw
 number_of BadPrices = bad_prices
+number_of (Other n) = n.number
+
+-- a refusal with a name has this number; nothing is said of another
+abbrev pub NamedBy : Refusal → ℕ → Type 0
+NamedBy (Other n) x = ⊤
+NamedBy k x = x ≡ number_of k
 
 -- what refused, as a number: 0 if nothing did
 abbrev pub failure : {A : Type 0} → Result A Refusal → ℕ

@@ -86,7 +86,7 @@ fn refused(k: Refusal) -> ReadAnswer
     ensures { result ≡ read_refused (number_of k) }
 {
     ReadAnswer {
-        refusal: k as u8,
+        refusal: u8::from(k),
         groomers: 0,
         slopes: 0,
         turns: 0,
