@@ -18,7 +18,7 @@ use Rattle.wire.specs.Mark.{sheet_mark, kept_mark}
 use Rattle.wire.proofs.Puts.{puts_front, puts_append}
 use Rattle.turn.specs.declared.Turn.{Turn}
 use Rattle.turn.specs.declared.Counts.{Counts}
-use Rattle.turn.specs.Turn.{turn_in, turns_of_table}
+use Rattle.turn.specs.Turn.{turn_in, turns_of_table, Numbered}
 use Rattle.turn.proofs.Rows.{turns_step}
 use Rattle.sheet.specs.declared.kind.Maps.{Maps}
 use Rattle.sheet.specs.Kind.{Kind, shift_sheet, most_turns}
@@ -168,6 +168,9 @@ module _ (k : List ℕ) {f : ℕ} (q : f ≡ first_of (form_causes k)) where
       pub judge_values : (K : Kind) (limits : Counts) {g : ℕ} → K ≡ archive → limits ≡ counts_in k → g ≡ first_of (turns_causes K.refusals limits (turns_of_table n table 0))
           → g ≡ first_of (form_causes k ++ turns_causes archive.refusals (counts_in k) (kept_turns k))
       judge_values K limits a b c = c ∙ rw (a, b, judge_read) (sym (first_goes (form_causes k) _ (form_numbered k) (sym q ∙ z)))
+
+pub kind_numbered : {K : Kind} → K ≡ archive → Numbered K.refusals
+kind_numbered e = rw e archive_sound.numbers
 
 -- ---- the whole kept form
 

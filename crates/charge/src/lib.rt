@@ -52,10 +52,10 @@ pub fn charging_sheet() -> Kind
             full: sheet::FIRST_MAP,
         },
         refusals: Refusals {
-            counts: Refusal::BadCounts,
-            turns: Refusal::TooManyTurns,
-            slope: Refusal::BadSlope,
-            groomer: Refusal::BadDraw,
+            counts: Some(Refusal::BadCounts),
+            turns: Some(Refusal::TooManyTurns),
+            slope: Some(Refusal::BadSlope),
+            groomer: Some(Refusal::BadDraw),
         },
     }
 }

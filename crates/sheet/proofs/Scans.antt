@@ -15,7 +15,7 @@ use Rattle.wire.proofs.Puts.{puts_append}
 use Rattle.turn.specs.declared.Turn.{Turn}
 use Rattle.turn.specs.declared.Counts.{Counts}
 use Rattle.turn.specs.Turn.{row_numbers, row_of, rows, Numbered}
-use Rattle.turn.proofs.Ranges.{every_numbered, turn_numbered}
+use Rattle.turn.proofs.Ranges.{turn_numbered}
 use Rattle.sheet.specs.Kind.{Kind}
 use Rattle.sheet.specs.declared.record.Cursor.{Cursor}
 use Rattle.sheet.specs.Record.{turn_at, cursor_after, record_causes}
@@ -77,4 +77,4 @@ module _ (n i : ℕ) (s : List ℕ) (c : Cursor) (at : ℕ) (l : List ℕ) where
   unfolding turns_from rows
   scan_table h j = let z : n - i ≡ 0 = omega arith in rw z at j
 
-pub ruleset scan_cases = (every_numbered, scan_start, scan_table_start, scan_read, scan_refused, refuses, scan_trailing, scan_done, scan_row, scan_table)
+pub ruleset scan_cases = (scan_start, scan_table_start, scan_read, scan_refused, refuses, scan_trailing, scan_done, scan_row, scan_table)

@@ -15,13 +15,13 @@ pub fn count_fault(kind: Kind, groomers: u32, slopes: u32, n: usize) -> Result<(
     ensures { failure result ≡ first_of (count_causes (kind_in_numbers kind) (counts_of groomers slopes) n) }
 {
     if turn::outside_range(groomers, kind.most.groomers) {
-        return Err(kind.refusals.counts);
+        return turn::refused_by(kind.refusals.counts);
     }
     if turn::outside_range(slopes, kind.most.slopes) {
-        return Err(kind.refusals.counts);
+        return turn::refused_by(kind.refusals.counts);
     }
     if (kind.most.turns as usize) < n {
-        return Err(kind.refusals.turns);
+        return turn::refused_by(kind.refusals.turns);
     }
     Ok(())
 }

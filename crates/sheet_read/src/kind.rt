@@ -22,10 +22,10 @@ pub fn shift_sheet() -> Kind
             full: FULL_MAP,
         },
         refusals: Refusals {
-            counts: Refusal::BadCounts,
-            turns: Refusal::TooManyTurns,
-            slope: Refusal::BadSlope,
-            groomer: Refusal::BadGroomer,
+            counts: Some(Refusal::BadCounts),
+            turns: Some(Refusal::TooManyTurns),
+            slope: Some(Refusal::BadSlope),
+            groomer: Some(Refusal::BadGroomer),
         },
     }
 }

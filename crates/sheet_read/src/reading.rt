@@ -3,7 +3,7 @@ ghost use Rattle.std.specs.Prelude.{◌≡◌, ◌+◌, ◌*◌, ◌≤◌, ◌<
 ghost use Rattle.refusal.specs.Cause.{first_of};
 ghost use Rattle.refusal.specs.Failure.{number_of, failure};
 ghost use Rattle.wire.specs.Number.{puts};
-ghost use Rattle.turn.specs.Turn.{row_numbers, row_of, rows};
+ghost use Rattle.turn.specs.Turn.{row_numbers, row_of, rows, Numbered};
 ghost use Rattle.sheet.specs.Kind.{table_places, Sound, kind_in_numbers};
 ghost use Rattle.sheet.specs.Record.{first_cursor};
 ghost use Rattle.sheet.specs.Read.{records_causes, turns_from, table_of, read_refused, answer_by, answer_for, answer_of, read_for, read_of};
@@ -64,7 +64,7 @@ fn read_records(
     from: Cursor,
     table: &mut [u16],
 ) -> Result<(), Refusal>
-    requires { row_numbers * n ≤ length table.old }
+    requires { Numbered (kind_in_numbers kind).refusals × (row_numbers * n ≤ length table.old) }
     ensures refused { failure result ≡ first_of (records_causes (kind_in_numbers kind) n s.now limits from) }
     ensures table_after { OnOk result (table.new ≡ puts table.old 0 (rows (turns_from n s.now from))) }
 {

@@ -25,7 +25,7 @@ fn short_sheet() -> Kind
             ..shift.most
         },
         refusals: Refusals {
-            turns: Refusal::TooManyForShort,
+            turns: Some(Refusal::TooManyForShort),
             ..shift.refusals
         },
         ..shift

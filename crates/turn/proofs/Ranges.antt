@@ -11,9 +11,7 @@ use Rattle.refusal.specs.Cause.{first_of, ◌when◌}
 use Rattle.refusal.proofs.Order.{numbered, clear_cons}
 use Rattle.turn.specs.declared.Turn.{Turn}
 use Rattle.turn.specs.declared.Counts.{Counts}
-use Rattle.refusal.proofs.Numbers.{number_from}
-use Rattle.turn.specs.declared.Refusals as declared
-use Rattle.turn.specs.Turn.{numbers_of, Refusals}
+use Rattle.turn.specs.Turn.{Refusals}
 use Rattle.turn.specs.Turn.{outside_range, past_shift, turn_causes, shift_minutes, most_worth, most_driver, Numbered, InRange}
 
 -- ---- each test: a number is 0, or another is above its bound
@@ -63,10 +61,6 @@ unfolding past_shift
 within_iff start len = (either_false len (start + len) shift_minutes, λ h. false_either len (start + len) shift_minutes h.0 h.1)
 
 -- ---- a turn
-
--- those that the code has are no 0
-pub every_numbered : (r : declared.Refusals) → Numbered (numbers_of r)
-every_numbered r = record { counts = number_from r.counts; turns = number_from r.turns; slope = number_from r.slope; groomer = number_from r.groomer }
 
 module _ (refusals : Refusals) (limits : Counts) (t : Turn) where
   pub in_range_fine : InRange limits t → first_of (turn_causes refusals limits t) ≡ 0

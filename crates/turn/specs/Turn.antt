@@ -1,9 +1,10 @@
 -- A turn's values, what they are in memory, and what may be wrong with them (document 01: turns, refusals 6 to 9; request R-5). Assumes nothing.
-use Rattle.std.specs.Prelude.{Bool, true, cond, List, [], ◌∷◌, ◌++◌, ℕ, zero, suc, ◌+◌, ◌*◌, ◌/◌, ◌≤◌, ltb, eqb, length, get_or}
+use Rattle.std.specs.Prelude.{Bool, true, cond, List, [], ◌∷◌, ◌++◌, ℕ, zero, suc, ◌+◌, ◌*◌, ◌/◌, ◌≤◌, ltb, eqb, length, get_or, Option, Some, None}
 use Rattle.refusal.specs.Number.{bad_time, bad_worth, bad_driver}
 use Rattle.refusal.specs.Cause.{Cause, ◌when◌}
 use Rattle.turn.specs.declared.Turn.{Turn}
 use Rattle.turn.specs.declared.Counts.{Counts}
+use Rattle.refusal.specs.declared.Refusal.{Refusal}
 use Rattle.refusal.specs.Failure.{number_of}
 use Rattle.turn.specs.declared.Refusals as declared
 
@@ -72,9 +73,14 @@ pub record Refusals : Type 0 where
   pub slope : ℕ
   pub groomer : ℕ
 
+-- the number of a refusal, 0 where there is none
+abbrev pub number_in : Option Refusal → ℕ
+number_in None = 0
+number_in (Some k) = number_of k
+
 -- the numbers of those that the code has
 abbrev pub numbers_of : declared.Refusals → Refusals
-numbers_of r = record { counts = number_of r.counts; turns = number_of r.turns; slope = number_of r.slope; groomer = number_of r.groomer }
+numbers_of r = record { counts = number_in r.counts; turns = number_in r.turns; slope = number_in r.slope; groomer = number_in r.groomer }
 
 -- x is 0 or above top
 unfoldable pub outside_range : ℕ → ℕ → Bool

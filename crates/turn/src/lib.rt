@@ -5,7 +5,7 @@
 ghost use Rattle.std.specs.Prelude.{◌≡◌, ◌+◌, ◌*◌, ◌≤◌, length};
 ghost use Rattle.refusal.specs.Cause.{first_of};
 ghost use Rattle.refusal.specs.Failure.{failure};
-ghost use Rattle.turn.specs.Turn.{row_numbers, turn_in, outside_range, past_shift, turn_causes, numbers_of};
+ghost use Rattle.turn.specs.Turn.{row_numbers, turn_in, outside_range, past_shift, turn_causes, number_in, numbers_of};
 
 use refusal::Refusal;
 
@@ -38,13 +38,23 @@ pub struct Counts {
 }
 
 // The refusals that go by the kind of sheet: of its counts, of too many turns, of a turn's slope and
-// of its groomer.
+// of its groomer. Where there is none, the fault is passed over, and what comes after it is not looked at.
 #[derive(Clone, Copy)]
 pub struct Refusals {
-    pub counts: Refusal,
-    pub turns: Refusal,
-    pub slope: Refusal,
-    pub groomer: Refusal,
+    pub counts: Option<Refusal>,
+    pub turns: Option<Refusal>,
+    pub slope: Option<Refusal>,
+    pub groomer: Option<Refusal>,
+}
+
+// What a kind of sheet refuses with, if it refuses at all.
+pub fn refused_by(k: Option<Refusal>) -> Result<(), Refusal>
+    ensures { failure result ≡ number_in k }
+{
+    match k {
+        Some(refusal) => Err(refusal),
+        None => Ok(()),
+    }
 }
 
 // Turn i of a table.
@@ -82,10 +92,10 @@ pub fn turn_fault(t: Turn, limits: Counts, refusals: Refusals) -> Result<(), Ref
     ensures { failure result ≡ first_of (turn_causes (numbers_of refusals) limits t) }
 {
     if outside_range(t.slope as u32, limits.slopes) {
-        return Err(refusals.slope);
+        return refused_by(refusals.slope);
     }
     if outside_range(t.groomer as u32, limits.groomers) {
-        return Err(refusals.groomer);
+        return refused_by(refusals.groomer);
     }
     if past_shift(t.start, t.length) {
         return Err(Refusal::BadTime);

@@ -1,7 +1,7 @@
 -- judge_form: the first thing wrong with a kept form after its header; if nothing is, the turns stand in the table.
 use mathlib.Core.Path.{refl}
 use Rattle.refusal.proofs.Numbers.{refuses, on_ok}
-use Rattle.archive.proofs.RestoreCases.{judge_fault, judge_whole, judge_room, judge_table, judge_values}
+use Rattle.archive.proofs.RestoreCases.{judge_fault, judge_whole, judge_room, judge_table, judge_values, kind_numbered}
 use borrow.Author.Rules.{rules}
 use Rattle.archive.proofs.restoring.judge_form.Goals as goal
 
@@ -13,6 +13,9 @@ maps_of-requires c = (c.requires.1, judge_whole c.args.k.now c.in_ok-form_fault.
 
 pub read_columns-requires : goal.read_columns-requires
 read_columns-requires c = (judge_room c.args.k.now c.in_ok-form_fault.ensures refl c.requires.1 c.maps_of.ensures.0, search rules)
+
+pub judge_turns-requires : goal.judge_turns-requires
+judge_turns-requires c = (search rules, kind_numbered c.requires.0)
 
 pub returns-clause-refused : goal.returns-clause-refused
 returns-clause-refused c =

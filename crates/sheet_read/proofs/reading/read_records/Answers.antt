@@ -2,7 +2,6 @@
 use borrow.Author.Rules.{rules}
 use Rattle.sheet.specs.Kind.{kind_in_numbers}
 use Rattle.sheet.proofs.Scans.{scan_read, scan_refused, scan_row, scan_cases}
-use Rattle.turn.proofs.Ranges.{every_numbered}
 use Rattle.refusal.proofs.Numbers.{number_from}
 use Rattle.std.proofs.Common.{arith}
 use Rattle.std.proofs.lemmas.Result.{err_from_is_err_and}
@@ -17,7 +16,7 @@ pub loop-i-preserved : goal.loop-i-preserved
 loop-i-preserved c = (
   search rules,
   search rules,
-  scan_read _ _ _ _ _ _ (every_numbered c.args.kind.refusals) c.in_ok-t.ensures.refused c.in_ok-t.ensures.read.1 c.loop-i-test.true c.loop-i.invariant.2,
+  scan_read _ _ _ _ _ _ c.requires.0 c.in_ok-t.ensures.refused c.in_ok-t.ensures.read.1 c.loop-i-test.true c.loop-i.invariant.2,
   scan_row _ _ _ _ _ _ c.in_ok-t.ensures.read.0 c.in_ok-t.ensures.read.1 c.loop-i-test.true c.put_turn-at.ensures.0 c.put_turn-at.ensures.1 c.loop-i.invariant.3,
 )
 

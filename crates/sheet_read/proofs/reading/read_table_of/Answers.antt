@@ -5,8 +5,10 @@ use Rattle.sheet.proofs.Readings.{answer_header, answer_room, answer_fault, answ
 use Rattle.sheet_read.proofs.reading.read_table_of.Goals as goal
 
 pub read_records-requires : goal.read_records-requires
-read_records-requires c =
-    answer_room _ _ c.requires.0 c.first_cursor.result c.in_ok-limits.was c.read_header.ensures.refused c.read_header.ensures.read c.requires.1
+read_records-requires c = (
+  c.requires.0.numbers,
+  answer_room _ _ c.requires.0 c.first_cursor.result c.in_ok-limits.was c.read_header.ensures.refused c.read_header.ensures.read c.requires.1,
+)
 
 pub returns-in_err-limits : goal.returns-in_err-limits
 returns-in_err-limits c =
