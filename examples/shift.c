@@ -90,7 +90,7 @@ static int show_listing(void) {
     return 0;
 }
 
-/* Who does which turn if all are to be done and any groomer can do any. */
+/* All turns shared out among groomers, each of whom can do every turn. */
 static int show_groomers(void) {
     uint16_t groomers[TURNS];
     slopeboard_assign_answer assigned = slopeboard_assign(sheet, sheet_len, groomers, TURNS);

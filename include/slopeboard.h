@@ -341,8 +341,8 @@ slopeboard_best_answer slopeboard_best(const uint8_t *sheet, size_t sheet_len, u
 slopeboard_improve_answer slopeboard_improve(const uint8_t *sheet, size_t sheet_len, uint64_t visits, uint8_t *map,
                                              size_t map_len);
 
-/* Draws so many turns from a seed, for so many groomers and slopes, and writes their sheet as slopeboard_write does.
- * slopeboard_read accepts it. The same seed and counts give the same sheet everywhere.
+/* Draws as many turns as asked from a seed, for the given counts of groomers and slopes, and writes their sheet as
+ * slopeboard_write does. slopeboard_read accepts it. The same seed and counts give the same sheet everywhere.
  *
  * Each number is the last one times 16,807, modulo 2,147,483,647; the seed stands before the first and is not used
  * itself. Five numbers make a turn, in this order, each by a remainder: slope (by the slopes, plus 1), groomer (by the
@@ -448,8 +448,8 @@ slopeboard_refine_answer slopeboard_refine(const uint8_t *sheet, size_t sheet_le
 
 /* Works out a charging hall's limit by prices: whatever the prices are, no allowed set of windows is worth more.
  *
- * The list has a price for each minute from 0 to 959, in sixteenths. A window pays its draw times the sum of its
- * minutes' prices, divided by 16 and rounded down. What is then left of its worth, 0 if nothing is, is what it
+ * The list has a price for each minute from 0 to 959, in sixteenths. A window pays the sum of its minutes' prices,
+ * times its draw, divided by 16 and rounded down. What is then left of its worth, 0 if nothing is, is what it
  * counts for. Each vehicle takes the window with the greatest count, of equals the lowest number, or none where
  * every count is 0. The limit is what these count for, plus what all units cost in every minute: a sixteenth of
  * units * (all prices added up), without the remainder.
@@ -469,8 +469,8 @@ slopeboard_limit_answer slopeboard_charge_limit(const uint8_t *sheet, size_t she
  * that it takes. A choice is made from these by worth, and then from all windows, of each that may go together
  * with those chosen before. The change, in sixteenths as the prices are, is at first the number that is an eighth of
  * the greatest worth, rounded up, 0 without windows. A round goes by what the windows taken draw in a minute. If that
- * is above the units, the minute's price rises by the change times the excess, divided by the units and rounded up,
- * not above 65,535. If not, it falls by the change times what is left of the units, divided by the units and rounded
+ * is above the units, the minute's price rises by the change times the excess, divided by the units, rounded up, at
+ * most to 65,535. If not, it falls by the change times what is left of the units, divided by the units and rounded
  * down, not below 0.
  *
  * Refusals: those of slopeboard_charge but 11, in their order; then 11 if map_len is below SLOPEBOARD_MAP_BYTES

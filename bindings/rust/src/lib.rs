@@ -349,8 +349,8 @@ pub fn limit(sheet: &[u8], prices: &[u16]) -> Result<u32, Refusal> {
 
 /// Starts from the board that [`plan`] writes and prices of 0, makes at most so
 /// many rounds in which the prices move, and writes the best board found and the
-/// prices of the lowest limit. The board passes [`check`] and is worth no less
-/// than the planned one, and [`limit`] gives the same limit at these prices.
+/// prices of the lowest limit. The board passes [`check`], earns at least what the
+/// plan earns, and [`limit`] gives the same limit at these prices.
 /// With more rounds the worth never falls and the limit never rises. It stops
 /// early if worth and limit meet. Asks for [`board_bytes`] of the sheet's turns,
 /// and for a price for each slope and each turn.
@@ -395,8 +395,8 @@ pub fn charge_limit(sheet: &[u8], prices: &[u16]) -> Result<u32, Refusal> {
 
 /// Starts from the plan that [`charge`] writes and prices of 0, makes at most so
 /// many rounds in which the prices move, and writes the choice map of the best
-/// set found and the prices of the lowest limit. The set is allowed and worth no
-/// less than the plan, and [`charge_limit`] gives the same limit at these
+/// set found and the prices of the lowest limit. The set is allowed and earns at
+/// least what the plan earns, and [`charge_limit`] gives the same limit at these
 /// prices. With more rounds the worth never falls and the limit never rises. It
 /// stops early if worth and limit meet. Asks for [`map_bytes`] of the sheet's
 /// windows, and for [`MINUTES`] prices.

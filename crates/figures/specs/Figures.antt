@@ -261,7 +261,7 @@ pub record Figures : Type 0 where
   pub window_pays_lem : (H : Hall) (prices : List ℕ) (t : ℕ) → window_pays H prices t ≡ draw H t * minutes_cost H prices t / 16
   pub window_counts_lem : (H : Hall) (prices : List ℕ) (t : ℕ) → window_counts H prices t ≡ H.windows.worth t - window_pays H prices t
   pub supply_costs : (H : Hall) (prices : List ℕ) → supply_cost H prices ≡ H.units * sum_over (minute_price prices) (below 960) / 16
-  -- the first change is a quarter of the greatest worth, in a hall an eighth, rounded up; the next change is fifteen sixteenths of the last, rounded down, at least 1
+  -- the first change: the greatest worth by 4, in a hall by 8, rounded up; the next change is fifteen sixteenths of the last, rounded down, at least 1
   pub first_change_lem : (T : Turns) (groomers slopes : ℕ) → (shift_start T groomers slopes).change ≡ (greatest_worth T + 3) / 4
   pub first_hall_change : (H : Hall) (vehicles : ℕ) → (hall_start H vehicles).change ≡ (greatest_of H.windows.worth (below (window_count H)) + 7) / 8
   pub next_change_lem : (change : ℕ) → next_change change ≡ max 1 (15 * change / 16)

@@ -328,7 +328,7 @@ pub record RefinesShift (s : List ℕ) (rounds : ℕ) (board prices b p : List �
   pub tally_same : board_tally b ≡ board_tally (planned_board s)
   pub worth_is : board_worth b ≡ x.worth
   pub no_less : board_worth (planned_board s) ≤ x.worth
-  -- the limit is P-1's at the written prices, so that no feasible set earns more; if it is the worth, none earns more than the board
+  -- at the prices that are written P-1 gives the same limit, which no feasible set exceeds; if it is the worth, none earns more than the board
   pub limit_is_lem : limit_of s p ≡ limit_is x.limit
   pub capped : CapsShift T x.limit
   pub worth_within : x.worth ≤ x.limit
@@ -345,7 +345,7 @@ pub record RefinesShift (s : List ℕ) (rounds : ℕ) (board prices b p : List �
   pub made : x.rounds ≤ rounds
   pub ended : (x.rounds ≡ rounds) ⊎ (x.limit ≡ x.worth)
   pub not_before : (k : ℕ) (c q : List ℕ) → k < x.rounds → (refine_of s k c q).refusal ≡ 0 → (refine_of s k c q).limit ≢ (refine_of s k c q).worth
-  -- the price of a turn without a driver is 0
+  -- a turn that no driver is named for has price 0
   pub driverless : (u : ℕ) → u < T.count → T.driver u ≡ 0 → turn_price (counts_in s).slopes p u ≡ 0
   pub board_behind : drop x.bytes x.board ≡ drop x.bytes board
   pub prices_behind : drop (price_count s) x.prices ≡ drop (price_count s) prices

@@ -32,7 +32,7 @@ sheet_turns s = problem_of shift_gap (turns_of s)
 
 -- ---- as statements
 
--- request R-2: turns x and y of a sheet share a minute, or one starts 0 to 9 minutes after the other's end
+-- request R-2: turns x and y of a sheet share a minute, or from the end of one to the start of the other there are 9 minutes or fewer
 pub data TooClose (s : List ℕ) (x y : ℕ) : Type 0 where
   shared : (minute : ℕ) → (sheet_turns s).start x ≤ minute → minute < (sheet_turns s).end x → (sheet_turns s).start y ≤ minute → minute < (sheet_turns s).end y → TooClose s x y
   after : (free : ℕ) → free ≤ 9 → (sheet_turns s).start y ≡ (sheet_turns s).end x + free → TooClose s x y

@@ -10,7 +10,6 @@ use Rattle.text.proofs.Width.{decimal_width}
 use Rattle.refusal.specs.Cause.{first_of}
 use Rattle.lists.specs.Lists.{sum_over, below, In, here, later}
 use Rattle.model.specs.Turns.{Turns}
-use Rattle.model.specs.Steps.{tally}
 use Rattle.model.specs.Choice.{choice}
 use Rattle.model.specs.Rules.{Independent}
 use Rattle.model.proofs.Planned.{planned_right}

@@ -22,7 +22,7 @@ use Rattle.refine_spec.proofs.Selection.{from_length, from_apart, from_full}
 -- ---- a price in a round
 
 module _ (change payers price : ℕ) where
-  -- where no turn pays it, it falls by the change, not below 0
+  -- a price that no turn pays: lower by the change, at least 0
   pub moved_without_payers : payers ≡ 0 → moved_price change payers price ≡ price - change
   unfolding moved_price
   moved_without_payers e = rw e refl

@@ -43,8 +43,8 @@ pub enum Refusal {
     Other(OtherNumber), // what a kind of sheet refuses that a caller makes, by a number of its own
 }
 
-// The number of a refusal with a name; 27 for all others. It is not inlined: the compiled code then has no table of
-// jumps, which the measure of the stack would not follow.
+// The number of a refusal with a name; of another it says nothing. It is not inlined: the compiled code then has no
+// table of jumps, which the measure of the stack would not follow.
 #[inline(never)]
 fn named(k: Refusal) -> u8
     ensures { NamedBy k result }

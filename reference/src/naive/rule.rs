@@ -18,8 +18,7 @@ pub trait Rule {
     fn prices(&self) -> usize;
 
     /// A look at the prices with these weights in the place of worths. Its
-    /// limit is still in weights: it is the sum of the prices and of the best
-    /// counts.
+    /// limit is still in weights: all prices and all best counts together.
     fn look(&self, weights: &[u32], prices: &[u16]) -> Look;
 
     /// The prices after a round.
